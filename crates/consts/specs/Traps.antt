@@ -1,0 +1,62 @@
+-- Trap causes and interrupt vectors. PRIV, 'Supervisor Cause Register' and 'Hypervisor Extension'; 01, Classes.
+use Prim.Native.Nat.{ℕ, _+_, _-_, _^_}
+use mathlib.Core.Bool.{Bool, true, false}
+use lib.Dec.{eqb, leb, ltb}
+use Rattle.types.specs.Pick.{pick, or}
+
+-- scause: the interrupt bit
+abbrev pub interruptBit : ℕ
+interruptBit = 2 ^ 63
+
+-- interrupts with a host's exit: supervisor software 1, timer 5, external 9
+abbrev pub supervisorSoft : ℕ
+supervisorSoft = 2 ^ 63 + 1
+
+abbrev pub supervisorTimer : ℕ
+supervisorTimer = 2 ^ 63 + 5
+
+abbrev pub supervisorExt : ℕ
+supervisorExt = 2 ^ 63 + 9
+
+-- exceptions that are handled
+abbrev pub envCallFromVs : ℕ
+envCallFromVs = 10
+
+abbrev pub loadGuestPageFault : ℕ
+loadGuestPageFault = 21
+
+abbrev pub virtualInstruction : ℕ
+virtualInstruction = 22
+
+abbrev pub storeGuestPageFault : ℕ
+storeGuestPageFault = 23
+
+-- exceptions that are injected into the guest
+abbrev pub instructionMisaligned : ℕ
+instructionMisaligned = 0
+
+abbrev pub instructionAccessFault : ℕ
+instructionAccessFault = 1
+
+abbrev pub instructionPageFault : ℕ
+instructionPageFault = 12
+
+-- the vector is 9, with or without the interrupt bit
+unfoldable pub supervisorExternal : ℕ → Bool
+supervisorExternal v = or (eqb v 9) (eqb v supervisorExt)
+
+-- interrupt codes 0 to 12 have a meaning
+unfoldable pub knownInterrupt : ℕ → Bool
+knownInterrupt code = leb code 12
+
+-- exception codes 0 to 13, 15 and 20 to 23 have one
+unfoldable pub knownException : ℕ → Bool
+knownException code =
+    pick (leb code 13) true
+    (pick (eqb code 15) true
+    (pick (ltb code 20) false
+    (leb code 23)))
+
+-- scause is one of these
+unfoldable pub knownCause : ℕ → Bool
+knownCause scause = pick (ltb scause interruptBit) (knownException scause) (knownInterrupt (scause - interruptBit))

@@ -1,0 +1,28 @@
+-- `decoder::from_fetched` meets its contract.
+use borrow.Author.Tests.{eq-eqb, ne-eqb}
+use Rattle.decoder.specs.Length.{fetchedOf}
+use borrow.Author.Needs.{needs}
+use Rattle.decoder.proofs.from_fetched.Statement.{statement}
+use Rattle.decoder.proofs.from_fetched.Tie as tie
+
+returns : tie.Need-returns
+unfolding fetchedOf
+returns c = simp (eq-eqb _ _ (c .if2 .taken), eq-eqb _ _ (c .before .if1 .taken))
+
+decode-requires : tie.Need-decode-requires
+decode-requires c κs = search needs
+
+returns-2 : tie.Need-returns-2
+unfolding fetchedOf
+returns-2 c = simp (c .decode .ensures, ne-eqb _ _ (c .before .if2 .left), eq-eqb _ _ (c .before .before .if1 .taken))
+
+decode-requires-2 : tie.Need-decode-requires-2
+decode-requires-2 c κs = search needs
+
+returns-3 : tie.Need-returns-3
+unfolding fetchedOf
+returns-3 c = simp (c .decode2 .ensures, ne-eqb _ _ (c .before .if1 .left))
+
+pub from-fetched-spec : {M : Type 1} → statement M
+from-fetched-spec =
+    tie.close (tie.spec returns decode-requires returns-2 decode-requires-2 returns-3)

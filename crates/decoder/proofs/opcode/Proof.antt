@@ -1,0 +1,12 @@
+-- `decoder::opcode` meets its contract.
+use mathlib.Core.Path.{refl}
+use Rattle.decoder.specs.Fields.{opcodeField}
+use Rattle.decoder.proofs.opcode.Statement.{statement}
+use Rattle.decoder.proofs.opcode.Tie as tie
+
+returns : tie.Need-returns
+unfolding opcodeField
+returns c = refl
+
+pub opcode-spec : {M : Type 1} → statement M
+opcode-spec = tie.close (tie.spec returns)

@@ -1,0 +1,30 @@
+-- The instruction's length and the word to decode. PRIV, 'Hypervisor Extension', htinst: transformed instructions and
+-- pseudoinstructions; ISA, 'Expanded Instruction-Length Encoding'; 01, Guest page fault.
+use Prim.Native.Nat.{ℕ, _/_, _%_, _^_}
+use lib.Dec.{eqb}
+use lib.Bits.{bitOr}
+use Rattle.types.specs.Pick.{pick}
+use Rattle.decoder.specs.declared.Trapped.{Trapped}
+use Rattle.decoder.specs.declared.Trapped.the-variants as trapped
+use Rattle.decoder.specs.Decode.{decodeOf}
+
+-- the low 32 bits of htinst. 0x3000 and 0x3020: a read or write of the page-table walk, and no instruction. Else low bits 01
+-- where the instruction is 2 bytes long, 11 where it is 4; the word to decode ends in 11
+unfoldable pub transformedOf : ℕ → Trapped
+transformedOf w =
+    pick (eqb w 0x3000) trapped.Pseudo
+    (pick (eqb w 0x3020) trapped.Pseudo
+    (pick (eqb (w % 4) 1) (trapped.Instruction (decodeOf (bitOr w 2)) 2)
+    (pick (eqb (w % 4) 3) (trapped.Instruction (decodeOf (bitOr w 2)) 4)
+    trapped.Unfit)))
+
+-- htinst 0, the whole number: fetch
+unfoldable pub htinstOf : ℕ → Trapped
+htinstOf h = pick (eqb h 0) trapped.Absent (transformedOf (h % 2 ^ 32))
+
+-- a fetched word: low two bits not 3 is length 2 (16 bits are kept), bits 4..2 not 7 is length 4
+unfoldable pub fetchedOf : ℕ → Trapped
+fetchedOf w =
+    pick (eqb (w % 4) 3)
+    (pick (eqb (w / 4 % 8) 7) trapped.Unfit (trapped.Instruction (decodeOf w) 4))
+    (trapped.Instruction (decodeOf (w % 2 ^ 16)) 2)

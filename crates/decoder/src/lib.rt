@@ -1,0 +1,261 @@
+// The instruction behind a guest page fault: its length, and whether it is a load or a store.
+// Also what a load's completion writes: the number that the host gives, cut to the load's width and extended.
+// The handler knows this crate by its promises alone.
+ghost use mathlib.Core.Path.{_≡_};
+ghost use Prim.Native.Nat.{_+_, _<_, _≤_, _^_};
+ghost use Rattle.decoder.specs.Fields.{csrField, funct3Field, opcodeField, rdField, rs1Field, rs2Field};
+ghost use Rattle.decoder.specs.Decode.{decodeBy, decodeOf, loadOf, storeOf};
+ghost use Rattle.decoder.specs.Length.{fetchedOf, htinstOf, transformedOf};
+ghost use Rattle.decoder.specs.Extend.{cutOf, extendBy, extendOf, signedBy};
+use types::Width;
+
+// A load or store, whatever its encoding.
+pub enum Decoded {
+    Load {
+        width: Width,
+        signed: bool,
+        rd: usize,
+    },
+    Store {
+        width: Width,
+        rs2: usize,
+    },
+    Neither,
+}
+
+// What htinst or a fetched word says of the instruction that trapped.
+pub enum Trapped {
+    // htinst is 0: the word has to be fetched.
+    Absent,
+    // htinst names an access of the page-table walk and no instruction.
+    Pseudo,
+    // The low bits give no length that is taken.
+    Unfit,
+    Instruction { op: Decoded, length: u64 },
+}
+
+// What htinst says.
+pub fn from_htinst(htinst: u64) -> Trapped
+    ensures { λ r. ⌜ r ≡ htinstOf htinst ⌝ }
+{
+    if htinst == 0 {
+        return Trapped::Absent;
+    }
+    transformed(htinst % 0x1_0000_0000)
+}
+
+// What the low 32 bits of htinst say, where it is not 0.
+fn transformed(word: u64) -> Trapped
+    ensures { λ r. ⌜ r ≡ transformedOf word ⌝ }
+{
+    if word == 0x3000 {
+        return Trapped::Pseudo;
+    }
+    if word == 0x3020 {
+        return Trapped::Pseudo;
+    }
+    if word % 4 == 1 {
+        return Trapped::Instruction {
+            op: decode(word | 2),
+            length: 2,
+        };
+    }
+    if word % 4 == 3 {
+        return Trapped::Instruction {
+            op: decode(word | 2),
+            length: 4,
+        };
+    }
+    Trapped::Unfit
+}
+
+// What a fetched word says.
+pub fn from_fetched(word: u32) -> Trapped
+    ensures { λ r. ⌜ r ≡ fetchedOf word ⌝ }
+{
+    let w = word as u64;
+    if w % 4 == 3 {
+        if w / 4 % 8 == 7 {
+            return Trapped::Unfit;
+        }
+        return Trapped::Instruction {
+            op: decode(w),
+            length: 4,
+        };
+    }
+    Trapped::Instruction {
+        op: decode(w % 0x1_0000),
+        length: 2,
+    }
+}
+
+// The load or store that a 32-bit word is.
+pub fn decode(word: u64) -> Decoded
+    ensures { λ r. ⌜ r ≡ decodeOf word ⌝ }
+{
+    decode_by(opcode(word), word)
+}
+
+fn decode_by(opcode: u64, word: u64) -> Decoded
+    ensures { λ r. ⌜ r ≡ decodeBy opcode word ⌝ }
+{
+    if opcode == 0x03 {
+        return load(funct3(word), rd(word));
+    }
+    if opcode == 0x23 {
+        return store(funct3(word), rs2(word));
+    }
+    Decoded::Neither
+}
+
+// A number cut to a width: what a store writes.
+pub fn cut(width: Width, n: u64) -> u64
+    ensures { λ r. ⌜ r ≡ cutOf width n ⌝ }
+{
+    match width {
+        Width::Byte => n % 0x100,
+        Width::Half => n % 0x1_0000,
+        Width::Word => n % 0x1_0000_0000,
+        Width::Double => n,
+    }
+}
+
+// A number cut to a width and extended: what a load writes.
+pub fn extend(width: Width, signed: bool, n: u64) -> u64
+    ensures { λ r. ⌜ r ≡ extendOf width signed n ⌝ }
+{
+    match width {
+        Width::Byte => extend_by(0x100, 0x80, 0xffff_ffff_ffff_ff00, signed, n),
+        Width::Half => extend_by(0x1_0000, 0x8000, 0xffff_ffff_ffff_0000, signed, n),
+        Width::Word => extend_by(0x1_0000_0000, 0x8000_0000, 0xffff_ffff_0000_0000, signed, n),
+        Width::Double => n,
+    }
+}
+
+// The fields of a 32-bit instruction.
+pub fn opcode(word: u64) -> u64
+    ensures { λ r. ⌜ r ≡ opcodeField word ⌝ }
+{
+    word % 128
+}
+
+pub fn rd(word: u64) -> usize
+    ensures { λ r. ⌜ r ≡ rdField word ⌝ }
+{
+    (word / 128 % 32) as usize
+}
+
+pub fn funct3(word: u64) -> u64
+    ensures { λ r. ⌜ r ≡ funct3Field word ⌝ }
+{
+    word / 4096 % 8
+}
+
+pub fn rs1(word: u64) -> usize
+    ensures { λ r. ⌜ r ≡ rs1Field word ⌝ }
+{
+    (word / 0x8000 % 32) as usize
+}
+
+pub fn rs2(word: u64) -> usize
+    ensures { λ r. ⌜ r ≡ rs2Field word ⌝ }
+{
+    (word / 0x10_0000 % 32) as usize
+}
+
+pub fn csr(word: u64) -> u64
+    ensures { λ r. ⌜ r ≡ csrField word ⌝ }
+{
+    word / 0x10_0000 % 4096
+}
+
+// The seven loads by funct3.
+fn load(funct3: u64, rd: usize) -> Decoded
+    ensures { λ r. ⌜ r ≡ loadOf funct3 rd ⌝ }
+{
+    match funct3 {
+        0 => Decoded::Load {
+            width: Width::Byte,
+            signed: true,
+            rd,
+        },
+        1 => Decoded::Load {
+            width: Width::Half,
+            signed: true,
+            rd,
+        },
+        2 => Decoded::Load {
+            width: Width::Word,
+            signed: true,
+            rd,
+        },
+        3 => Decoded::Load {
+            width: Width::Double,
+            signed: true,
+            rd,
+        },
+        4 => Decoded::Load {
+            width: Width::Byte,
+            signed: false,
+            rd,
+        },
+        5 => Decoded::Load {
+            width: Width::Half,
+            signed: false,
+            rd,
+        },
+        6 => Decoded::Load {
+            width: Width::Word,
+            signed: false,
+            rd,
+        },
+        _ => Decoded::Neither,
+    }
+}
+
+// The four stores by funct3.
+fn store(funct3: u64, rs2: usize) -> Decoded
+    ensures { λ r. ⌜ r ≡ storeOf funct3 rs2 ⌝ }
+{
+    match funct3 {
+        0 => Decoded::Store {
+            width: Width::Byte,
+            rs2,
+        },
+        1 => Decoded::Store {
+            width: Width::Half,
+            rs2,
+        },
+        2 => Decoded::Store {
+            width: Width::Word,
+            rs2,
+        },
+        3 => Decoded::Store {
+            width: Width::Double,
+            rs2,
+        },
+        _ => Decoded::Neither,
+    }
+}
+
+// Cut to `size`, a power of two, and where signed and at least `half` of it, with every bit above set.
+fn extend_by(size: u64, half: u64, above: u64, signed: bool, n: u64) -> u64
+    requires { ⌜ (0 < size) × (size + above ≤ 2 ^ 64) ⌝ }
+    ensures { λ r. ⌜ r ≡ extendBy size half above signed n ⌝ }
+{
+    let low = n % size;
+    if signed {
+        return sign_by(half, above, low);
+    }
+    low
+}
+
+fn sign_by(half: u64, above: u64, low: u64) -> u64
+    requires { ⌜ low + above < 2 ^ 64 ⌝ }
+    ensures { λ r. ⌜ r ≡ signedBy half above low ⌝ }
+{
+    if low < half {
+        return low;
+    }
+    low + above
+}

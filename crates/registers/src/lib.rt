@@ -1,0 +1,32 @@
+// Values of hypervisor CSRs: the two delegation masks, hgatp, and the address behind a guest page fault.
+ghost use mathlib.Core.Path.{_≡_};
+ghost use Rattle.registers.specs.Values.{delegatedExceptions, delegatedInterrupts, guestPageFaultAddr, hgatpOf};
+use types::GuestPhysAddr;
+
+// hgatp from a translation mode and the address of the root page table.
+pub fn hgatp_value(mode: u64, root: u64) -> u64
+    ensures { λ r. ⌜ r ≡ hgatpOf mode root ⌝ }
+{
+    mode % 16 * 0x1000_0000_0000_0000 + root / 4096 % 0x1000_0000_0000
+}
+
+// The guest physical address of a guest page fault.
+pub fn guest_page_fault_addr(htval: u64, stval: u64) -> GuestPhysAddr
+    ensures { λ r. ⌜ r ≡ guestPageFaultAddr htval stval ⌝ }
+{
+    GuestPhysAddr((htval % 0x4000_0000_0000_0000 * 4) | (stval % 4))
+}
+
+// hedeleg: the exceptions that go straight to the guest.
+pub fn delegated_exception_bits() -> u64
+    ensures { λ r. ⌜ r ≡ delegatedExceptions ⌝ }
+{
+    0xb10d
+}
+
+// hideleg: the interrupts that go straight to the guest.
+pub fn delegated_interrupt_bits() -> u64
+    ensures { λ r. ⌜ r ≡ delegatedInterrupts ⌝ }
+{
+    0x444
+}

@@ -1,0 +1,16 @@
+-- `sbi_ipi::legacy_request` meets its contract.
+use borrow.Author.Tests.{eq-eqb, ne-eqb}
+use Rattle.sbi_ipi.specs.Ipi.{legacyRequest}
+use Rattle.sbi_ipi.proofs.legacy_request.Statement.{statement}
+use Rattle.sbi_ipi.proofs.legacy_request.Tie as tie
+
+returns : tie.Need-returns
+unfolding legacyRequest
+returns c = simp (eq-eqb _ _ (c .if1 .taken))
+
+returns-2 : tie.Need-returns-2
+unfolding legacyRequest
+returns-2 c = simp (ne-eqb _ _ (c .if1 .left))
+
+pub legacy-request-spec : {M : Type 1} → statement M
+legacy-request-spec = tie.close (tie.spec returns returns-2)

@@ -1,0 +1,12 @@
+-- `sbi_ipi::standard_request` meets its contract.
+use mathlib.Core.Path.{refl}
+use Rattle.sbi_ipi.specs.Ipi.{standardRequest}
+use Rattle.sbi_ipi.proofs.standard_request.Statement.{statement}
+use Rattle.sbi_ipi.proofs.standard_request.Tie as tie
+
+returns : tie.Need-returns
+unfolding standardRequest
+returns c = refl
+
+pub standard-request-spec : {M : Type 1} → statement M
+standard-request-spec = tie.close (tie.spec returns)

@@ -1,0 +1,180 @@
+// The types that several crates share: addresses, widths, asks, answers, exits, errors.
+// Each enum has its number in document 01 by a definition in specs/Numbers.antt.
+ghost use mathlib.Core.Path.{_≡_};
+ghost use Rattle.types.specs.Numbers.{accessNumber, answerNumber, askNumber, errorNumber, exitNumber, fetchNumber, widthBytes};
+
+// An address in a guest's physical memory.
+pub struct GuestPhysAddr(pub u64);
+
+// An address as the guest's own page tables see it.
+pub struct GuestVirtAddr(pub u64);
+
+// How many bytes a load or store moves.
+pub enum Width {
+    Byte,
+    Half,
+    Word,
+    Double,
+}
+
+// What a guest was doing when its memory access failed.
+pub enum Access {
+    Read,
+    Write,
+    Execute,
+}
+
+// The calling convention that an IPI request came by.
+pub enum IpiAbi {
+    Legacy,
+    SbiV02,
+}
+
+// The harts that a guest wants to interrupt: bit i of the mask is hart base + i.
+pub struct IpiRequest {
+    pub mask: u64,
+    pub base: u64,
+    pub abi: IpiAbi,
+}
+
+// The arguments a0 to a5 of an ecall.
+pub struct Args {
+    pub a0: u64,
+    pub a1: u64,
+    pub a2: u64,
+    pub a3: u64,
+    pub a4: u64,
+    pub a5: u64,
+}
+
+// What the host has to do after a trap.
+pub enum Exit {
+    Nothing,
+    ExternalInterrupt {
+        vector: u64,
+    },
+    SendIpi(IpiRequest),
+    CpuUp {
+        target_cpu: u64,
+        entry_point: GuestPhysAddr,
+        arg: u64,
+    },
+    CpuDown {
+        state: u64,
+    },
+    Halt,
+    Hypercall {
+        nr: u64,
+    },
+    SystemDown,
+    NestedPageFault {
+        addr: GuestPhysAddr,
+        access: Access,
+    },
+    MmioRead {
+        addr: GuestPhysAddr,
+        width: Width,
+    },
+    MmioWrite {
+        addr: GuestPhysAddr,
+        width: Width,
+        data: u64,
+    },
+}
+
+// What the handler asks of the host in the middle of a trap.
+pub enum Ask {
+    Fetch { at: GuestVirtAddr, supervisor: bool },
+    CopyMask { at: GuestVirtAddr },
+    CopyIn { at: GuestPhysAddr, count: u64 },
+    Print { count: u64 },
+    ReadConsole { count: u64 },
+    CopyOut { at: GuestPhysAddr, count: u64 },
+    Emit { number: u64 },
+    GetChar,
+    Forward { eid: u64, fid: u64, args: Args },
+}
+
+// What fetching a guest's instruction gave: its word, or why it could not be had.
+pub enum Fetch {
+    Word(u32),
+    Page(GuestVirtAddr),
+    Access(GuestVirtAddr),
+    Misaligned(GuestVirtAddr),
+    GuestPage(GuestPhysAddr),
+    Unhandled,
+}
+
+// The host's answer to each kind of ask.
+pub enum Answer {
+    Fetched(Fetch),
+    MaskCopied { count: u64, bytes: u64 },
+    CopiedIn { count: u64 },
+    Printed { error: u64, value: u64 },
+    ConsoleRead { error: u64, value: u64 },
+    CopiedOut { count: u64 },
+    Emitted,
+    Char { number: u64 },
+    Forwarded { error: u64, value: u64 },
+}
+
+// Why a call was refused (InvalidInput, BadState, WrongAnswer), or a trap ended with no exit (the others).
+pub enum Error {
+    InvalidInput,
+    BadState,
+    Unsupported,
+    InvalidTrap,
+    DecodeFailed,
+    GuestMemoryFault,
+    WrongAnswer,
+}
+
+// The bytes that a width moves.
+pub fn width_bytes(w: Width) -> u64
+    ensures { λ r. ⌜ r ≡ widthBytes w ⌝ }
+{
+    match w {
+        Width::Byte => 1,
+        Width::Half => 2,
+        Width::Word => 4,
+        Width::Double => 8,
+    }
+}
+
+// The flag of an access.
+pub fn access_number(a: Access) -> u64
+    ensures { λ r. ⌜ r ≡ accessNumber a ⌝ }
+{
+    match a {
+        Access::Read => 1,
+        Access::Write => 2,
+        Access::Execute => 4,
+    }
+}
+
+// The number of an exit.
+pub fn exit_number(e: Exit) -> u64
+    ensures { λ r. ⌜ r ≡ exitNumber e ⌝ }
+{
+    match e {
+        Exit::Nothing => 0,
+        Exit::ExternalInterrupt { vector: _ } => 1,
+        Exit::SendIpi(_) => 2,
+        Exit::CpuUp {
+            target_cpu: _,
+            entry_point: _,
+            arg: _,
+        } => 3,
+        Exit::CpuDown { state: _ } => 4,
+        Exit::Halt => 5,
+        Exit::Hypercall { nr: _ } => 6,
+        Exit::SystemDown => 7,
+        Exit::NestedPageFault { addr: _, access: _ } => 8,
+        Exit::MmioRead { addr: _, width: _ } => 9,
+        Exit::MmioWrite {
+            addr: _,
+            width: _,
+            data: _,
+        } => 10,
+    }
+}
