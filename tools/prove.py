@@ -27,7 +27,7 @@ import subprocess
 import sys
 import tomllib
 
-GENERATED = "target/gen"
+GENERATED = "target/gen/"
 TESTS = "borrow.Author.Tests"
 
 
@@ -171,22 +171,25 @@ def main():
     hints = {}
     if os.path.exists(f"tools/hints/{crate}.toml"):
         hints = tomllib.load(open(f"tools/hints/{crate}.toml", "rb"))
-    shutil.rmtree(GENERATED, ignore_errors=True)
-    run_dev(crate, "--generated", GENERATED)
+    generated = GENERATED + crate
+    shutil.rmtree(generated, ignore_errors=True)
+    run_dev(crate, "--generated", generated)
     where, definition = definitions(crate), promised(crate)
     for block in re.split(r"^help: write ", run_dev(crate), flags=re.M)[1:]:
         path = block.split(" ", 1)[0]
         function = path.split("/proofs/")[1].rsplit("/Proof.antt", 1)[0]
+        if f"crates/{crate}/proofs/" not in path:
+            sys.exit(f"prove the crates below first: {os.path.relpath(path)}")
         if names and function not in names and "--all" not in sys.argv:
             continue
         frame = "\n".join(line[4:] for line in block.split("\n")[1:] if line.startswith("    "))
-        lts = f"{GENERATED}/Rattle.{crate}.proofs/proofs/{function}/Lts.antt"
+        lts = f"{generated}/Rattle.{crate}.proofs/proofs/{function}/Lts.antt"
         text = proof(frame, facts(lts), hints.get(function, {}), definition.get(function), where)
         os.makedirs(os.path.dirname(path), exist_ok=True)
         open(path, "w").write(f"-- `{crate}::{function}` meets its contract.\n" + text.rstrip("\n") + "\n")
         print("wrote", os.path.relpath(path))
     out = run_dev(crate)
-    open("target/prove.out", "w").write(out)
+    open(f"target/prove.{crate}.out", "w").write(out)
     for line in out.split("\n"):
         if re.match(r"fn .*(?<!proved)$|logic=|.*\berror\b", line):
             print(line[:400])

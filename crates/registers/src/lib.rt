@@ -1,6 +1,7 @@
-// Values of hypervisor CSRs: the two delegation masks, hgatp, and the address behind a guest page fault.
+// Values of hypervisor CSRs: the two delegation masks, hgatp, the address behind a guest page fault, single bits.
 ghost use mathlib.Core.Path.{_≡_};
 ghost use Rattle.registers.specs.Values.{delegatedExceptions, delegatedInterrupts, guestPageFaultAddr, hgatpOf};
+ghost use Rattle.registers.specs.Bits.{sieOf, spvpOf, withBits};
 use types::GuestPhysAddr;
 
 // hgatp from a translation mode and the address of the root page table.
@@ -29,4 +30,28 @@ pub fn delegated_interrupt_bits() -> u64
     ensures { λ r. ⌜ r ≡ delegatedInterrupts ⌝ }
 {
     0x444
+}
+
+// hstatus.SPVP: whether the guest ran in supervisor mode.
+pub fn spvp(hstatus: u64) -> bool
+    ensures { λ r. ⌜ r ≡ spvpOf hstatus ⌝ }
+{
+    hstatus / 256 % 2 == 1
+}
+
+// vsstatus.SIE: whether the guest takes interrupts.
+pub fn sie(vsstatus: u64) -> bool
+    ensures { λ r. ⌜ r ≡ sieOf vsstatus ⌝ }
+{
+    vsstatus / 2 % 2 == 1
+}
+
+// The number with the bits of the mask set or cleared.
+pub fn with_bits(n: u64, mask: u64, on: bool) -> u64
+    ensures { λ r. ⌜ r ≡ withBits n mask on ⌝ }
+{
+    if on {
+        return n | mask;
+    }
+    n & !mask
 }

@@ -129,6 +129,29 @@ pub enum Error {
     WrongAnswer,
 }
 
+// What a call gives back beside the record.
+pub enum Reply {
+    // The trap is finished.
+    Exit(Exit),
+    // The trap waits for the host's answer.
+    Ask(Ask),
+    // The call is done and gives nothing.
+    Done,
+    // The register that was read.
+    Value(u64),
+    // The call was refused, or the trap ended in an error.
+    Error(Error),
+}
+
+// The numbers that the hardware leaves at a trap, and the console buffer's room.
+pub struct Trap {
+    pub scause: u64,
+    pub stval: u64,
+    pub htval: u64,
+    pub htinst: u64,
+    pub room: u64,
+}
+
 // The bytes that a width moves.
 pub fn width_bytes(w: Width) -> u64
     ensures { λ r. ⌜ r ≡ widthBytes w ⌝ }

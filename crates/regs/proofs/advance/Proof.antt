@@ -1,0 +1,15 @@
+-- `regs::advance` meets its contract.
+use Rattle.regs.specs.Record.{moved}
+use borrow.Author.Needs.{needs}
+use Rattle.regs.proofs.advance.Statement.{statement}
+use Rattle.regs.proofs.advance.Tie as tie
+
+plus-requires : tie.Need-plus-requires
+plus-requires c κs = search needs
+
+returns : tie.Need-returns
+unfolding moved
+returns c = simp (c .before .plus .ensures)
+
+pub advance-spec : {M : Type 1} → statement M
+advance-spec = tie.close (tie.spec plus-requires returns)

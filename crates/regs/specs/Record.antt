@@ -1,0 +1,100 @@
+-- Reading and writing the parts of a vCPU record. 01, The record.
+use Prim.Native.Nat.{ℕ, _+_, _-_}
+use mathlib.Core.Bool.{Bool, true, false}
+use mathlib.Core.List.{List, [], _∷_}
+use lib.ListN.{set, getD}
+use lib.Dec.{eqb, ltb}
+use Rattle.types.specs.Pick.{pick, wrapped}
+use Rattle.types.specs.declared.Args.{Args}
+use Rattle.regs.specs.declared.Csrs.{Csrs}
+use Rattle.regs.specs.declared.Waiting.{Waiting}
+use Rattle.regs.specs.declared.Waiting.the-variants as waiting
+use Rattle.regs.specs.declared.Writes.{Writes}
+use Rattle.regs.specs.declared.Writes.the-variants as writes
+use Rattle.regs.specs.declared.Event.{Event}
+use Rattle.regs.specs.declared.Event.the-variants as event
+
+-- register i; x0 reads 0
+unfoldable pub valueOf : List ℕ → ℕ → ℕ
+valueOf x i = pick (eqb i 0) 0 (pick (ltb i 32) (getD x i 0) 0)
+
+-- the registers after a write; x0 is never written, and a0, a1 are x10, x11
+unfoldable pub stored : List ℕ → Writes → List ℕ
+stored x writes.Keep = x
+stored x (writes.One i n) = pick (eqb i 0) x (pick (ltb i 32) (set x i n) x)
+stored x (writes.Pair a0 a1) = set (set x 10 a0) 11 a1
+
+-- sepc moves on by n modulo 2^64
+unfoldable pub moved : Csrs → ℕ → Csrs
+moved c n =
+    record {
+      guest = record { sepc = wrapped (c .guest .sepc + n); sstatus = c .guest .sstatus; hstatus = c .guest .hstatus };
+      vs = c .vs;
+      hs = c .hs;
+    }
+
+-- vstimecmp is the deadline
+unfoldable pub timed : Csrs → ℕ → Csrs
+timed c d =
+    record {
+      guest = c .guest;
+      vs =
+        record {
+          vsstatus = c .vs .vsstatus;
+          vstvec = c .vs .vstvec;
+          vsepc = c .vs .vsepc;
+          vscause = c .vs .vscause;
+          vstval = c .vs .vstval;
+          vstimecmp = d;
+        };
+      hs = c .hs;
+    }
+
+-- hvip is the number
+unfoldable pub pended : Csrs → ℕ → Csrs
+pended c n =
+    record {
+      guest = c .guest;
+      vs = c .vs;
+      hs = record { hie = c .hs .hie; hvip = n; hgeie = c .hs .hgeie; hgatp = c .hs .hgatp };
+    }
+
+-- 01, Ecalls and Virtual instruction: events 1 to 9; 0 is none
+unfoldable pub eventNumber : Event → ℕ
+eventNumber event.Quiet = 0
+eventNumber event.SetTimer = 1
+eventNumber event.IllegalInsn = 2
+eventNumber event.FenceI = 3
+eventNumber event.SfenceVma = 4
+eventNumber event.SfenceVmaAsid = 5
+eventNumber event.HfenceGvmaVmid = 6
+eventNumber event.HfenceGvma = 7
+eventNumber event.HfenceVvmaAsid = 8
+eventNumber event.HfenceVvma = 9
+
+-- the counts with one more, modulo 2^64, for event number n
+unfoldable pub bumped : List ℕ → ℕ → List ℕ
+bumped k n = pick (eqb n 0) k (pick (ltb n 10) (set k (n - 1) (wrapped (getD k (n - 1) 0 + 1))) k)
+
+unfoldable pub counted : List ℕ → Event → List ℕ
+counted k e = bumped k (eventNumber e)
+
+-- 01, One trap: the number of the ask that waits; 0 where none does
+unfoldable pub waitingAsk : Waiting → ℕ
+waitingAsk waiting.Idle = 0
+waitingAsk (waiting.Load r w s) = 0
+waitingAsk waiting.FetchCsr = 1
+waitingAsk (waiting.FetchFault a k) = 1
+waitingAsk waiting.CopyMask = 2
+waitingAsk (waiting.CopyIn n) = 3
+waitingAsk (waiting.Print n) = 4
+waitingAsk (waiting.ReadConsole n a) = 5
+waitingAsk (waiting.CopyOut n) = 6
+waitingAsk waiting.PutChar = 7
+waitingAsk waiting.PutByte = 7
+waitingAsk waiting.GetChar = 8
+waitingAsk waiting.Forward = 9
+
+-- the six arguments in order
+unfoldable pub listed : Args → List ℕ
+listed a = a .a0 ∷ a .a1 ∷ a .a2 ∷ a .a3 ∷ a .a4 ∷ a .a5 ∷ []
