@@ -67,7 +67,7 @@ def promised(crate):
     """The definition that each function's promise names."""
     source = open(f"crates/{crate}/src/lib.rt").read()
     found = {}
-    for m in re.finditer(r"\bfn (\w+)\(", source):
+    for m in re.finditer(r"\bfn (\w+)(?:<[^>]*>)?\(", source):
         head = source[m.end(): source.find("\n{", m.end())]
         e = re.search(r"≡\s*\(?([^\s()]+)", head)
         if e:

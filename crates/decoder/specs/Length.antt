@@ -4,6 +4,8 @@ use Prim.Native.Nat.{ℕ, _/_, _%_, _^_}
 use lib.Dec.{eqb}
 use lib.Bits.{bitOr}
 use Rattle.types.specs.Pick.{pick}
+use Rattle.decoder.specs.declared.Decoded.{Decoded}
+use Rattle.decoder.specs.declared.Decoded.the-variants as decoded
 use Rattle.decoder.specs.declared.Trapped.{Trapped}
 use Rattle.decoder.specs.declared.Trapped.the-variants as trapped
 use Rattle.decoder.specs.Decode.{decodeOf}
@@ -28,3 +30,15 @@ fetchedOf w =
     pick (eqb (w % 4) 3)
     (pick (eqb (w / 4 % 8) 7) trapped.Unfit (trapped.Instruction (decodeOf w) 4))
     (trapped.Instruction (decodeOf (w % 2 ^ 16)) 2)
+
+-- the register that a decoded store reads: its rs2; 0 stands for none
+unfoldable pub opSource : Decoded → ℕ
+opSource (decoded.Load w s rd) = 0
+opSource (decoded.Store w rs2) = rs2
+opSource decoded.Neither = 0
+
+unfoldable pub storeSource : Trapped → ℕ
+storeSource trapped.Absent = 0
+storeSource trapped.Pseudo = 0
+storeSource trapped.Unfit = 0
+storeSource (trapped.Instruction op length) = opSource op

@@ -5,7 +5,7 @@ ghost use mathlib.Core.Path.{_≡_};
 ghost use Prim.Native.Nat.{_+_, _<_, _≤_, _^_};
 ghost use Rattle.decoder.specs.Fields.{csrField, funct3Field, opcodeField, rdField, rs1Field, rs2Field};
 ghost use Rattle.decoder.specs.Decode.{decodeBy, decodeOf, loadOf, storeOf};
-ghost use Rattle.decoder.specs.Length.{fetchedOf, htinstOf, transformedOf};
+ghost use Rattle.decoder.specs.Length.{fetchedOf, htinstOf, opSource, storeSource, transformedOf};
 ghost use Rattle.decoder.specs.Extend.{cutOf, extendBy, extendOf, signedBy};
 use types::Width;
 
@@ -106,6 +106,32 @@ fn decode_by(opcode: u64, word: u64) -> Decoded
         return store(funct3(word), rs2(word));
     }
     Decoded::Neither
+}
+
+// The register that a store moves; 0, which reads 0, where there is no store.
+pub fn store_source(t: Trapped) -> usize
+    ensures { λ r. ⌜ r ≡ storeSource t ⌝ }
+{
+    match t {
+        Trapped::Absent => 0,
+        Trapped::Pseudo => 0,
+        Trapped::Unfit => 0,
+        Trapped::Instruction { op, length: _ } => op_source(op),
+    }
+}
+
+fn op_source(op: Decoded) -> usize
+    ensures { λ r. ⌜ r ≡ opSource op ⌝ }
+{
+    match op {
+        Decoded::Load {
+            width: _,
+            signed: _,
+            rd: _,
+        } => 0,
+        Decoded::Store { width: _, rs2 } => rs2,
+        Decoded::Neither => 0,
+    }
 }
 
 // A number cut to a width: what a store writes.

@@ -90,9 +90,7 @@ pub fn effect(c: Csrs, eid: u64, fid: u64, a: Args, call: Call) -> Effect
         Call::Halt => stays(c, Exit::Halt),
         Call::SystemDown => stays(c, Exit::SystemDown),
         Call::Hypercall => hypercall(c, fid, a),
-        Call::CopyIn(at, count) => {
-            asks(c, Waiting::CopyIn { count }, Ask::CopyIn { at, count })
-        }
+        Call::CopyIn(at, count) => { asks(c, Waiting::CopyIn { count }, Ask::CopyIn { at, count }) }
         Call::ReadConsole(at, count) => asks(
             c,
             Waiting::ReadConsole { count, at },

@@ -25,12 +25,12 @@ unfoldable pub applied : Vcpu → Effect → Outcome
 applied v e =
     record {
       vcpu =
-        record {
-          x = stored (v .x) (e .writes);
-          csrs = e .csrs;
-          counts = counted (v .counts) (e .event);
-          waiting = e .waiting;
-        };
+          record {
+            x = stored (v .x) (e .writes);
+            csrs = e .csrs;
+            counts = counted (v .counts) (e .event);
+            waiting = e .waiting;
+          };
       reply = e .reply;
       args = listed (e .args);
     }

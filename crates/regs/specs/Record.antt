@@ -39,14 +39,14 @@ timed c d =
     record {
       guest = c .guest;
       vs =
-        record {
-          vsstatus = c .vs .vsstatus;
-          vstvec = c .vs .vstvec;
-          vsepc = c .vs .vsepc;
-          vscause = c .vs .vscause;
-          vstval = c .vs .vstval;
-          vstimecmp = d;
-        };
+          record {
+            vsstatus = c .vs .vsstatus;
+            vstvec = c .vs .vstvec;
+            vsepc = c .vs .vsepc;
+            vscause = c .vs .vscause;
+            vstval = c .vs .vstval;
+            vstimecmp = d;
+          };
       hs = c .hs;
     }
 
@@ -94,6 +94,22 @@ waitingAsk waiting.PutChar = 7
 waitingAsk waiting.PutByte = 7
 waitingAsk waiting.GetChar = 8
 waitingAsk waiting.Forward = 9
+
+-- neither an ask nor a load waits
+unfoldable pub isIdle : Waiting → Bool
+isIdle waiting.Idle = true
+isIdle (waiting.Load r w s) = false
+isIdle waiting.FetchCsr = false
+isIdle (waiting.FetchFault a k) = false
+isIdle waiting.CopyMask = false
+isIdle (waiting.CopyIn n) = false
+isIdle (waiting.Print n) = false
+isIdle (waiting.ReadConsole n a) = false
+isIdle (waiting.CopyOut n) = false
+isIdle waiting.PutChar = false
+isIdle waiting.PutByte = false
+isIdle waiting.GetChar = false
+isIdle waiting.Forward = false
 
 -- the six arguments in order
 unfoldable pub listed : Args → List ℕ

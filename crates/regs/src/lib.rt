@@ -3,7 +3,7 @@
 ghost use mathlib.Core.Path.{_≡_};
 ghost use Prim.Native.Nat.{_+_};
 ghost use Rattle.types.specs.Pick.{wrapped};
-ghost use Rattle.regs.specs.Record.{bumped, counted, eventNumber, listed, moved, pended, stored, timed, valueOf, waitingAsk};
+ghost use Rattle.regs.specs.Record.{bumped, counted, eventNumber, isIdle, listed, moved, pended, stored, timed, valueOf, waitingAsk};
 ghost use Rattle.regs.specs.Effects.{applied, askingOf, doneOf, failedOf, finishedOf, guardedOf, noArgs, refusedOf};
 use types::Access;
 use types::Args;
@@ -146,7 +146,14 @@ pub fn apply(v: Vcpu, e: Effect) -> Outcome
     let csrs = e.csrs;
     let waiting = e.waiting;
     let reply = e.reply;
-    let args = [e.args.a0, e.args.a1, e.args.a2, e.args.a3, e.args.a4, e.args.a5];
+    let args = [
+        e.args.a0,
+        e.args.a1,
+        e.args.a2,
+        e.args.a3,
+        e.args.a4,
+        e.args.a5,
+    ];
     Outcome {
         vcpu: Vcpu {
             x,
@@ -315,6 +322,31 @@ pub fn ask_of(w: Waiting) -> u64
         Waiting::PutByte => 7,
         Waiting::GetChar => 8,
         Waiting::Forward => 9,
+    }
+}
+
+// Whether neither an ask nor a load waits.
+pub fn is_idle(w: Waiting) -> bool
+    ensures { λ r. ⌜ r ≡ isIdle w ⌝ }
+{
+    match w {
+        Waiting::Idle => true,
+        Waiting::Load {
+            rd: _,
+            width: _,
+            signed: _,
+        } => false,
+        Waiting::FetchCsr => false,
+        Waiting::FetchFault { at: _, access: _ } => false,
+        Waiting::CopyMask => false,
+        Waiting::CopyIn { count: _ } => false,
+        Waiting::Print { count: _ } => false,
+        Waiting::ReadConsole { count: _, at: _ } => false,
+        Waiting::CopyOut { count: _ } => false,
+        Waiting::PutChar => false,
+        Waiting::PutByte => false,
+        Waiting::GetChar => false,
+        Waiting::Forward => false,
     }
 }
 

@@ -1,0 +1,16 @@
+-- `answers::copied` meets its contract.
+use borrow.Author.Tests.{eq-eqb, ne-eqb}
+use Rattle.answers.specs.Answers.{copiedOf}
+use Rattle.answers.proofs.copied.Statement.{statement}
+use Rattle.answers.proofs.copied.Tie as tie
+
+returns : tie.Need-returns
+unfolding copiedOf
+returns c = simp (eq-eqb _ _ (c .if1 .taken))
+
+returns-2 : tie.Need-returns-2
+unfolding copiedOf
+returns-2 c = simp (ne-eqb _ _ (c .if1 .left))
+
+pub copied-spec : {M : Type 1} → statement M
+copied-spec = tie.close (tie.spec returns returns-2)

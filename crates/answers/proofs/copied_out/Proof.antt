@@ -1,0 +1,16 @@
+-- `answers::copied_out` meets its contract.
+use borrow.Author.Tests.{eq-eqb, ne-eqb}
+use Rattle.answers.specs.Answers.{copiedOutOf}
+use Rattle.answers.proofs.copied_out.Statement.{statement}
+use Rattle.answers.proofs.copied_out.Tie as tie
+
+returns : tie.Need-returns
+unfolding copiedOutOf
+returns c = simp (eq-eqb _ _ (c .if1 .taken))
+
+returns-2 : tie.Need-returns-2
+unfolding copiedOutOf
+returns-2 c = simp (ne-eqb _ _ (c .if1 .left))
+
+pub copied-out-spec : {M : Type 1} → statement M
+copied-out-spec = tie.close (tie.spec returns returns-2)

@@ -1,0 +1,19 @@
+-- `host_calls::pending_effect` meets its contract.
+use Rattle.host_calls.specs.HostCalls.{pendingEffect}
+use borrow.Author.Needs.{needs}
+use Rattle.host_calls.proofs.pending_effect.Statement.{statement}
+use Rattle.host_calls.proofs.pending_effect.Tie as tie
+
+is-supervisor-external-requires : tie.Need-is-supervisor-external-requires
+is-supervisor-external-requires c κs = search needs
+
+pending-by-requires : tie.Need-pending-by-requires
+pending-by-requires c κs = search needs
+
+returns : tie.Need-returns
+unfolding pendingEffect
+returns c = simp (c .pending-by .ensures, c .before .is-supervisor-external .ensures)
+
+pub pending-effect-spec : {M : Type 1} → statement M
+pending-effect-spec =
+    tie.close (tie.spec is-supervisor-external-requires pending-by-requires returns)

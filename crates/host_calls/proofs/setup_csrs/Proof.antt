@@ -1,0 +1,15 @@
+-- `host_calls::setup_csrs` meets its contract.
+use Rattle.host_calls.specs.HostCalls.{setupCsrs}
+use borrow.Author.Needs.{needs}
+use Rattle.host_calls.proofs.setup_csrs.Statement.{statement}
+use Rattle.host_calls.proofs.setup_csrs.Tie as tie
+
+with-timer-requires : tie.Need-with-timer-requires
+with-timer-requires c κs = search needs
+
+returns : tie.Need-returns
+unfolding setupCsrs
+returns c = simp (c .before .with-timer .ensures)
+
+pub setup-csrs-spec : {M : Type 1} → statement M
+setup-csrs-spec = tie.close (tie.spec with-timer-requires returns)

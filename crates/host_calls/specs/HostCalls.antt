@@ -1,0 +1,82 @@
+-- What the host's own calls change. 01, The record; the guard of refusal 2 goes before each.
+use Prim.Native.Nat.{ℕ, _%_, _^_}
+use mathlib.Core.Bool.{Bool}
+use lib.Dec.{eqb, ltb}
+use Rattle.types.specs.Pick.{pick}
+use Rattle.types.specs.declared.Error.the-variants as error
+use Rattle.types.specs.declared.GuestPhysAddr.{GuestPhysAddr}
+use Rattle.types.specs.declared.IpiAbi.{IpiAbi}
+use Rattle.types.specs.declared.IpiAbi.the-variants as abi
+use Rattle.consts.specs.Csr.{vssip, vstip, vseip, setupSstatus, setupHstatus, setupHie, noTimer}
+use Rattle.consts.specs.Traps.{supervisorSoft, supervisorTimer, supervisorExternal}
+use Rattle.registers.specs.Bits.{withBits}
+use Rattle.registers.specs.Values.{hgatpOf}
+use Rattle.regs.specs.declared.Csrs.{Csrs}
+use Rattle.regs.specs.declared.Effect.{Effect}
+use Rattle.regs.specs.declared.Waiting.{Waiting}
+use Rattle.regs.specs.declared.Writes.{Writes}
+use Rattle.regs.specs.declared.Writes.the-variants as writes
+use Rattle.regs.specs.Record.{timed, pended}
+use Rattle.regs.specs.Effects.{doneOf, refusedOf}
+
+-- setup: sstatus 0x2100, hstatus 0x200000180, hie 0x444, vstimecmp 2^64 - 1, hvip and hgeie 0; the rest stays
+unfoldable pub setupCsrs : Csrs → Csrs
+setupCsrs c =
+    record {
+      guest = record { sepc = c .guest .sepc; sstatus = setupSstatus; hstatus = setupHstatus };
+      vs = timed c noTimer .vs;
+      hs = record { hie = setupHie; hvip = 0; hgeie = 0; hgatp = c .hs .hgatp };
+    }
+
+-- sepc is the entry
+unfoldable pub entryCsrs : Csrs → GuestPhysAddr → Csrs
+entryCsrs c entry =
+    record {
+      guest = record { sepc = entry .0; sstatus = c .guest .sstatus; hstatus = c .guest .hstatus };
+      vs = c .vs;
+      hs = c .hs;
+    }
+
+-- register write: an index above 31 is refusal 1
+unfoldable pub writeEffect : Csrs → Waiting → ℕ → ℕ → Effect
+writeEffect c w index value =
+    pick (ltb index 32) (doneOf c (writes.One index value) w) (refusedOf c w error.InvalidInput)
+
+-- hgatp from mode and root
+unfoldable pub tableCsrs : Csrs → ℕ → ℕ → Csrs
+tableCsrs c mode root =
+    record {
+      guest = c .guest;
+      vs = c .vs;
+      hs = record { hie = c .hs .hie; hvip = c .hs .hvip; hgeie = c .hs .hgeie; hgatp = hgatpOf mode root };
+    }
+
+-- the mode must be the wanted one, and root & 0x3fff must be 0
+unfoldable pub pagingBy : Csrs → Waiting → ℕ → ℕ → ℕ → Effect
+pagingBy c w wanted mode root =
+    pick (eqb mode wanted)
+    (pick (eqb (root % 2 ^ 14) 0) (doneOf (tableCsrs c mode root) writes.Keep w) (refusedOf c w error.InvalidInput))
+    (refusedOf c w error.InvalidInput)
+
+-- page table: levels 3 need mode 8, levels 4 mode 9
+unfoldable pub pagingEffect : Csrs → Waiting → ℕ → ℕ → ℕ → Effect
+pagingEffect c w levels mode root =
+    pick (eqb levels 3) (pagingBy c w 8 mode root)
+    (pick (eqb levels 4) (pagingBy c w 9 mode root)
+    (refusedOf c w error.InvalidInput))
+
+-- interrupt pending: 2^63+1 is hvip bit 2, 2^63+5 bit 6, 9 and 2^63+9 bit 10; any other vector is refusal 1
+unfoldable pub pendingBy : Csrs → Waiting → ℕ → Bool → Bool → Effect
+pendingBy c w vector external on =
+    pick (eqb vector supervisorSoft) (doneOf (pended c (withBits (c .hs .hvip) vssip on)) writes.Keep w)
+    (pick (eqb vector supervisorTimer) (doneOf (pended c (withBits (c .hs .hvip) vstip on)) writes.Keep w)
+    (pick external (doneOf (pended c (withBits (c .hs .hvip) vseip on)) writes.Keep w)
+    (refusedOf c w error.InvalidInput)))
+
+unfoldable pub pendingEffect : Csrs → Waiting → ℕ → Bool → Effect
+pendingEffect c w vector on = pendingBy c w vector (supervisorExternal vector) on
+
+-- IPI completion: legacy writes a0; v0.2 writes a0 and a1 = 0
+unfoldable pub ipiWrites : IpiAbi → ℕ → Writes
+ipiWrites abi.Legacy e = writes.One 10 e
+ipiWrites abi.SbiV02 e = writes.Pair e 0

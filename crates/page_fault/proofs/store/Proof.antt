@@ -1,0 +1,33 @@
+-- `page_fault::store` meets its contract.
+use Rattle.page_fault.specs.Mmio.{storeOf}
+use borrow.Author.Needs.{needs}
+use Rattle.page_fault.proofs.store.Statement.{statement}
+use Rattle.page_fault.proofs.store.Tie as tie
+
+enum-told : tie.Need-enum-told
+enum-told c = search needs
+
+enum-told-2 : tie.Need-enum-told-2
+enum-told-2 c = search needs
+
+cut-requires : tie.Need-cut-requires
+cut-requires c κs = search needs
+
+enum-told-3 : tie.Need-enum-told-3
+enum-told-3 c = search needs
+
+returns : tie.Need-returns
+unfolding storeOf
+returns c = simp (c .enum-told .given .1)
+
+returns-2 : tie.Need-returns-2
+unfolding storeOf
+returns-2 c = simp (c .cut .ensures, c .before .enum-told2 .given .1)
+
+returns-3 : tie.Need-returns-3
+unfolding storeOf
+returns-3 c = simp (c .enum-told3 .given .1)
+
+pub store-spec : {M : Type 1} → statement M
+store-spec =
+    tie.close (tie.spec enum-told enum-told-2 cut-requires enum-told-3 returns returns-2 returns-3)

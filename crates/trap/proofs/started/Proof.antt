@@ -1,0 +1,22 @@
+-- `trap::started` meets its contract.
+use Rattle.trap.specs.Traps.{startedOf}
+use borrow.Author.Needs.{needs}
+use Rattle.trap.proofs.started.Statement.{statement}
+use Rattle.trap.proofs.started.Tie as tie
+
+trap-requires : tie.Need-trap-requires
+trap-requires c κs = search needs
+
+returns : tie.Need-returns
+unfolding startedOf
+returns c = simp (c .trap .ensures, c .before .if1 .taken)
+
+refused-requires : tie.Need-refused-requires
+refused-requires c κs = search needs
+
+returns-2 : tie.Need-returns-2
+unfolding startedOf
+returns-2 c = simp (c .refused .ensures, c .before .if1 .left)
+
+pub started-spec : {M : Type 1} → statement M
+started-spec = tie.close (tie.spec trap-requires returns refused-requires returns-2)

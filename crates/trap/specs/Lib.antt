@@ -1,0 +1,2 @@
+pub mod Traps
+pub mod Resume

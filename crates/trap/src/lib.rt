@@ -1,0 +1,195 @@
+// One trap: its class by scause, and how the host's answers carry it on. The work of each class is in its own crate.
+ghost use mathlib.Core.Path.{_≡_};
+ghost use Rattle.trap.specs.Traps.{argumentsOf, externalOf, otherOf, pageFaultOf, sbiOf, startEffect, startedOf, stimecmpOf, mmioOf, trapOf};
+ghost use Rattle.trap.specs.Resume.{answerEffect, continuedOf, fetchedOf, matchedOf, plainOf, resumedOf};
+use decoder::Trapped;
+use regs::Csrs;
+use regs::Effect;
+use regs::Event;
+use regs::Waiting;
+use regs::Writes;
+use types::Access;
+use types::Answer;
+use types::Args;
+use types::Error;
+use types::Exit;
+use types::Fetch;
+use types::GuestPhysAddr;
+use types::Trap;
+
+// Starts a trap.
+pub fn start(x: [u64; 32], c: Csrs, w: Waiting, t: Trap) -> Effect
+    ensures { λ r. ⌜ r ≡ startEffect x c w t ⌝ }
+{
+    started(regs::is_idle(w), x, c, w, t)
+}
+
+// Carries a trap on with the host's answer.
+pub fn answer(x: [u64; 32], c: Csrs, w: Waiting, a: Answer) -> Effect
+    ensures { λ r. ⌜ r ≡ answerEffect x c w a ⌝ }
+{
+    matched(regs::ask_of(w), types::answer_number(a), x, c, w, a)
+}
+
+fn started(idle: bool, x: [u64; 32], c: Csrs, w: Waiting, t: Trap) -> Effect
+    ensures { λ r. ⌜ r ≡ startedOf idle x c w t ⌝ }
+{
+    if idle {
+        return trap(x, c, t);
+    }
+    regs::refused(c, w, Error::BadState)
+}
+
+// The classes of traps, by scause.
+fn trap(x: [u64; 32], c: Csrs, t: Trap) -> Effect
+    ensures { λ r. ⌜ r ≡ trapOf x c t ⌝ }
+{
+    let scause = t.scause;
+    match scause {
+        consts::ENV_CALL_FROM_VS => sbi(c, x[17], x[16], arguments(x), t.room),
+        consts::VIRTUAL_INST => {
+            let rs1 = regs::register(x, decoder::rs1(t.stval % 0x1_0000_0000));
+            stimecmp(c, t.stval, rs1)
+        }
+        consts::LOAD_GUEST_PAGE_FAULT => page_fault_trap(x, c, t, Access::Read),
+        consts::STORE_GUEST_PAGE_FAULT => page_fault_trap(x, c, t, Access::Write),
+        consts::S_SOFT => external(c, scause),
+        consts::S_TIMER => external(c, scause),
+        consts::S_EXT => external(c, scause),
+        _ => other(c, consts::is_known_cause(scause)),
+    }
+}
+
+// a0 to a5.
+fn arguments(x: [u64; 32]) -> Args
+    ensures { λ r. ⌜ r ≡ argumentsOf x ⌝ }
+{
+    Args {
+        a0: x[10],
+        a1: x[11],
+        a2: x[12],
+        a3: x[13],
+        a4: x[14],
+        a5: x[15],
+    }
+}
+
+fn sbi(c: Csrs, eid: u64, fid: u64, a: Args, room: u64) -> Effect
+    ensures { λ r. ⌜ r ≡ sbiOf c eid fid a room ⌝ }
+{
+    ecall::effect(c, eid, fid, a, ecall::decide(eid, fid, a, room))
+}
+
+fn stimecmp(c: Csrs, stval: u64, rs1: u64) -> Effect
+    ensures { λ r. ⌜ r ≡ stimecmpOf c stval rs1 ⌝ }
+{
+    virtual_inst::effect(c, virtual_inst::start(stval, c.vs.vstimecmp, rs1))
+}
+
+fn page_fault_trap(x: [u64; 32], c: Csrs, t: Trap, access: Access) -> Effect
+    ensures { λ r. ⌜ r ≡ pageFaultOf x c t access ⌝ }
+{
+    let at = registers::guest_page_fault_addr(t.htval, t.stval);
+    mmio(x, c, at, access, decoder::from_htinst(t.htinst))
+}
+
+// A load or store of a device, once its instruction is known.
+fn mmio(x: [u64; 32], c: Csrs, at: GuestPhysAddr, access: Access, i: Trapped) -> Effect
+    ensures { λ r. ⌜ r ≡ mmioOf x c at access i ⌝ }
+{
+    let source = regs::register(x, decoder::store_source(i));
+    page_fault::effect(c, at, access, page_fault::decide(access, i, source))
+}
+
+fn external(c: Csrs, vector: u64) -> Effect
+    ensures { λ r. ⌜ r ≡ externalOf c vector ⌝ }
+{
+    regs::finished(
+        c,
+        Event::Quiet,
+        Writes::Keep,
+        Exit::ExternalInterrupt { vector },
+    )
+}
+
+fn other(c: Csrs, known: bool) -> Effect
+    ensures { λ r. ⌜ r ≡ otherOf c known ⌝ }
+{
+    if known {
+        return regs::failed(c, Event::Quiet, Error::Unsupported);
+    }
+    regs::failed(c, Event::Quiet, Error::InvalidTrap)
+}
+
+// An answer of another ask's kind, or to no ask, is refused.
+fn matched(ask: u64, number: u64, x: [u64; 32], c: Csrs, w: Waiting, a: Answer) -> Effect
+    ensures { λ r. ⌜ r ≡ matchedOf ask number x c w a ⌝ }
+{
+    if ask == number {
+        return continued(x, c, w, a);
+    }
+    regs::refused(c, w, Error::WrongAnswer)
+}
+
+fn continued(x: [u64; 32], c: Csrs, w: Waiting, a: Answer) -> Effect
+    ensures { λ r. ⌜ r ≡ continuedOf x c w a ⌝ }
+{
+    match a {
+        Answer::Fetched(f) => fetched(x, c, w, f),
+        Answer::MaskCopied { count, bytes } => plain(c, w, count, bytes),
+        Answer::CopiedIn { count } => plain(c, w, count, 0),
+        Answer::Printed { error, value } => plain(c, w, error, value),
+        Answer::ConsoleRead { error, value } => plain(c, w, error, value),
+        Answer::CopiedOut { count } => plain(c, w, count, 0),
+        Answer::Emitted => plain(c, w, 0, 0),
+        Answer::Char { number } => plain(c, w, number, 0),
+        Answer::Forwarded { error, value } => plain(c, w, error, value),
+    }
+}
+
+fn plain(c: Csrs, w: Waiting, word: u64, more: u64) -> Effect
+    ensures { λ r. ⌜ r ≡ plainOf c w word more ⌝ }
+{
+    answers::effect(c, w, answers::decide(w, word, more))
+}
+
+// A fetch gave a word, or its fault is handled.
+fn fetched(x: [u64; 32], c: Csrs, w: Waiting, f: Fetch) -> Effect
+    ensures { λ r. ⌜ r ≡ fetchedOf x c w f ⌝ }
+{
+    let Fetch::Word(word) = f else {
+        return fetch::effect(c, fetch::decide(f));
+    };
+    resumed(x, c, w, word)
+}
+
+// The trap goes on with the word that was fetched.
+fn resumed(x: [u64; 32], c: Csrs, w: Waiting, word: u32) -> Effect
+    ensures { λ r. ⌜ r ≡ resumedOf x c w word ⌝ }
+{
+    match w {
+        Waiting::Idle => regs::refused(c, w, Error::WrongAnswer),
+        Waiting::Load {
+            rd: _,
+            width: _,
+            signed: _,
+        } => regs::refused(c, w, Error::WrongAnswer),
+        Waiting::FetchCsr => {
+            let wide = word as u64;
+            let rs1 = regs::register(x, decoder::rs1(wide));
+            virtual_inst::effect(c, virtual_inst::decide(wide, c.vs.vstimecmp, rs1))
+        }
+        Waiting::FetchFault { at, access } => {
+            mmio(x, c, at, access, decoder::from_fetched(word))
+        }
+        Waiting::CopyMask => regs::refused(c, w, Error::WrongAnswer),
+        Waiting::CopyIn { count: _ } => regs::refused(c, w, Error::WrongAnswer),
+        Waiting::Print { count: _ } => regs::refused(c, w, Error::WrongAnswer),
+        Waiting::ReadConsole { count: _, at: _ } => regs::refused(c, w, Error::WrongAnswer),
+        Waiting::CopyOut { count: _ } => regs::refused(c, w, Error::WrongAnswer),
+        Waiting::PutChar => regs::refused(c, w, Error::WrongAnswer),
+        Waiting::PutByte => regs::refused(c, w, Error::WrongAnswer),
+        Waiting::GetChar => regs::refused(c, w, Error::WrongAnswer),
+        Waiting::Forward => regs::refused(c, w, Error::WrongAnswer),
+    }
+}

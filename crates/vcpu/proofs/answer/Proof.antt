@@ -1,0 +1,18 @@
+-- `vcpu::answer` meets its contract.
+use Rattle.vcpu.specs.Calls.{answerOf}
+use borrow.Author.Needs.{needs}
+use Rattle.vcpu.proofs.answer.Statement.{statement}
+use Rattle.vcpu.proofs.answer.Tie as tie
+
+answer-requires : tie.Need-answer-requires
+answer-requires c κs = search needs
+
+apply-requires : tie.Need-apply-requires
+apply-requires c κs = search needs
+
+returns : tie.Need-returns
+unfolding answerOf
+returns c = simp (c .apply .ensures, c .before .answer .ensures)
+
+pub answer-spec : {M : Type 1} → statement M
+answer-spec = tie.close (tie.spec answer-requires apply-requires returns)

@@ -1,0 +1,26 @@
+-- `vcpu::first` meets its contract.
+use borrow.Author.Tests.{lt-ltb, lt-leb, le-ltb, le-leb}
+use Rattle.vcpu.specs.Calls.{firstOf}
+use mathlib.Core.Path.{sym}
+use lib.Seq.{length-take-le}
+use borrow.Author.Needs.{needs}
+use Rattle.vcpu.proofs.first.Statement.{statement}
+use Rattle.vcpu.proofs.first.Tie as tie
+
+slice-aggregate-result : tie.Need-slice-aggregate-result
+unfolding firstOf
+slice-aggregate-result c = sym (length-take-le _ _ (c .before .if1 .taken))
+
+returns : tie.Need-returns
+unfolding firstOf
+returns c = simp (le-ltb _ _ (c .before .if1 .taken), le-leb _ _ (c .before .if1 .taken))
+
+slice-aggregate-result-2 : tie.Need-slice-aggregate-result-2
+slice-aggregate-result-2 c = search needs
+
+returns-2 : tie.Need-returns-2
+unfolding firstOf
+returns-2 c = simp (lt-ltb _ _ (c .before .if1 .left), lt-leb _ _ (c .before .if1 .left))
+
+pub first-spec : {M : Type 1} → statement M
+first-spec = tie.close (tie.spec slice-aggregate-result returns slice-aggregate-result-2 returns-2)

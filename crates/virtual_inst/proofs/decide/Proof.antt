@@ -1,0 +1,21 @@
+-- `virtual_inst::decide` meets its contract.
+use Rattle.virtual_inst.specs.Stimecmp.{csrOf}
+use borrow.Author.Needs.{needs}
+use Rattle.virtual_inst.proofs.decide.Statement.{statement}
+use Rattle.virtual_inst.proofs.decide.Tie as tie
+
+opcode-requires : tie.Need-opcode-requires
+opcode-requires c κs = search needs
+
+csr-requires : tie.Need-csr-requires
+csr-requires c κs = search needs
+
+decide-by-requires : tie.Need-decide-by-requires
+decide-by-requires c κs = search needs
+
+returns : tie.Need-returns
+unfolding csrOf
+returns c = simp (c .decide-by .ensures, c .before .csr .ensures, c .before .before .opcode .ensures)
+
+pub decide-spec : {M : Type 1} → statement M
+decide-spec = tie.close (tie.spec opcode-requires csr-requires decide-by-requires returns)

@@ -1,0 +1,20 @@
+-- `virtual_inst::set` meets its contract.
+use borrow.Author.Tests.{eq-eqb, ne-eqb}
+use Rattle.virtual_inst.specs.Stimecmp.{setOf}
+use borrow.Author.Needs.{needs}
+use Rattle.virtual_inst.proofs.set.Statement.{statement}
+use Rattle.virtual_inst.proofs.set.Tie as tie
+
+returns : tie.Need-returns
+unfolding setOf
+returns c = simp (eq-eqb _ _ (c .if1 .taken))
+
+with-bits-requires : tie.Need-with-bits-requires
+with-bits-requires c κs = search needs
+
+returns-2 : tie.Need-returns-2
+unfolding setOf
+returns-2 c = simp (c .with-bits .ensures, ne-eqb _ _ (c .before .if1 .left))
+
+pub set-spec : {M : Type 1} → statement M
+set-spec = tie.close (tie.spec returns with-bits-requires returns-2)
