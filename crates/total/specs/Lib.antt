@@ -4,3 +4,4 @@ pub mod Whole
 pub mod WholeLaws
 pub mod When
 pub mod WhenLaws
+pub mod Demand1
