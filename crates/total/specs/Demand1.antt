@@ -107,8 +107,8 @@ unchanged-record : (v : Vcpu) (e : Effect) → Unchanged (v .csrs) (v .waiting) 
 unfolding applied stored counted bumped eventNumber
 unchanged-record v e u =
     let same : _≡_ {A = Vcpu} (record { x = stored (v .x) (e .writes); csrs = e .csrs; counts = counted (v .counts) (e .event); waiting = e .waiting })
-      (record { x = v .x; csrs = v .csrs; counts = v .counts; waiting = v .waiting })
-      = rw (u .writes, u .csrs, u .event, u .waiting)
+    (record { x = v .x; csrs = v .csrs; counts = v .counts; waiting = v .waiting })
+    = rw (u .writes, u .csrs, u .event, u .waiting)
     in same
 
 kept : (v : Vcpu) (e : Effect) (r : Reply) → Says (v .csrs) (v .waiting) e r → refuses r ≡ true → applied v e .vcpu ≡ v
