@@ -77,7 +77,7 @@ classWhen page-fault t e =
     pick (pseudoWord (t .htinst)) (is e error.Unsupported) (and (unfitWord (t .htinst)) (is e error.DecodeFailed))
 classWhen host-interrupt t e = false
 classWhen not-handled t e = is e error.Unsupported
-classWhen unknown t e = is e error.Unsupported
+classWhen unknown t e = is e error.InvalidTrap
 
 -- a start while an ask or a load waits: 2
 unfoldable pub startWhen : Vcpu → Trap → Error → Bool
