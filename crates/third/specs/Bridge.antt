@@ -1,0 +1,99 @@
+-- The sequence's steps are the definitions that the public calls' promises cite.
+use Prim.Native.Nat.{ℕ}
+use mathlib.Core.Bool.{Bool, true, false}
+use mathlib.Core.List.{List, []}
+use mathlib.Core.Path.{_≡_, refl}
+use Rattle.types.specs.declared.Answer.{Answer}
+use Rattle.types.specs.declared.GuestPhysAddr.{GuestPhysAddr}
+use Rattle.types.specs.declared.IpiAbi.{IpiAbi}
+use Rattle.types.specs.declared.Trap.{Trap}
+use Rattle.sbi_ipi.specs.declared.IpiCompletion.{IpiCompletion}
+use Rattle.regs.specs.declared.Vcpu.{Vcpu}
+use Rattle.regs.specs.Record.{stored, counted, bumped, eventNumber}
+use Rattle.regs.specs.Effects.{applied, doneOf}
+use Rattle.vcpu.specs.Calls.{unlessAsking, setupOf, setEntryOf, getGprOf, setGprOf, setReturnOf, pagingOf, pendingOf, latchOf, completeIpiOf, startOf, answerOf, completeLoadOf, printedOf}
+use Rattle.third.specs.Calls.{Call, setup, setEntry, getGpr, setGpr, setReturn, paging, pending, latch, completeIpi, start, answer, completeLoad, print}
+use Rattle.third.specs.Runs.{outcomeOf, bytesOf, stepOf, guarded, effectOf}
+
+pub is-setup : (v : Vcpu) → outcomeOf v setup ≡ setupOf v
+unfolding outcomeOf
+is-setup v = refl
+
+pub is-setEntry : (v : Vcpu) (entry : GuestPhysAddr) → outcomeOf v (setEntry entry) ≡ setEntryOf v entry
+unfolding outcomeOf
+is-setEntry v entry = refl
+
+-- a read gives the register and leaves the record
+pub is-getGpr : (v : Vcpu) (index : ℕ) → outcomeOf v (getGpr index) ≡ record { vcpu = v; reply = getGprOf v index; args = [] }
+unfolding outcomeOf
+is-getGpr v index = refl
+
+pub is-setGpr : (v : Vcpu) (index value : ℕ) → outcomeOf v (setGpr index value) ≡ setGprOf v index value
+unfolding outcomeOf
+is-setGpr v index value = refl
+
+pub is-setReturn : (v : Vcpu) (value : ℕ) → outcomeOf v (setReturn value) ≡ setReturnOf v value
+unfolding outcomeOf
+is-setReturn v value = refl
+
+pub is-paging : (v : Vcpu) (levels mode root : ℕ) → outcomeOf v (paging levels mode root) ≡ pagingOf v levels mode root
+unfolding outcomeOf
+is-paging v levels mode root = refl
+
+pub is-pending : (v : Vcpu) (vector : ℕ) (on : Bool) → outcomeOf v (pending vector on) ≡ pendingOf v vector on
+unfolding outcomeOf
+is-pending v vector on = refl
+
+-- inject_interrupt promises pendingOf v vector true
+pub is-inject : (v : Vcpu) (vector : ℕ) → outcomeOf v (pending vector true) ≡ pendingOf v vector true
+is-inject v vector = is-pending v vector true
+
+-- set_vseip_level promises pendingOf v 9 asserted
+pub is-vseip : (v : Vcpu) (asserted : Bool) → outcomeOf v (pending 9 asserted) ≡ pendingOf v 9 asserted
+is-vseip v asserted = is-pending v 9 asserted
+
+pub is-latch : (v : Vcpu) (bits : ℕ) → outcomeOf v (latch bits) ≡ latchOf v bits
+unfolding outcomeOf
+is-latch v bits = refl
+
+pub is-completeIpi : (v : Vcpu) (abi : IpiAbi) (completion : IpiCompletion) → outcomeOf v (completeIpi abi completion) ≡ completeIpiOf v abi completion
+unfolding outcomeOf
+is-completeIpi v abi completion = refl
+
+pub is-start : (v : Vcpu) (t : Trap) → outcomeOf v (start t) ≡ startOf v t
+unfolding outcomeOf
+is-start v t = refl
+
+pub is-answer : (v : Vcpu) (a : Answer) → outcomeOf v (answer a) ≡ answerOf v a
+unfolding outcomeOf
+is-answer v a = refl
+
+pub is-completeLoad : (v : Vcpu) (n : ℕ) → outcomeOf v (completeLoad n) ≡ completeLoadOf v n
+unfolding outcomeOf
+is-completeLoad v n = refl
+
+-- the bytes to print leave the record
+pub is-print : (v : Vcpu) (buffer : List ℕ) → bytesOf v (print buffer) ≡ printedOf v buffer
+unfolding bytesOf
+is-print v buffer = refl
+
+pub print-keeps : (v : Vcpu) (buffer : List ℕ) → stepOf v (print buffer) ≡ v
+unfolding stepOf outcomeOf
+print-keeps v buffer = refl
+
+-- every later record is the earlier one with the call's effect applied
+pub step-applied : (v : Vcpu) (c : Call) → stepOf v c ≡ applied v (effectOf v c) .vcpu
+unfolding stepOf outcomeOf effectOf guarded unlessAsking setupOf setEntryOf setGprOf setReturnOf pagingOf pendingOf latchOf completeIpiOf startOf answerOf completeLoadOf applied doneOf stored counted bumped eventNumber
+step-applied v setup = refl
+step-applied v (setEntry entry) = refl
+step-applied v (getGpr index) = refl
+step-applied v (setGpr index value) = refl
+step-applied v (setReturn value) = refl
+step-applied v (paging levels mode root) = refl
+step-applied v (pending vector on) = refl
+step-applied v (latch bits) = refl
+step-applied v (completeIpi abi completion) = refl
+step-applied v (start t) = refl
+step-applied v (answer a) = refl
+step-applied v (completeLoad n) = refl
+step-applied v (print buffer) = refl

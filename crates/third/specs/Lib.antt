@@ -1,0 +1,4 @@
+pub mod Calls
+pub mod Table
+pub mod Runs
+pub mod Bridge
