@@ -1,7 +1,7 @@
 -- The sequence's steps are the definitions that the public calls' promises cite.
 use Prim.Native.Nat.{ℕ}
 use mathlib.Core.Bool.{Bool, true, false}
-use mathlib.Core.List.{List, []}
+use mathlib.Core.List.{List}
 use mathlib.Core.Path.{_≡_, refl}
 use Rattle.types.specs.declared.Answer.{Answer}
 use Rattle.types.specs.declared.GuestPhysAddr.{GuestPhysAddr}
@@ -10,10 +10,10 @@ use Rattle.types.specs.declared.Trap.{Trap}
 use Rattle.sbi_ipi.specs.declared.IpiCompletion.{IpiCompletion}
 use Rattle.regs.specs.declared.Vcpu.{Vcpu}
 use Rattle.regs.specs.Record.{stored, counted, bumped, eventNumber}
-use Rattle.regs.specs.Effects.{applied, doneOf}
+use Rattle.regs.specs.Effects.{applied}
 use Rattle.vcpu.specs.Calls.{unlessAsking, setupOf, setEntryOf, getGprOf, setGprOf, setReturnOf, pagingOf, pendingOf, latchOf, completeIpiOf, startOf, answerOf, completeLoadOf, printedOf}
 use Rattle.third.specs.Calls.{Call, setup, setEntry, getGpr, setGpr, setReturn, paging, pending, latch, completeIpi, start, answer, completeLoad, print}
-use Rattle.third.specs.Runs.{outcomeOf, bytesOf, stepOf, guarded, effectOf}
+use Rattle.third.specs.Runs.{unchanged, outcomeOf, bytesOf, stepOf, guarded, quiet, effectOf}
 
 pub is-setup : (v : Vcpu) → outcomeOf v setup ≡ setupOf v
 unfolding outcomeOf
@@ -24,7 +24,7 @@ unfolding outcomeOf
 is-setEntry v entry = refl
 
 -- a read gives the register and leaves the record
-pub is-getGpr : (v : Vcpu) (index : ℕ) → outcomeOf v (getGpr index) ≡ record { vcpu = v; reply = getGprOf v index; args = [] }
+pub is-getGpr : (v : Vcpu) (index : ℕ) → outcomeOf v (getGpr index) ≡ unchanged v (getGprOf v index)
 unfolding outcomeOf
 is-getGpr v index = refl
 
@@ -78,22 +78,22 @@ unfolding bytesOf
 is-print v buffer = refl
 
 pub print-keeps : (v : Vcpu) (buffer : List ℕ) → stepOf v (print buffer) ≡ v
-unfolding stepOf outcomeOf
+unfolding stepOf outcomeOf unchanged
 print-keeps v buffer = refl
 
--- every later record is the earlier one with the call's effect applied
-pub step-applied : (v : Vcpu) (c : Call) → stepOf v c ≡ applied v (effectOf v c) .vcpu
-unfolding stepOf outcomeOf effectOf guarded unlessAsking setupOf setEntryOf setGprOf setReturnOf pagingOf pendingOf latchOf completeIpiOf startOf answerOf completeLoadOf applied doneOf stored counted bumped eventNumber
-step-applied v setup = refl
-step-applied v (setEntry entry) = refl
-step-applied v (getGpr index) = refl
-step-applied v (setGpr index value) = refl
-step-applied v (setReturn value) = refl
-step-applied v (paging levels mode root) = refl
-step-applied v (pending vector on) = refl
-step-applied v (latch bits) = refl
-step-applied v (completeIpi abi completion) = refl
-step-applied v (start t) = refl
-step-applied v (answer a) = refl
-step-applied v (completeLoad n) = refl
-step-applied v (print buffer) = refl
+-- each outcome is the call's effect, applied
+pub outcome-applied : (v : Vcpu) (c : Call) → outcomeOf v c ≡ applied v (effectOf v c)
+unfolding outcomeOf unchanged effectOf guarded quiet unlessAsking setupOf setEntryOf setGprOf setReturnOf pagingOf pendingOf latchOf completeIpiOf startOf answerOf completeLoadOf applied stored counted bumped eventNumber
+outcome-applied v setup = refl
+outcome-applied v (setEntry entry) = refl
+outcome-applied v (getGpr index) = refl
+outcome-applied v (setGpr index value) = refl
+outcome-applied v (setReturn value) = refl
+outcome-applied v (paging levels mode root) = refl
+outcome-applied v (pending vector on) = refl
+outcome-applied v (latch bits) = refl
+outcome-applied v (completeIpi abi completion) = refl
+outcome-applied v (start t) = refl
+outcome-applied v (answer a) = refl
+outcome-applied v (completeLoad n) = refl
+outcome-applied v (print buffer) = refl

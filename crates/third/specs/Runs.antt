@@ -10,12 +10,13 @@ use Rattle.types.specs.declared.Reply.{Reply}
 use Rattle.types.specs.declared.Reply.the-variants as reply
 use Rattle.sbi_ipi.specs.Ipi.{completionNumber}
 use Rattle.regs.specs.declared.Effect.{Effect}
+use Rattle.regs.specs.declared.Event.the-variants as event
 use Rattle.regs.specs.declared.Outcome.{Outcome}
 use Rattle.regs.specs.declared.Vcpu.{Vcpu}
 use Rattle.regs.specs.declared.Writes.{Writes}
 use Rattle.regs.specs.declared.Writes.the-variants as writes
-use Rattle.regs.specs.Record.{pended, waitingAsk}
-use Rattle.regs.specs.Effects.{doneOf, guardedOf}
+use Rattle.regs.specs.Record.{pended, waitingAsk, listed}
+use Rattle.regs.specs.Effects.{noArgs, doneOf, guardedOf}
 use Rattle.host_calls.specs.HostCalls.{setupCsrs, entryCsrs, writeEffect, pagingEffect, pendingEffect, ipiWrites}
 use Rattle.answers.specs.Answers.{completedOf}
 use Rattle.trap.specs.Traps.{startEffect}
@@ -24,11 +25,15 @@ use Rattle.vcpu.specs.Calls.{setupOf, setEntryOf, getGprOf, setGprOf, setReturn
 use Rattle.third.specs.Calls.{Call, setup, setEntry, getGpr, setGpr, setReturn, paging, pending, latch, completeIpi, start, answer, completeLoad, print}
 use Rattle.third.specs.Table.{namesOf, readsOf}
 
--- one call, by the definition that its promise cites; a register read and the bytes to print change nothing
+-- a call that gives no record back: the host's stays as it is, and there is no array, so zeros stand for it
+unfoldable pub unchanged : Vcpu → Reply → Outcome
+unchanged v given = record { vcpu = v; reply = given; args = listed noArgs }
+
+-- one call, by the definition that its promise cites
 unfoldable pub outcomeOf : Vcpu → Call → Outcome
 outcomeOf v setup = setupOf v
 outcomeOf v (setEntry entry) = setEntryOf v entry
-outcomeOf v (getGpr index) = record { vcpu = v; reply = getGprOf v index; args = [] }
+outcomeOf v (getGpr index) = unchanged v (getGprOf v index)
 outcomeOf v (setGpr index value) = setGprOf v index value
 outcomeOf v (setReturn value) = setReturnOf v value
 outcomeOf v (paging levels mode root) = pagingOf v levels mode root
@@ -38,7 +43,7 @@ outcomeOf v (completeIpi abi completion) = completeIpiOf v abi completion
 outcomeOf v (start t) = startOf v t
 outcomeOf v (answer a) = answerOf v a
 outcomeOf v (completeLoad n) = completeLoadOf v n
-outcomeOf v (print buffer) = record { vcpu = v; reply = reply.Done; args = [] }
+outcomeOf v (print buffer) = unchanged v reply.Done
 
 -- the part of the lent buffer that is printed
 unfoldable pub bytesOf : Vcpu → Call → List ℕ
@@ -95,10 +100,21 @@ Untouched r v (c ∷ cs) = (Apart r (namesOf v c)) × (Apart r (readsOf c)) × (
 unfoldable pub guarded : Vcpu → Effect → Effect
 guarded v e = guardedOf (waitingAsk (v .waiting)) (v .csrs) (v .waiting) e
 
+unfoldable pub quiet : Vcpu → Reply → Effect
+quiet v given =
+    record {
+      csrs = v .csrs;
+      event = event.Quiet;
+      writes = writes.Keep;
+      waiting = v .waiting;
+      reply = given;
+      args = noArgs;
+    }
+
 unfoldable pub effectOf : Vcpu → Call → Effect
 effectOf v setup = guarded v (doneOf (setupCsrs (v .csrs)) writes.Keep (v .waiting))
 effectOf v (setEntry entry) = guarded v (doneOf (entryCsrs (v .csrs) entry) writes.Keep (v .waiting))
-effectOf v (getGpr index) = doneOf (v .csrs) writes.Keep (v .waiting)
+effectOf v (getGpr index) = quiet v (getGprOf v index)
 effectOf v (setGpr index value) = guarded v (writeEffect (v .csrs) (v .waiting) index value)
 effectOf v (setReturn value) = guarded v (doneOf (v .csrs) (writes.One 10 value) (v .waiting))
 effectOf v (paging levels mode root) = guarded v (pagingEffect (v .csrs) (v .waiting) levels mode root)
@@ -110,7 +126,7 @@ effectOf v (completeIpi abi completion) =
 effectOf v (start t) = startEffect (v .x) (v .csrs) (v .waiting) t
 effectOf v (answer a) = answerEffect (v .x) (v .csrs) (v .waiting) a
 effectOf v (completeLoad n) = completedOf (v .csrs) (v .waiting) n
-effectOf v (print buffer) = doneOf (v .csrs) writes.Keep (v .waiting)
+effectOf v (print buffer) = quiet v reply.Done
 
 -- the writes reach r; x0 is never written
 unfoldable pub wrote : ℕ → Writes → Bool
