@@ -50,10 +50,8 @@ use Rattle.third.specs.Calls.{Call, setup, setEntry, getGpr, setGpr, set
 use Rattle.third.specs.Table.{a0, a1, a2, a3, a4, a5, a6, a7, sourceNames, forwardNames, timeNames, srstNames, spiNames, hsmNames, consoleNames, byteNames, dbcnNames, eidNames, ecallNames, funct3Names, stimecmpNames, storeNames, causeNames, accessNames, wordNames, fetchNames, answerNames, namesOf, readsOf}
 use Rattle.third.specs.Runs.{Apart, guarded, quiet, effectOf}
 use Rattle.third.specs.Alike.{Files, Alike}
+use Rattle.third.specs.Stored.{neither}
 
-neither : (a b : Bool) → or a b ≡ false → (a ≡ false) × (b ≡ false)
-neither true b h = (h, cc)
-neither false b h = (refl, h)
 
 -- r is not the first of a list that it is apart from
 first : {r k : ℕ} {l : List ℕ} → Apart r (k ∷ l) → k ≡ r → ⊥

@@ -4,3 +4,6 @@ pub mod Runs
 pub mod Bridge
 pub mod Alike
 pub mod Agree
+pub mod Stored
+pub mod Sequences
+pub mod Third
