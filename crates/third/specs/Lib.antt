@@ -7,3 +7,6 @@ pub mod Agree
 pub mod Stored
 pub mod Sequences
 pub mod Third
+pub mod Kinds
+pub mod Events
+pub mod Counting
