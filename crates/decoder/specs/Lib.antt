@@ -2,3 +2,5 @@ pub mod Fields
 pub mod Decode
 pub mod Length
 pub mod Extend
+pub mod Laws
+pub mod Examples
