@@ -52,7 +52,6 @@ use Rattle.third.specs.Runs.{Apart, guarded, quiet, effectOf}
 use Rattle.third.specs.Alike.{Files, Alike}
 use Rattle.third.specs.Stored.{neither}
 
-
 -- r is not the first of a list that it is apart from
 first : {r k : ℕ} {l : List ℕ} → Apart r (k ∷ l) → k ≡ r → ⊥
 first {r} {k} {l} h = eqb-false k r (neither (eqb k r) _ (h .free) .0)

@@ -10,3 +10,5 @@ pub mod Third
 pub mod Kinds
 pub mod Events
 pub mod Counting
+pub mod Shown
+pub mod Witness
