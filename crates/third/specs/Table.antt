@@ -58,30 +58,31 @@ sourceNames i = pick (eqb i 0) [] (i ∷ [])
 unfoldable pub forwardNames : List ℕ
 forwardNames = a6 ∷ a0 ∷ a1 ∷ a2 ∷ a3 ∷ a4 ∷ a5 ∷ []
 
--- "TIME 0: a0"
+-- TIME 0: a0
 unfoldable pub timeNames : ℕ → List ℕ
 timeNames fid = pick (eqb fid 0) (a0 ∷ []) []
 
--- "SRST 0: a0"
+-- SRST 0: a0
 unfoldable pub srstNames : ℕ → List ℕ
 srstNames fid = pick (eqb fid 0) (a0 ∷ []) []
 
--- "sPI 0: a0, a1"
+-- sPI 0: a0, a1
 unfoldable pub spiNames : ℕ → List ℕ
 spiNames fid = pick (eqb fid 0) (a0 ∷ a1 ∷ []) []
 
--- "HSM 0: a0, a1, a2"
+-- HSM 0: a0, a1, a2
 unfoldable pub hsmNames : ℕ → List ℕ
 hsmNames fid = pick (eqb fid 0) (a0 ∷ a1 ∷ a2 ∷ []) []
 
--- "DBCN 0 and 1: a0, a1, a2"
+-- DBCN 0 and 1: a0, a1, a2
 unfoldable pub consoleNames : List ℕ
 consoleNames = a0 ∷ a1 ∷ a2 ∷ []
 
--- "DBCN 2: a0"
+-- DBCN 2: a0
 unfoldable pub byteNames : List ℕ
 byteNames = a0 ∷ []
 
+-- DBCN by fid
 unfoldable pub dbcnNames : ℕ → List ℕ
 dbcnNames fid =
     pick (eqb fid 0) consoleNames
@@ -89,7 +90,8 @@ dbcnNames fid =
     (pick (eqb fid 2) byteNames
     []))
 
--- "Legacy 0, 1, 4: a0. HVC, PMU, RFNC, forwarded: a6, a0 to a5. Others with fids: a6", and the rows above
+-- "Legacy 0, 1, 4: a0. HVC, PMU, RFNC, forwarded: a6, a0 to a5. Others with fids: a6, and" the rows above. The other legacy
+-- calls, up to 8, name nothing more; every eid that has no row is forwarded
 unfoldable pub eidNames : ℕ → ℕ → List ℕ
 eidNames eid fid =
     pick (eqb eid legacySetTimer) (a0 ∷ [])
@@ -118,18 +120,18 @@ funct3Names funct3 rs1 =
     (pick (eqb funct3 3) (sourceNames rs1)
     []))
 
--- "stimecmp", of a word: it ends in 0x73 and its CSR field is 0x14d
+-- stimecmp: the word ends in 0x73 and its CSR field is 0x14d
 unfoldable pub stimecmpNames : ℕ → List ℕ
 stimecmpNames w =
     pick (eqb (opcodeField w) systemOpcode)
     (pick (eqb (csrField w) stimecmp) (funct3Names (funct3Field w) (rs1Field w)) [])
     []
 
--- "Decoded store: rs2"
+-- "Decoded store": rs2
 unfoldable pub storeNames : Trapped → List ℕ
 storeNames i = sourceNames (storeSource i)
 
--- by scause; "nothing else"
+-- by scause: ecall, virtual instruction, store "under 23". "Nothing else"
 unfoldable pub causeNames : ℕ → List ℕ → Trap → List ℕ
 causeNames scause x t =
     pick (eqb scause envCallFromVs) (ecallNames x)
@@ -137,7 +139,7 @@ causeNames scause x t =
     (pick (eqb scause storeGuestPageFault) (storeNames (htinstOf (t .htinst)))
     []))
 
--- "under 23"
+-- a fault that was fetched for: a store "under 23"
 unfoldable pub accessNames : Access → ℕ → List ℕ
 accessNames access.Read w = []
 accessNames access.Write w = storeNames (fetchedOf w)
@@ -160,6 +162,7 @@ wordNames waiting.PutByte w = []
 wordNames waiting.GetChar w = []
 wordNames waiting.Forward w = []
 
+-- a fault in place of the word names nothing
 unfoldable pub fetchNames : Waiting → Fetch → List ℕ
 fetchNames n (fetch.Word w) = wordNames n w
 fetchNames n (fetch.Page a) = []
@@ -168,6 +171,7 @@ fetchNames n (fetch.Misaligned a) = []
 fetchNames n (fetch.GuestPage a) = []
 fetchNames n fetch.Unhandled = []
 
+-- the answers to an ecall's asks read no register
 unfoldable pub answerNames : Waiting → Answer → List ℕ
 answerNames n (answers.Fetched f) = fetchNames n f
 answerNames n (answers.MaskCopied count bytes) = []
