@@ -1,5 +1,4 @@
 -- Words of document 01's marked cases, decoded.
-use Prim.Native.Nat.{ℕ}
 use mathlib.Core.Bool.{true}
 use mathlib.Core.Path.{_≡_, refl}
 use Rattle.types.specs.declared.Width.the-variants as width

@@ -3,26 +3,23 @@ use Prim.Native.Nat.{ℕ, _<_, _≤_, _%_, _^_}
 use native.Mathlib.Omega.{arith}
 use mathlib.Core.Bool.{Bool, true, false}
 use mathlib.Core.List.{List, [], _∷_}
-use mathlib.Core.Path.{_≡_, refl, ap, ap₂, sym, subst, _∙_}
+use mathlib.Core.Path.{_≡_, refl, ap, ap₂, subst, _∙_}
 use lib.ListN.{getD}
 use lib.Dec.{eqb, leb, ltb}
 use borrow.Author.Tests.{eqb-true, eqb-false, lt-leb}
-use Rattle.types.specs.Pick.{pick, or}
-use Rattle.types.specs.Numbers.{answerNumber}
+use Rattle.types.specs.Pick.{pick}
 use Rattle.types.specs.declared.Access.{Access}
 use Rattle.types.specs.declared.Access.the-variants as access
 use Rattle.types.specs.declared.Answer.{Answer}
 use Rattle.types.specs.declared.Answer.the-variants as answers
 use Rattle.types.specs.declared.Args.{Args}
-use Rattle.types.specs.declared.Error.the-variants as error
 use Rattle.types.specs.declared.Fetch.{Fetch}
 use Rattle.types.specs.declared.Fetch.the-variants as fetch
 use Rattle.types.specs.declared.GuestPhysAddr.{GuestPhysAddr}
-use Rattle.types.specs.declared.Reply.the-variants as reply
 use Rattle.types.specs.declared.Trap.{Trap}
 use Rattle.types.specs.declared.Width.{Width}
 use Rattle.consts.specs.Csr.{consoleRoom, systemOpcode, stimecmp}
-use Rattle.consts.specs.Sbi.{legacySetTimer, legacyPutchar, legacyGetchar, legacyClearIpi, legacySendIpi, legacyFenceI, legacySfenceVma, legacySfenceVmaAsid, legacyShutdown, eidTime, eidSpi, eidHsm, eidHvc, eidSrst, eidDbcn, eidRfnc, eidPmu, success, invalidParam}
+use Rattle.consts.specs.Sbi.{legacySetTimer, legacyPutchar, legacyGetchar, legacyClearIpi, legacySendIpi, legacyFenceI, legacySfenceVma, legacySfenceVmaAsid, legacyShutdown, eidTime, eidSpi, eidHsm, eidHvc, eidSrst, eidDbcn, eidRfnc, success, invalidParam}
 use Rattle.consts.specs.Traps.{envCallFromVs, virtualInstruction, loadGuestPageFault, storeGuestPageFault}
 use Rattle.decoder.specs.declared.Decoded.the-variants as decoded
 use Rattle.decoder.specs.declared.Trapped.{Trapped}
@@ -35,8 +32,7 @@ use Rattle.regs.specs.declared.Event.the-variants as event
 use Rattle.regs.specs.declared.Vcpu.{Vcpu}
 use Rattle.regs.specs.declared.Waiting.{Waiting}
 use Rattle.regs.specs.declared.Waiting.the-variants as waiting
-use Rattle.regs.specs.Record.{valueOf, waitingAsk, isIdle}
-use Rattle.regs.specs.Effects.{refusedOf}
+use Rattle.regs.specs.Record.{valueOf, isIdle}
 use Rattle.ecall.specs.declared.Call.the-variants as call
 use Rattle.ecall.specs.Calls.{timeOf, spiOf, hsmOf, srstOf, dbcnOf, spanOf, consoleOf, rfncOf, callOf, lesserOf, notSupportedOf}
 use Rattle.ecall.specs.Doing.{callEffect}
@@ -53,15 +49,15 @@ use Rattle.third.specs.Alike.{Files, Alike}
 use Rattle.third.specs.Stored.{neither}
 
 -- r is not the first of a list that it is apart from
-first : {r k : ℕ} {l : List ℕ} → Apart r (k ∷ l) → k ≡ r → ⊥
+pub first : {r k : ℕ} {l : List ℕ} → Apart r (k ∷ l) → k ≡ r → ⊥
 first {r} {k} {l} h = eqb-false k r (neither (eqb k r) _ (h .free) .0)
 
 -- nor one of the others
-rest : {r k : ℕ} {l : List ℕ} → Apart r (k ∷ l) → Apart r l
+pub rest : {r k : ℕ} {l : List ℕ} → Apart r (k ∷ l) → Apart r l
 rest {r} {k} {l} h = record { free = neither (eqb k r) _ (h .free) .1 }
 
 -- where a test parts both the table and the decision
-parted : {A B : Type 0} {r : ℕ} (t : Bool) {l m : List ℕ} {p q p′ q′ : A} (g g′ : A → B) → Apart r (pick t l m) → (Apart r l → g p ≡ g′ p′) → (Apart r m → g q ≡ g′ q′) → g (pick t p q) ≡ g′ (pick t p′ q′)
+pub parted : {A B : Type 0} {r : ℕ} (t : Bool) {l m : List ℕ} {p q p′ q′ : A} (g g′ : A → B) → Apart r (pick t l m) → (Apart r l → g p ≡ g′ p′) → (Apart r m → g q ≡ g′ q′) → g (pick t p q) ≡ g′ (pick t p′ q′)
 parted true g g′ h taken other = taken h
 parted false g g′ h taken other = other h
 

@@ -1,6 +1,6 @@
 -- The sequence's steps are the definitions that the public calls' promises cite.
 use Prim.Native.Nat.{ℕ}
-use mathlib.Core.Bool.{Bool, true, false}
+use mathlib.Core.Bool.{Bool, true}
 use mathlib.Core.List.{List}
 use mathlib.Core.Path.{_≡_, refl}
 use Rattle.types.specs.declared.Answer.{Answer}

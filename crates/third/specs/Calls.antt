@@ -8,7 +8,7 @@ use Rattle.types.specs.declared.IpiAbi.{IpiAbi}
 use Rattle.types.specs.declared.Trap.{Trap}
 use Rattle.sbi_ipi.specs.declared.IpiCompletion.{IpiCompletion}
 
--- inject_interrupt and set_vseip_level are cases of pending; print has the lent buffer
+-- inject_interrupt and set_vseip_level are cases of pending; print has the lent buffer. (new takes no record.)
 pub data Call : Type 0 where
   setup : Call
   setEntry : GuestPhysAddr → Call

@@ -4,7 +4,7 @@ use native.Mathlib.Nat.{mod-eq-of-lt, mod-lt, add-zero, add-assoc, mod-add-mod}
 use native.Mathlib.Omega.{arith}
 use mathlib.Core.Bool.{Bool, true, false}
 use mathlib.Core.List.{List, [], _∷_}
-use mathlib.Core.Path.{_≡_, refl, ap, sym, subst, _∙_}
+use mathlib.Core.Path.{_≡_, refl, ap, sym, _∙_}
 use lib.ListN.{getD, set, length, length-set}
 use lib.Seq.{getD-set-same, getD-set-other}
 use lib.Dec.{eqb, ltb}
@@ -12,10 +12,10 @@ use borrow.Author.Tests.{eqb-true, eqb-false, ne-eqb, lt-ltb}
 use Rattle.types.specs.Pick.{pick, wrapped}
 use Rattle.regs.specs.declared.Outcome.{Outcome}
 use Rattle.regs.specs.declared.Vcpu.{Vcpu}
-use Rattle.regs.specs.Record.{bumped, counted, eventNumber}
+use Rattle.regs.specs.Record.{bumped, counted}
 use Rattle.regs.specs.Effects.{applied}
 use Rattle.third.specs.Calls.{Call}
-use Rattle.third.specs.Runs.{outcomeOf, stepOf, runOf, effectOf}
+use Rattle.third.specs.Runs.{stepOf, runOf}
 use Rattle.third.specs.Bridge.{outcome-applied}
 use Rattle.third.specs.Kinds.{kindOf, traps}
 use Rattle.third.specs.Events.{event-kind}

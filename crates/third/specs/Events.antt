@@ -1,11 +1,11 @@
 -- The event that a call counts is the kind of its trap.
-use Prim.Native.Nat.{ℕ, _+_, _<_, _≤_, _%_, _^_}
+use Prim.Native.Nat.{ℕ, _<_, _≤_, _%_, _^_}
 use native.Mathlib.Omega.{arith}
 use mathlib.Core.Bool.{Bool, true, false}
-use mathlib.Core.List.{List, [], _∷_}
+use mathlib.Core.List.{List}
 use mathlib.Core.Path.{_≡_, refl, ap, sym, _∙_}
 use lib.ListN.{getD}
-use lib.Dec.{eqb, leb, ltb}
+use lib.Dec.{eqb, ltb}
 use borrow.Author.Tests.{eqb-true, eqb-false, le-ltb}
 use Rattle.types.specs.Pick.{pick, or, and}
 use Rattle.types.specs.Numbers.{answerNumber}
@@ -28,14 +28,14 @@ use Rattle.regs.specs.declared.Effect.{Effect}
 use Rattle.regs.specs.declared.Vcpu.{Vcpu}
 use Rattle.regs.specs.declared.Waiting.{Waiting}
 use Rattle.regs.specs.declared.Waiting.the-variants as waiting
-use Rattle.regs.specs.Record.{eventNumber, isIdle, waitingAsk, valueOf}
+use Rattle.regs.specs.Record.{eventNumber, isIdle, waitingAsk}
 use Rattle.regs.specs.Effects.{finishedOf, askingOf, failedOf, refusedOf, doneOf, guardedOf}
 use Rattle.ecall.specs.declared.Call as ecalls
 use Rattle.ecall.specs.Calls.{timeOf, spiOf, hsmOf, srstOf, dbcnOf, spanOf, consoleOf, rfncOf, callOf, lesserOf, notSupportedOf}
 use Rattle.ecall.specs.Doing.{callEffect, returnsOf, movesOf, staysOf, asksOf, setTimerOf, clearIpiOf, hypercallOf}
 use Rattle.fetch.specs.declared.Missed.{Missed}
 use Rattle.fetch.specs.declared.Missed.the-variants as missed
-use Rattle.fetch.specs.Faults.{askFetchOf, missedOf, missedEffect}
+use Rattle.fetch.specs.Faults.{askFetchOf, missedEffect}
 use Rattle.virtual_inst.specs.declared.Csr.{Csr}
 use Rattle.virtual_inst.specs.declared.Csr.the-variants as csr
 use Rattle.virtual_inst.specs.Stimecmp as virtual
@@ -44,7 +44,7 @@ use Rattle.page_fault.specs.declared.Fault.the-variants as fault
 use Rattle.page_fault.specs.Mmio.{faultEffect}
 use Rattle.answers.specs.declared.Answered.{Answered}
 use Rattle.answers.specs.declared.Answered.the-variants as answered
-use Rattle.answers.specs.Answers.{answeredOf, answeredEffect, completedOf}
+use Rattle.answers.specs.Answers.{answeredEffect, completedOf}
 use Rattle.host_calls.specs.HostCalls.{writeEffect, pagingBy, pagingEffect, pendingBy, pendingEffect}
 use Rattle.trap.specs.Traps.{argumentsOf, sbiOf, stimecmpOf, mmioOf, pageFaultOf, externalOf, otherOf, causeOf, trapOf, startedOf, startEffect}
 use Rattle.trap.specs.Resume as resume

@@ -1,6 +1,6 @@
 -- The nine kinds of traps that are counted, told from the trap and the record. 01, Ecalls and Virtual instruction.
-use Prim.Native.Nat.{ℕ, suc, _+_, _%_, _^_}
-use mathlib.Core.Bool.{Bool, true, false}
+use Prim.Native.Nat.{ℕ, _+_, _%_, _^_}
+use mathlib.Core.Bool.{Bool}
 use mathlib.Core.List.{List, [], _∷_}
 use lib.ListN.{getD}
 use lib.Dec.{eqb, ltb}

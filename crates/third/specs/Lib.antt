@@ -7,6 +7,8 @@ pub mod Agree
 pub mod Stored
 pub mod Sequences
 pub mod Third
+pub mod Symmetric
+pub mod Zero
 pub mod Kinds
 pub mod Events
 pub mod Counting

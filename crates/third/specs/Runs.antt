@@ -1,6 +1,6 @@
 -- Sequences of calls on a record: the later record, what the host sees, and which registers are touched.
 use Prim.Native.Nat.{ℕ}
-use mathlib.Core.Bool.{Bool, true, false}
+use mathlib.Core.Bool.{Bool, false}
 use mathlib.Core.List.{List, [], _∷_}
 use mathlib.Core.Path.{_≡_}
 use lib.Bits.{bitOr}

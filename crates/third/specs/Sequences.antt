@@ -9,14 +9,14 @@ use Rattle.regs.specs.declared.Effect.{Effect}
 use Rattle.regs.specs.declared.Outcome.{Outcome}
 use Rattle.regs.specs.declared.Vcpu.{Vcpu}
 use Rattle.regs.specs.declared.Waiting.{Waiting}
-use Rattle.regs.specs.Record.{stored, counted}
+use Rattle.regs.specs.Record.{counted}
 use Rattle.regs.specs.Effects.{applied}
 use Rattle.vcpu.specs.Calls.{printedOf, printCount, firstOf}
 use Rattle.third.specs.Calls.{Call, setup, setEntry, getGpr, setGpr, setReturn, paging, pending, latch, completeIpi, start, answer, completeLoad, print}
 use Rattle.third.specs.Table.{namesOf, readsOf}
-use Rattle.third.specs.Runs.{outcomeOf, bytesOf, Sight, sightOf, stepOf, runOf, seenOf, Apart, Untouched, effectOf, wrote, written}
+use Rattle.third.specs.Runs.{bytesOf, sightOf, stepOf, runOf, seenOf, Apart, Untouched, effectOf, wrote, written}
 use Rattle.third.specs.Bridge.{outcome-applied}
-use Rattle.third.specs.Alike.{Files, Alike}
+use Rattle.third.specs.Alike.{Alike}
 use Rattle.third.specs.Agree.{effect-alike}
 use Rattle.third.specs.Stored.{neither, same-files, stored-files, stored-kept, stored-joined}
 
@@ -71,7 +71,7 @@ module _ (r : ℕ) (v w : Vcpu) (a : Alike r v w) where
 
 -- one call
 module _ (r : ℕ) (v w : Vcpu) (c : Call) (a : Alike r v w) (named : Apart r (namesOf v c)) (read : Apart r (readsOf c)) where
-  next-alike : Alike r (stepOf v c) (stepOf w c)
+  pub next-alike : Alike r (stepOf v c) (stepOf w c)
   next-alike = rw (step-applied v c, step-applied w c, ← (effect-alike r v w c a named read)) (applied-alike r v w a (effectOf v c))
 
   sight-alike : sightOf v c ≡ sightOf w c

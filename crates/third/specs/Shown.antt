@@ -7,7 +7,6 @@ use lib.ListN.{getD, set, replicate}
 use lib.Dec.{eqb}
 use Rattle.types.specs.Pick.{pick, and}
 use Rattle.types.specs.Numbers.{exitNumber, askNumber, errorNumber}
-use Rattle.types.specs.declared.Args.{Args}
 use Rattle.types.specs.declared.Ask.{Ask}
 use Rattle.types.specs.declared.Ask.the-variants as ask
 use Rattle.types.specs.declared.Exit.{Exit}

@@ -1,8 +1,8 @@
 -- Demand 3: two records alike except in one general register, and the same sequence of calls, lent buffers and answers on both.
 -- The statement is Third; Alike is in Alike.antt, Untouched, seenOf, runOf and written in Runs.antt, the table in Table.antt.
 use Prim.Native.Nat.{ℕ}
-use mathlib.Core.Bool.{Bool, true, false}
-use mathlib.Core.List.{List, [], _∷_, _++_}
+use mathlib.Core.Bool.{true, false}
+use mathlib.Core.List.{List, _++_}
 use mathlib.Core.Path.{_≡_}
 use lib.ListN.{getD}
 use Rattle.regs.specs.declared.Vcpu.{Vcpu}

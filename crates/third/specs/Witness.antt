@@ -1,14 +1,12 @@
 -- Demand 3 is not vacuous: closed examples, computed by the checker. Four sequences meet its premises with r different before and
 -- after; and in rows of the reading table two records that differ in a named register come out differently.
 use Prim.Native.Nat.{ℕ}
-use mathlib.Core.Bool.{Bool, true, false}
+use mathlib.Core.Bool.{true}
 use mathlib.Core.List.{List, [], _∷_}
 use mathlib.Core.Path.{_≡_, refl, sym, _∙_}
-use lib.ListN.{getD, set, length, replicate, length-set}
+use lib.ListN.{set, length, replicate, length-set}
 use lib.Seq.{getD-set-other}
-use Rattle.types.specs.Pick.{pick}
 use Rattle.types.specs.Numbers.{answerNumber, exitNumber, askNumber, errorNumber}
-use Rattle.types.specs.declared.Access.the-variants as access
 use Rattle.types.specs.declared.Answer.the-variants as answers
 use Rattle.types.specs.declared.Ask.the-variants as ask
 use Rattle.types.specs.declared.Exit.the-variants as exit
@@ -35,7 +33,7 @@ use Rattle.trap.specs.Traps.{argumentsOf, sbiOf, stimecmpOf, mmioOf, pageFaultO
 use Rattle.trap.specs.Resume as resume
 use Rattle.vcpu.specs.Calls.{startOf, answerOf, completeLoadOf, printCount, firstOf, printedOf}
 use Rattle.third.specs.Calls.{Call, start, answer, completeLoad, print}
-use Rattle.third.specs.Table.{a0, a1, a2, a3, a4, a5, a6, a7, sourceNames, forwardNames, timeNames, srstNames, spiNames, hsmNames, consoleNames, byteNames, dbcnNames, eidNames, ecallNames, funct3Names, stimecmpNames, storeNames, causeNames, accessNames, wordNames, fetchNames, answerNames, namesOf, readsOf}
+use Rattle.third.specs.Table.{a0, a1, a2, a3, a4, a5, a7, sourceNames, forwardNames, timeNames, srstNames, spiNames, hsmNames, consoleNames, byteNames, dbcnNames, eidNames, ecallNames, funct3Names, stimecmpNames, storeNames, causeNames, accessNames, wordNames, fetchNames, answerNames, namesOf, readsOf}
 use Rattle.third.specs.Runs.{unchanged, outcomeOf, bytesOf, sightOf, stepOf, runOf, seenOf, Apart, Untouched}
 use Rattle.third.specs.Alike.{Alike}
 use Rattle.third.specs.Shown.{recordOf, other, Met, exitNumbers, askNumbers, replyNumbers, sightNumbers, toldOf, sameList, Row, matters, allMatter}
