@@ -44,15 +44,22 @@ use Rattle.trap.specs.Resume as resume
 use Rattle.vcpu.specs.Calls.{getGprOf}
 use Rattle.third.specs.Calls.{Call, setup, setEntry, getGpr, setGpr, setReturn, paging, pending, latch, completeIpi, start, answer, completeLoad, print}
 use Rattle.third.specs.Table.{a0, a1, a2, a3, a4, a5, a6, a7, sourceNames, forwardNames, timeNames, srstNames, spiNames, hsmNames, consoleNames, byteNames, dbcnNames, eidNames, ecallNames, funct3Names, stimecmpNames, storeNames, causeNames, accessNames, wordNames, fetchNames, answerNames, namesOf, readsOf}
-use Rattle.third.specs.Runs.{Apart, guarded, quiet, effectOf}
+use Rattle.third.specs.Runs.{among, Apart, guarded, quiet, effectOf}
 use Rattle.third.specs.Alike.{Files, Alike}
 use Rattle.third.specs.Stored.{neither}
+
+-- a register that a list names is not r where r is apart from the list
+pub out : {r : ℕ} {l : List ℕ} (k : ℕ) → Apart r l → among k l ≡ true → k ≡ r → ⊥
+out {r} {l} k h m e =
+    let both : among k l ≡ among r l = ap (λ n. among n l) e in
+    let never : _≡_ {A = ℕ} 0 1 = cc (h .free) in
+    omega arith
 
 -- r is not the first of a list that it is apart from
 pub first : {r k : ℕ} {l : List ℕ} → Apart r (k ∷ l) → k ≡ r → ⊥
 first {r} {k} {l} h = eqb-false k r (neither (eqb k r) _ (h .free) .0)
 
--- nor one of the others
+-- nor one of those that follow
 pub rest : {r k : ℕ} {l : List ℕ} → Apart r (k ∷ l) → Apart r l
 rest {r} {k} {l} h = record { free = neither (eqb k r) _ (h .free) .1 }
 
@@ -82,10 +89,13 @@ module _ {r : ℕ} {x y : List ℕ} (f : Files r x y) where
   unfolding valueOf sourceNames
   value-alike i h = parted (eqb i 0) (λ n. n) (λ n. n) h (λ h. refl) (λ h. ap (λ n. pick (ltb i 32) n 0) (f .agree i (first h)))
 
-  arguments-alike : Apart r (a0 ∷ a1 ∷ a2 ∷ a3 ∷ a4 ∷ a5 ∷ []) → argumentsOf x ≡ argumentsOf y
-  unfolding argumentsOf
-  arguments-alike h =
-      rw (f .agree a0 (first h), f .agree a1 (first (rest h)), f .agree a2 (first (rest (rest h))), f .agree a3 (first (rest (rest (rest h)))), f .agree a4 (first (rest (rest (rest (rest h))))), f .agree a5 (first (rest (rest (rest (rest (rest h)))))))
+  -- a register that the table names has the same content in both
+  named : {l : List ℕ} (k : ℕ) → Apart r l → among k l ≡ true → getD x k 0 ≡ getD y k 0
+  named k h m = f .agree k (out k h m)
+
+  arguments-alike : Apart r forwardNames → argumentsOf x ≡ argumentsOf y
+  unfolding argumentsOf forwardNames
+  arguments-alike h = rw (named a0 h refl, named a1 h refl, named a2 h refl, named a3 h refl, named a4 h refl, named a5 h refl)
 
   -- SBI calls with eid e
   module _ (c : Csrs) (e : ℕ) where
@@ -95,27 +105,27 @@ module _ {r : ℕ} {x y : List ℕ} (f : Files r x y) where
     abbrev right : ℕ → ecalls.Call → Effect
     right fid k = callEffect c e fid (argumentsOf y) k
 
-    timer-row : Apart r (a0 ∷ []) → left (getD x a6 0) (call.LegacyTimer (argumentsOf x .a0)) ≡ right (getD y a6 0) (call.LegacyTimer (argumentsOf y .a0))
+    timer-row : {l : List ℕ} → Apart r l → among a0 l ≡ true → left (getD x a6 0) (call.LegacyTimer (argumentsOf x .a0)) ≡ right (getD y a6 0) (call.LegacyTimer (argumentsOf y .a0))
     unfolding callEffect argumentsOf
-    timer-row h = rw (f .agree a0 (first h))
+    timer-row h m = rw (named a0 h m)
 
-    put-row : Apart r (a0 ∷ []) → left (getD x a6 0) (call.PutChar (argumentsOf x .a0)) ≡ right (getD y a6 0) (call.PutChar (argumentsOf y .a0))
+    put-row : {l : List ℕ} → Apart r l → among a0 l ≡ true → left (getD x a6 0) (call.PutChar (argumentsOf x .a0)) ≡ right (getD y a6 0) (call.PutChar (argumentsOf y .a0))
     unfolding callEffect argumentsOf
-    put-row h = rw (f .agree a0 (first h))
+    put-row h m = rw (named a0 h m)
 
-    mask-row : Apart r (a0 ∷ []) → left (getD x a6 0) (call.CopyMask (record { 0 = argumentsOf x .a0 })) ≡ right (getD y a6 0) (call.CopyMask (record { 0 = argumentsOf y .a0 }))
+    mask-row : {l : List ℕ} → Apart r l → among a0 l ≡ true → left (getD x a6 0) (call.CopyMask (record { 0 = argumentsOf x .a0 })) ≡ right (getD y a6 0) (call.CopyMask (record { 0 = argumentsOf y .a0 }))
     unfolding callEffect argumentsOf
-    mask-row h = rw (f .agree a0 (first h))
+    mask-row h m = rw (named a0 h m)
 
     time-row : (fid : ℕ) → Apart r (timeNames fid) → left fid (timeOf fid (argumentsOf x)) ≡ right fid (timeOf fid (argumentsOf y))
     unfolding timeOf timeNames callEffect argumentsOf notSupportedOf
-    time-row fid h = parted (eqb fid 0) (left fid) (right fid) h (λ (h : Apart r (a0 ∷ [])). rw (f .agree a0 (first h))) (λ h. refl)
+    time-row fid h = parted (eqb fid 0) (left fid) (right fid) h (λ h. rw (named a0 h refl)) (λ h. refl)
 
     srst-row : (fid : ℕ) → Apart r (srstNames fid) → left fid (srstOf fid (argumentsOf x)) ≡ right fid (srstOf fid (argumentsOf y))
     unfolding srstOf srstNames callEffect argumentsOf notSupportedOf
     srst-row fid h =
         parted (eqb fid 0) (left fid) (right fid) h
-        (λ (h : Apart r (a0 ∷ [])). stays (eqb (getD x a0 0) 0) ∙ ap (λ n. right fid (pick (eqb n 0) call.SystemDown notSupportedOf)) (f .agree a0 (first h)))
+        (λ h. stays (eqb (getD x a0 0) 0) ∙ ap (λ n. right fid (pick (eqb n 0) call.SystemDown notSupportedOf)) (named a0 h refl))
         (λ h. refl)
       where
         stays : (t : Bool) → left fid (pick t call.SystemDown notSupportedOf) ≡ right fid (pick t call.SystemDown notSupportedOf)
@@ -126,14 +136,14 @@ module _ {r : ℕ} {x y : List ℕ} (f : Files r x y) where
     unfolding spiOf spiNames callEffect argumentsOf notSupportedOf
     spi-row fid h =
         parted (eqb fid 0) (left fid) (right fid) h
-        (λ (h : Apart r (a0 ∷ a1 ∷ [])). rw (f .agree a0 (first h), f .agree a1 (first (rest h))))
+        (λ h. rw (named a0 h refl, named a1 h refl))
         (λ h. refl)
 
     hsm-row : (fid : ℕ) → Apart r (hsmNames fid) → left fid (hsmOf fid (argumentsOf x)) ≡ right fid (hsmOf fid (argumentsOf y))
     unfolding hsmOf hsmNames callEffect argumentsOf notSupportedOf
     hsm-row fid h =
         parted (eqb fid 0) (left fid) (right fid) h
-        (λ (h : Apart r (a0 ∷ a1 ∷ a2 ∷ [])). rw (f .agree a0 (first h), f .agree a1 (first (rest h)), f .agree a2 (first (rest (rest h)))))
+        (λ h. rw (named a0 h refl, named a1 h refl, named a2 h refl))
         (λ h. others (eqb fid 1) (eqb fid 3))
       where
         others : (s t : Bool) → left fid (pick s call.CpuDown (pick t call.Halt notSupportedOf)) ≡ right fid (pick s call.CpuDown (pick t call.Halt notSupportedOf))
@@ -141,11 +151,11 @@ module _ {r : ℕ} {x y : List ℕ} (f : Files r x y) where
         others false true = refl
         others false false = refl
 
-    console-row : (fid : ℕ) (write : Bool) (room : ℕ) → Apart r (a0 ∷ a1 ∷ a2 ∷ []) → left fid (consoleOf write (argumentsOf x) room) ≡ right fid (consoleOf write (argumentsOf y) room)
-    unfolding consoleOf spanOf callEffect argumentsOf
+    console-row : (fid : ℕ) (write : Bool) (room : ℕ) → Apart r consoleNames → left fid (consoleOf write (argumentsOf x) room) ≡ right fid (consoleOf write (argumentsOf y) room)
+    unfolding consoleOf spanOf consoleNames callEffect argumentsOf
     console-row fid write room h =
         still (eqb (getD x a0 0) 0) (eqb (getD x a2 0) 0) (eqb (lesserOf (getD x a0 0) room) 0) write
-        ∙ rw (f .agree a0 (first h), f .agree a1 (first (rest h)), f .agree a2 (first (rest (rest h))))
+        ∙ rw (named a0 h refl, named a1 h refl, named a2 h refl)
       where
         chosen : Bool → Bool → Bool → Bool → ecalls.Call
         chosen p q z w =
@@ -164,23 +174,23 @@ module _ {r : ℕ} {x y : List ℕ} (f : Files r x y) where
         still false false z w = refl
 
     dbcn-row : (room fid : ℕ) → Apart r (dbcnNames fid) → left fid (dbcnOf fid (argumentsOf x) room) ≡ right fid (dbcnOf fid (argumentsOf y) room)
-    unfolding dbcnOf dbcnNames consoleNames byteNames callEffect argumentsOf notSupportedOf
+    unfolding dbcnOf dbcnNames byteNames callEffect argumentsOf notSupportedOf
     dbcn-row room fid h =
         parted (eqb fid 0) (left fid) (right fid) h (console-row fid true room)
         (λ h. parted (eqb fid 1) (left fid) (right fid) h (console-row fid false room)
-        (λ h. parted (eqb fid 2) (left fid) (right fid) h (λ (h : Apart r (a0 ∷ [])). rw (f .agree a0 (first h)))
+        (λ h. parted (eqb fid 2) (left fid) (right fid) h (λ h. rw (named a0 h refl))
         (λ h. refl)))
 
     -- others with fids: a6
     fid-row : (k : ℕ → Args → ecalls.Call) (rows : ℕ → List ℕ) → ((fid : ℕ) → Apart r (rows fid) → left fid (k fid (argumentsOf x)) ≡ right fid (k fid (argumentsOf y))) → Apart r (a6 ∷ rows (getD x a6 0)) → left (getD x a6 0) (k (getD x a6 0) (argumentsOf x)) ≡ right (getD y a6 0) (k (getD y a6 0) (argumentsOf y))
     fid-row k rows row h =
-        row (getD x a6 0) (rest h) ∙ ap (λ fid. right fid (k fid (argumentsOf y))) (f .agree a6 (first h))
+        row (getD x a6 0) (rest h) ∙ ap (λ fid. right fid (k fid (argumentsOf y))) (named a6 h refl)
 
     -- HVC, PMU, RFNC, forwarded: a6, a0 to a5
     forward-row : (k : ℕ → ecalls.Call) → Apart r forwardNames → left (getD x a6 0) (k (getD x a6 0)) ≡ right (getD y a6 0) (k (getD y a6 0))
     unfolding forwardNames
     forward-row k h =
-        ap₂ (λ fid a. callEffect c e fid a (k fid)) (f .agree a6 (first h)) (arguments-alike (rest h))
+        ap₂ (λ fid a. callEffect c e fid a (k fid)) (named a6 h refl) (arguments-alike h)
 
     abbrev names : ℕ → List ℕ
     names n = eidNames n (getD x a6 0)
@@ -194,11 +204,11 @@ module _ {r : ℕ} {x y : List ℕ} (f : Files r x y) where
     eid-alike : (room : ℕ) → Apart r (eidNames e (getD x a6 0)) → left (getD x a6 0) (callOf e (getD x a6 0) (argumentsOf x) room) ≡ right (getD y a6 0) (callOf e (getD y a6 0) (argumentsOf y) room)
     unfolding callOf eidNames callEffect
     eid-alike room h =
-        rowed e legacySetTimer names old new h timer-row
-        (λ n0. rowed e legacyPutchar names old new h put-row
+        rowed e legacySetTimer names old new h (λ h. timer-row h refl)
+        (λ n0. rowed e legacyPutchar names old new h (λ h. put-row h refl)
         (λ n1. rowed e legacyGetchar names old new h (λ h. refl)
         (λ n2. rowed e legacyClearIpi names old new h (λ h. refl)
-        (λ n3. rowed e legacySendIpi names old new h mask-row
+        (λ n3. rowed e legacySendIpi names old new h (λ h. mask-row h refl)
         (λ n4. rowed e legacyFenceI names old new h (λ h. refl)
         (λ n5. rowed e legacySfenceVma names old new h (λ h. refl)
         (λ n6. rowed e legacySfenceVmaAsid names old new h (λ h. refl)
@@ -220,7 +230,7 @@ module _ {r : ℕ} {x y : List ℕ} (f : Files r x y) where
   ecall-alike : (c : Csrs) (room : ℕ) → Apart r (ecallNames x) → sbiOf c (getD x a7 0) (getD x a6 0) (argumentsOf x) room ≡ sbiOf c (getD y a7 0) (getD y a6 0) (argumentsOf y) room
   unfolding sbiOf ecallNames
   ecall-alike c room h =
-      eid-alike c (getD x a7 0) room (rest h) ∙ ap (λ e. sbiOf c e (getD y a6 0) (argumentsOf y) room) (f .agree a7 (first h))
+      eid-alike c (getD x a7 0) room (rest h) ∙ ap (λ e. sbiOf c e (getD y a6 0) (argumentsOf y) room) (named a7 h refl)
 
   -- stimecmp: rs1 for funct3 1, 2, 3
   funct3-row : (funct3 rd s old : ℕ) → Apart r (funct3Names funct3 s) → virtual.stimecmpOf funct3 rd s old (valueOf x s) ≡ virtual.stimecmpOf funct3 rd s old (valueOf y s)
