@@ -2,7 +2,7 @@
 use Prim.Native.Nat.{ℕ, _<_, _≤_, _%_, _^_}
 use native.Mathlib.Omega.{arith}
 use mathlib.Core.Bool.{Bool, true, false}
-use mathlib.Core.List.{List, [], _∷_}
+use mathlib.Core.List.{List, _∷_}
 use mathlib.Core.Path.{_≡_, refl, ap, ap₂, subst, _∙_}
 use lib.ListN.{getD}
 use lib.Dec.{eqb, leb, ltb}
@@ -77,14 +77,17 @@ module _ {A B : Type 0} {r : ℕ} (e n : ℕ) (names : ℕ → List ℕ) {p q p�
   rowed : g (pick (eqb e n) p q) ≡ g′ (pick (eqb e n) p′ q′)
   rowed = rowed-by (eqb e n) refl
 
+-- one number more is ruled out
 next : (e n : ℕ) → n ≤ e → eqb e n ≡ false → n < e
 next e n h k = omega (arith, eqb-false e n k)
 
+-- a row that is the same as those below it
 either : (t : Bool) (l : List ℕ) → pick t l l ≡ l
 either true l = refl
 either false l = refl
 
 module _ {r : ℕ} {x y : List ℕ} (f : Files r x y) where
+  -- rs1 or rs2, unless it is x0
   value-alike : (i : ℕ) → Apart r (sourceNames i) → valueOf x i ≡ valueOf y i
   unfolding valueOf sourceNames
   value-alike i h = parted (eqb i 0) (λ n. n) (λ n. n) h (λ h. refl) (λ h. ap (λ n. pick (ltb i 32) n 0) (f .agree i (first h)))
@@ -105,6 +108,7 @@ module _ {r : ℕ} {x y : List ℕ} (f : Files r x y) where
     abbrev right : ℕ → ecalls.Call → Effect
     right fid k = callEffect c e fid (argumentsOf y) k
 
+    -- legacy 0, 1, 4: a0
     timer-row : {l : List ℕ} → Apart r l → among a0 l ≡ true → left (getD x a6 0) (call.LegacyTimer (argumentsOf x .a0)) ≡ right (getD y a6 0) (call.LegacyTimer (argumentsOf y .a0))
     unfolding callEffect argumentsOf
     timer-row h m = rw (named a0 h m)

@@ -52,6 +52,7 @@ wordKind w = pick (onStimecmp w) 0 2
 unfoldable pub stvalKind : ℕ → ℕ
 stvalKind w = pick (eqb (opcodeField w) systemOpcode) (wordKind w) 0
 
+-- a trap at its start, by scause
 unfoldable pub causeKind : ℕ → List ℕ → Trap → ℕ
 causeKind scause x t =
     pick (eqb scause envCallFromVs) (ecallKind (getD x a7 0) (getD x a6 0))
@@ -74,6 +75,7 @@ waitingKind waiting.PutByte w = 0
 waitingKind waiting.GetChar w = 0
 waitingKind waiting.Forward w = 0
 
+-- a fetch that fails is of no kind
 unfoldable pub fetchKind : Waiting → Fetch → ℕ
 fetchKind n (fetch.Word w) = waitingKind n w
 fetchKind n (fetch.Page a) = 0
@@ -82,6 +84,7 @@ fetchKind n (fetch.Misaligned a) = 0
 fetchKind n (fetch.GuestPage a) = 0
 fetchKind n fetch.Unhandled = 0
 
+-- nor is any other answer
 unfoldable pub answerKind : Waiting → Answer → ℕ
 answerKind n (answers.Fetched f) = fetchKind n f
 answerKind n (answers.MaskCopied count bytes) = 0

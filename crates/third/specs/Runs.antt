@@ -67,13 +67,15 @@ pub record Sight : Type 0 where
   pub args : List ℕ
   pub bytes : List ℕ
 
+-- what a host sees of a call on a record
 unfoldable pub sightOf : Vcpu → Call → Sight
 sightOf v c = record { reply = outcomeOf v c .reply; args = outcomeOf v c .args; bytes = bytesOf v c }
 
--- the record after a call, and after a sequence
+-- the record after a call
 unfoldable pub stepOf : Vcpu → Call → Vcpu
 stepOf v c = outcomeOf v c .vcpu
 
+-- the record after a sequence
 unfoldable pub runOf : Vcpu → List Call → Vcpu
 runOf v [] = v
 runOf v (c ∷ cs) = runOf (stepOf v c) cs
@@ -88,6 +90,7 @@ abbrev pub among : ℕ → List ℕ → Bool
 among r [] = false
 among r (k ∷ ks) = or (eqb k r) (among r ks)
 
+-- r is none of a list
 pub record Apart (r : ℕ) (l : List ℕ) : Type 0 where
   pub free : among r l ≡ false
 
@@ -96,10 +99,11 @@ unfoldable pub Untouched : ℕ → Vcpu → List Call → Type 0
 Untouched r v [] = Unit {0}
 Untouched r v (c ∷ cs) = (Apart r (namesOf v c)) × (Apart r (readsOf c)) × (Untouched r (stepOf v c) cs)
 
--- what a call does, as the effect that its definition applies
+-- refusal 2 goes before a host's changing call while an ask waits
 unfoldable pub guarded : Vcpu → Effect → Effect
 guarded v e = guardedOf (waitingAsk (v .waiting)) (v .csrs) (v .waiting) e
 
+-- a call that changes nothing
 unfoldable pub quiet : Vcpu → Reply → Effect
 quiet v given =
     record {
@@ -111,6 +115,7 @@ quiet v given =
       args = noArgs;
     }
 
+-- what a call does, as the effect that its definition applies: outcome-applied in Bridge.antt
 unfoldable pub effectOf : Vcpu → Call → Effect
 effectOf v setup = guarded v (doneOf (setupCsrs (v .csrs)) writes.Keep (v .waiting))
 effectOf v (setEntry entry) = guarded v (doneOf (entryCsrs (v .csrs) entry) writes.Keep (v .waiting))

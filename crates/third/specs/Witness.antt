@@ -14,7 +14,7 @@ use Rattle.types.specs.declared.Fetch.the-variants as fetch
 use Rattle.types.specs.declared.Reply.the-variants as reply
 use Rattle.types.specs.declared.Trap.{Trap}
 use Rattle.types.specs.declared.Width.the-variants as width
-use Rattle.consts.specs.Sbi.{eidTime, eidSpi, eidHsm, eidHvc, eidSrst, eidDbcn, eidRfnc}
+use Rattle.consts.specs.Sbi.{eidSpi, eidHsm, eidHvc, eidDbcn, eidRfnc}
 use Rattle.registers.specs.Bits.{spvpOf, sieOf, withBits}
 use Rattle.registers.specs.Values.{guestPageFaultAddr}
 use Rattle.sbi_ipi.specs.Ipi.{standardRequest}
@@ -154,14 +154,27 @@ calls eid fid = set (set zeros 17 eid) 16 fid
 abbrev row : ℕ → List ℕ → Row
 row r x = record { register = r; content = 9; before = recordOf x; trap = ecall; later = [] }
 
-pub rows-matter : allMatter (row a7 (calls 2 0) ∷ row a0 (calls 0 0) ∷ row a5 (calls eidHvc 0) ∷ row a0 (calls eidTime 0) ∷ row a0 (calls eidSrst 0) ∷ row a1 (calls eidSpi 0) ∷ row a2 (calls eidHsm 0) ∷ row a2 (set (calls eidDbcn 0) 10 3) ∷ []) ≡ true
+-- a7; legacy 0, a0; HVC, a5; sPI 0, a1; HSM 0, a2; DBCN 0, a2
+abbrev rows : List Row
+rows =
+    row a7 (calls 2 0)
+    ∷ row a0 (calls 0 0)
+    ∷ row a5 (calls eidHvc 0)
+    ∷ row a1 (calls eidSpi 0)
+    ∷ row a2 (calls eidHsm 0)
+    ∷ row a2 (set (calls eidDbcn 0) 10 3)
+    ∷ []
+
+pub rows-matter : allMatter rows ≡ true
 unfolding opened
 rows-matter = refl
 
+-- csrrw of x5
 pub stimecmp-matters : matters (record { register = 5; content = 9; before = recordOf zeros; trap = trapped 22 0x14D292F3 0; later = [] }) ≡ true
 unfolding opened
 stimecmp-matters = rw (csrrw-opcode, csrrw-csr, csrrw-funct3, csrrw-rs1)
 
+-- sw of x7
 pub store-matters : matters (record { register = 7; content = 6; before = recordOf (set zeros 7 5); trap = trapped 23 0 0x702023; later = [] }) ≡ true
 unfolding opened
 store-matters = rw (sw-x7, storeSource-store, cut-5, cut-6)

@@ -212,5 +212,5 @@ zero-unwritten v [] = refl
 zero-unwritten v (c ∷ cs) = rw (zero-wrote (effectOf v c .writes), zero-unwritten (stepOf v c) cs)
 
 -- demand 3 with r = 0 has no premise but that the records are alike
-pub third-zero : (v w : Vcpu) (front back : List Call) → Alike 0 v w → Third 0 v w front
-third-zero v w front back a = third 0 v w front back a (zero-untouched v (front ++ back))
+pub third-zero : (v w : Vcpu) (cs : List Call) → Alike 0 v w → Third 0 v w cs
+third-zero v w cs a = third 0 v w cs [] a (zero-untouched v (cs ++ []))
