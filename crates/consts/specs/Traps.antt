@@ -45,11 +45,11 @@ instructionPageFault = 12
 unfoldable pub supervisorExternal : ℕ → Bool
 supervisorExternal v = or (eqb v 9) (eqb v supervisorExt)
 
--- interrupt codes 0 to 12 have a meaning
+-- the known interrupt codes: 0 to 12
 unfoldable pub knownInterrupt : ℕ → Bool
 knownInterrupt code = leb code 12
 
--- exception codes 0 to 13, 15 and 20 to 23 have one
+-- the known exception codes: 0 to 13, 15 and 20 to 23
 unfoldable pub knownException : ℕ → Bool
 knownException code =
     pick (leb code 13) true
@@ -57,6 +57,6 @@ knownException code =
     (pick (ltb code 20) false
     (leb code 23)))
 
--- scause is one of these
+-- scause is a known code, with the interrupt bit or without
 unfoldable pub knownCause : ℕ → Bool
 knownCause scause = pick (ltb scause interruptBit) (knownException scause) (knownInterrupt (scause - interruptBit))

@@ -1,5 +1,5 @@
 // The numbers of the RISC-V privileged architecture and of SBI that the handler goes by, one place for each.
-// specs/ has the same numbers as definitions; every function that uses one is proved against those.
+// specs/ has the numbers that definitions go by; every function that uses a constant here is proved against those.
 ghost use mathlib.Core.Path.{_≡_};
 ghost use Rattle.consts.specs.Traps.{knownCause, knownException, knownInterrupt, supervisorExternal};
 
@@ -15,7 +15,7 @@ pub const S_SOFT: u64 = INTC_IRQ_BASE + 1;
 pub const S_TIMER: u64 = INTC_IRQ_BASE + 5;
 
 pub const S_EXT: u64 = INTC_IRQ_BASE + S_EXT_CODE;
-// The last interrupt code with a meaning: supervisor guest external.
+// The last interrupt code that is known: supervisor guest external.
 pub const LAST_INTERRUPT: u64 = 12;
 
 pub const INST_ADDR_MISALIGN: u64 = 0;
@@ -135,7 +135,7 @@ pub fn is_supervisor_external(vector: u64) -> bool
     vector == S_EXT_CODE || vector == S_EXT
 }
 
-// Whether the privileged manual gives this scause a meaning.
+// Whether scause is one of the causes that document 01 knows.
 pub fn is_known_cause(scause: u64) -> bool
     ensures { λ r. ⌜ r ≡ knownCause scause ⌝ }
 {

@@ -36,6 +36,6 @@ decodeBy opcode w =
     (pick (eqb opcode 0x23) (storeOf (funct3Field w) (rs2Field w))
     decoded.Neither)
 
--- the load or store that a word is
+-- the load or store that the low 32 bits of a word are
 unfoldable pub decodeOf : ℕ → Decoded
 decodeOf w = decodeBy (opcodeField w) w

@@ -11,7 +11,7 @@ use Rattle.decoder.specs.declared.Trapped.the-variants as trapped
 use Rattle.decoder.specs.Decode.{decodeOf}
 
 -- the low 32 bits of htinst. 0x3000 and 0x3020: a read or write of the page-table walk, and no instruction. Else low bits 01
--- where the instruction is 2 bytes long, 11 where it is 4; the word to decode ends in 11
+-- where the instruction is 2 bytes long, 11 where it is 4; the word to decode ends in 11. Bits 4..2 are not asked here
 unfoldable pub transformedOf : ℕ → Trapped
 transformedOf w =
     pick (eqb w 0x3000) trapped.Pseudo
@@ -24,7 +24,8 @@ transformedOf w =
 unfoldable pub htinstOf : ℕ → Trapped
 htinstOf h = pick (eqb h 0) trapped.Absent (transformedOf (h % 2 ^ 32))
 
--- a fetched word: low two bits not 3 is length 2 (16 bits are kept), bits 4..2 not 7 is length 4
+-- a fetched word: low two bits not 3 is length 2 (16 bits are kept, and a word that ends so is no 32-bit load or store),
+-- bits 4..2 not 7 is length 4
 unfoldable pub fetchedOf : ℕ → Trapped
 fetchedOf w =
     pick (eqb (w % 4) 3)

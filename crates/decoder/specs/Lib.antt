@@ -4,3 +4,5 @@ pub mod Length
 pub mod Extend
 pub mod Laws
 pub mod Examples
+pub mod Errors
+pub mod Extended

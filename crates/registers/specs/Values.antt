@@ -3,7 +3,7 @@ use Prim.Native.Nat.{ℕ, _+_, _*_, _/_, _%_, _^_}
 use lib.Bits.{bitOr}
 use Rattle.types.specs.declared.GuestPhysAddr.{GuestPhysAddr}
 
--- hgatp: MODE in bits 63..60, VMID 0 in bits 57..44, in bits 43..0 the root's page number, cut to 44 bits
+-- hgatp: MODE in bits 63..60, bits 59..58 are 0, VMID 0 in bits 57..44, in bits 43..0 the root's page number, cut to 44 bits
 unfoldable pub hgatpOf : ℕ → ℕ → ℕ
 hgatpOf mode root = mode % 2 ^ 4 * 2 ^ 60 + root / 2 ^ 12 % 2 ^ 44
 

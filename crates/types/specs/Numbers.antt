@@ -1,5 +1,8 @@
 -- The numbers that document 01 gives to widths, accesses, exits, asks, answers and errors.
 use Prim.Native.Nat.{ℕ}
+use mathlib.Core.Bool.{Bool, true, false}
+use Rattle.types.specs.declared.IpiAbi.{IpiAbi}
+use Rattle.types.specs.declared.IpiAbi.the-variants as abi
 use Rattle.types.specs.declared.Width.{Width}
 use Rattle.types.specs.declared.Width.the-variants as width
 use Rattle.types.specs.declared.Access.{Access}
@@ -22,7 +25,7 @@ widthBytes width.Half = 2
 widthBytes width.Word = 4
 widthBytes width.Double = 8
 
--- the flags READ, WRITE and EXECUTE
+-- READ, WRITE and EXECUTE, as the flags of the published types
 unfoldable pub accessNumber : Access → ℕ
 accessNumber access.Read = 1
 accessNumber access.Write = 2
@@ -84,3 +87,13 @@ errorNumber error.InvalidTrap = 4
 errorNumber error.DecodeFailed = 5
 errorNumber error.GuestMemoryFault = 6
 errorNumber error.WrongAnswer = 7
+
+-- legacy 0, v0.2 1
+unfoldable pub abiNumber : IpiAbi → ℕ
+abiNumber abi.Legacy = 0
+abiNumber abi.SbiV02 = 1
+
+-- yes 1, no 0
+unfoldable pub flagOf : Bool → ℕ
+flagOf true = 1
+flagOf false = 0

@@ -15,6 +15,10 @@ abbrev pub and : Bool → Bool → Bool
 and true b = b
 and false b = false
 
+abbrev pub not : Bool → Bool
+not true = false
+not false = true
+
 -- modulo 2^64
 abbrev pub wrapped : ℕ → ℕ
 wrapped n = n % 2 ^ 64

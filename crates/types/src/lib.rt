@@ -1,7 +1,8 @@
 // The types that several crates share: addresses, widths, asks, answers, exits, errors.
-// Each enum has its number in document 01 by a definition in specs/Numbers.antt.
+// specs/Numbers.antt gives each enum's number in document 01, specs/Values.antt the numbers that its cases carry.
 ghost use mathlib.Core.Path.{_≡_};
-ghost use Rattle.types.specs.Numbers.{accessNumber, answerNumber, askNumber, errorNumber, exitNumber, fetchNumber, widthBytes};
+ghost use Rattle.types.specs.Values.{askValues, exitValues};
+ghost use Rattle.types.specs.Numbers.{abiNumber, accessNumber, answerNumber, askNumber, errorNumber, exitNumber, fetchNumber, flagOf, widthBytes};
 
 // An address in a guest's physical memory.
 pub struct GuestPhysAddr(pub u64);
@@ -30,7 +31,7 @@ pub enum IpiAbi {
     SbiV02,
 }
 
-// The harts that a guest wants to interrupt: bit i of the mask is hart base + i.
+// The harts that a guest wants to interrupt, as SBI's hart mask and its base.
 pub struct IpiRequest {
     pub mask: u64,
     pub base: u64,
@@ -270,4 +271,75 @@ pub fn fetch_number(f: Fetch) -> u64
         Fetch::GuestPage(_) => 4,
         Fetch::Unhandled => 5,
     }
+}
+
+// The numbers that an exit carries, in order, and 0 for each that it lacks.
+pub fn exit_values(e: Exit) -> [u64; 3]
+    ensures { λ r. ⌜ r ≡ exitValues e ⌝ }
+{
+    match e {
+        Exit::Nothing => [0, 0, 0],
+        Exit::ExternalInterrupt { vector } => [vector, 0, 0],
+        Exit::SendIpi(r) => {
+            let abi = r.abi;
+            [r.mask, r.base, abi_number(abi)]
+        }
+        Exit::CpuUp {
+            target_cpu,
+            entry_point,
+            arg,
+        } => [target_cpu, entry_point.0, arg],
+        Exit::CpuDown { state } => [state, 0, 0],
+        Exit::Halt => [0, 0, 0],
+        Exit::Hypercall { nr } => [nr, 0, 0],
+        Exit::SystemDown => [0, 0, 0],
+        Exit::NestedPageFault { addr, access } => [addr.0, access_number(access), 0],
+        Exit::MmioRead { addr, width } => [addr.0, width_bytes(width), 0],
+        Exit::MmioWrite { addr, width, data } => [addr.0, width_bytes(width), data],
+    }
+}
+
+// The numbers that an ask carries, in order, and 0 for each that it lacks.
+pub fn ask_values(a: Ask) -> [u64; 8]
+    ensures { λ r. ⌜ r ≡ askValues a ⌝ }
+{
+    match a {
+        Ask::Fetch { at, supervisor } => [at.0, flag(supervisor), 0, 0, 0, 0, 0, 0],
+        Ask::CopyMask { at } => [at.0, 0, 0, 0, 0, 0, 0, 0],
+        Ask::CopyIn { at, count } => [at.0, count, 0, 0, 0, 0, 0, 0],
+        Ask::Print { count } => [count, 0, 0, 0, 0, 0, 0, 0],
+        Ask::ReadConsole { count } => [count, 0, 0, 0, 0, 0, 0, 0],
+        Ask::CopyOut { at, count } => [at.0, count, 0, 0, 0, 0, 0, 0],
+        Ask::Emit { number } => [number, 0, 0, 0, 0, 0, 0, 0],
+        Ask::GetChar => [0, 0, 0, 0, 0, 0, 0, 0],
+        Ask::Forward { eid, fid, args } => [
+            eid,
+            fid,
+            args.a0,
+            args.a1,
+            args.a2,
+            args.a3,
+            args.a4,
+            args.a5,
+        ],
+    }
+}
+
+// The calling convention's number.
+pub fn abi_number(a: IpiAbi) -> u64
+    ensures { λ r. ⌜ r ≡ abiNumber a ⌝ }
+{
+    match a {
+        IpiAbi::Legacy => 0,
+        IpiAbi::SbiV02 => 1,
+    }
+}
+
+fn flag(b: bool) -> u64
+    ensures { λ r. ⌜ r ≡ flagOf b ⌝ }
+{
+    if b {
+        return 1;
+    }
+    0
 }

@@ -1,0 +1,163 @@
+-- When each number of 01's table 'Refusals and errors by number' is given, from that table and 01's Classes.
+-- For each call: whether it gives error e, for every e. So a number is given exactly where its name stands here.
+use Prim.Native.Nat.{ℕ, _%_, _^_}
+use mathlib.Core.Bool.{Bool, true, false}
+use lib.Dec.{eqb, ltb}
+use Rattle.types.specs.Pick.{pick, or, and, not}
+use Rattle.types.specs.Numbers.{answerNumber, errorNumber}
+use Rattle.types.specs.declared.Answer.{Answer}
+use Rattle.types.specs.declared.Answer.the-variants as answer
+use Rattle.types.specs.declared.Error.{Error}
+use Rattle.types.specs.declared.Error.the-variants as error
+use Rattle.types.specs.declared.Fetch.{Fetch}
+use Rattle.types.specs.declared.Fetch.the-variants as fetch
+use Rattle.types.specs.declared.Reply.{Reply}
+use Rattle.types.specs.declared.Reply.the-variants as reply
+use Rattle.types.specs.declared.Trap.{Trap}
+use Rattle.consts.specs.Csr.{systemOpcode, stimecmp}
+use Rattle.consts.specs.Traps.{envCallFromVs, virtualInstruction, loadGuestPageFault, storeGuestPageFault, supervisorSoft, supervisorTimer, supervisorExt, supervisorExternal, knownCause}
+use Rattle.decoder.specs.Fields.{opcodeField, funct3Field, csrField}
+use Rattle.decoder.specs.Errors.{longWord, pseudoWord, unfitWord}
+use Rattle.regs.specs.declared.Vcpu.{Vcpu}
+use Rattle.regs.specs.declared.Waiting.{Waiting}
+use Rattle.regs.specs.declared.Waiting.the-variants as waiting
+use Rattle.regs.specs.Record.{isIdle, waitingAsk}
+
+-- the two are one error: their numbers are equal
+unfoldable pub is : Error → Error → Bool
+is e y = eqb (errorNumber e) (errorNumber y)
+
+-- the reply is error e
+unfoldable pub gives : Error → Reply → Bool
+gives e (reply.Exit x) = false
+gives e (reply.Ask a) = false
+gives e reply.Done = false
+gives e (reply.Value n) = false
+gives e (reply.Error y) = is e y
+
+-- 01, Classes
+pub data Class : Type 0 where
+  ecall : Class
+  virtual-instruction : Class
+  page-fault : Class
+  host-interrupt : Class
+  not-handled : Class
+  unknown : Class
+
+-- exceptions 10, 22, 21 and 23; interrupts 1, 5 and 9; other known codes; all else
+unfoldable pub classOf : ℕ → Class
+classOf s =
+    pick (eqb s envCallFromVs) ecall
+    (pick (eqb s virtualInstruction) virtual-instruction
+    (pick (eqb s loadGuestPageFault) page-fault
+    (pick (eqb s storeGuestPageFault) page-fault
+    (pick (eqb s supervisorSoft) host-interrupt
+    (pick (eqb s supervisorTimer) host-interrupt
+    (pick (eqb s supervisorExt) host-interrupt
+    (pick (knownCause s) not-handled unknown)))))))
+
+-- funct3 1, 2, 3, 5, 6 or 7
+unfoldable pub csrFunct3 : ℕ → Bool
+csrFunct3 f = or (eqb f 1) (or (eqb f 2) (or (eqb f 3) (or (eqb f 5) (or (eqb f 6) (eqb f 7)))))
+
+-- a word that is no CSR instruction on stimecmp
+unfoldable pub otherWord : ℕ → Bool
+otherWord w = not (and (eqb (opcodeField w) systemOpcode) (and (eqb (csrField w) stimecmp) (csrFunct3 (funct3Field w))))
+
+-- stval has an instruction, and it is another one
+unfoldable pub otherStval : ℕ → Bool
+otherStval stval = and (eqb (opcodeField (stval % 2 ^ 32)) systemOpcode) (otherWord (stval % 2 ^ 32))
+
+-- a start, by class: 3 for another virtual instruction, a pseudo htinst, or a known code not handled; 5 by the length
+-- rule; 4 for an unknown scause
+unfoldable pub classWhen : Class → Trap → Error → Bool
+classWhen ecall t e = false
+classWhen virtual-instruction t e = and (otherStval (t .stval)) (is e error.Unsupported)
+classWhen page-fault t e =
+    pick (pseudoWord (t .htinst)) (is e error.Unsupported) (and (unfitWord (t .htinst)) (is e error.DecodeFailed))
+classWhen host-interrupt t e = false
+classWhen not-handled t e = is e error.Unsupported
+classWhen unknown t e = is e error.Unsupported
+
+-- a start while an ask or a load waits: 2
+unfoldable pub startWhen : Vcpu → Trap → Error → Bool
+startWhen v t e = pick (isIdle (v .waiting)) (classWhen (classOf (t .scause)) t e) (is e error.BadState)
+
+-- the word of a fetch's answer: 3 for another virtual instruction, 5 by the length rule
+unfoldable pub wordWhen : Waiting → ℕ → Error → Bool
+wordWhen waiting.FetchCsr w e = and (otherWord w) (is e error.Unsupported)
+wordWhen (waiting.FetchFault at k) w e = and (longWord w) (is e error.DecodeFailed)
+wordWhen waiting.Idle w e = is e error.WrongAnswer
+wordWhen (waiting.Load rd l s) w e = is e error.WrongAnswer
+wordWhen waiting.CopyMask w e = is e error.WrongAnswer
+wordWhen (waiting.CopyIn n) w e = is e error.WrongAnswer
+wordWhen (waiting.Print n) w e = is e error.WrongAnswer
+wordWhen (waiting.ReadConsole n at) w e = is e error.WrongAnswer
+wordWhen (waiting.CopyOut n) w e = is e error.WrongAnswer
+wordWhen waiting.PutChar w e = is e error.WrongAnswer
+wordWhen waiting.PutByte w e = is e error.WrongAnswer
+wordWhen waiting.GetChar w e = is e error.WrongAnswer
+wordWhen waiting.Forward w e = is e error.WrongAnswer
+
+-- a fetch's answer: 6 for an unhandled fault
+unfoldable pub fetchWhen : Waiting → Fetch → Error → Bool
+fetchWhen n (fetch.Word w) e = wordWhen n w e
+fetchWhen n (fetch.Page a) e = false
+fetchWhen n (fetch.Access a) e = false
+fetchWhen n (fetch.Misaligned a) e = false
+fetchWhen n (fetch.GuestPage a) e = false
+fetchWhen n fetch.Unhandled e = is e error.GuestMemoryFault
+
+-- an answer of the right kind: only a fetch can end in an error
+unfoldable pub fittingWhen : Waiting → Answer → Error → Bool
+fittingWhen n (answer.Fetched f) e = fetchWhen n f e
+fittingWhen n (answer.MaskCopied k b) e = false
+fittingWhen n (answer.CopiedIn k) e = false
+fittingWhen n (answer.Printed x v) e = false
+fittingWhen n (answer.ConsoleRead x v) e = false
+fittingWhen n (answer.CopiedOut k) e = false
+fittingWhen n answer.Emitted e = false
+fittingWhen n (answer.Char k) e = false
+fittingWhen n (answer.Forwarded x v) e = false
+
+-- an answer to no ask, or of another ask's kind: 7
+unfoldable pub answerWhen : Vcpu → Answer → Error → Bool
+answerWhen v a e =
+    pick (eqb (waitingAsk (v .waiting)) (answerNumber a)) (fittingWhen (v .waiting) a e) (is e error.WrongAnswer)
+
+-- a load completion with none waiting: 2
+unfoldable pub loadWaits : Waiting → Bool
+loadWaits (waiting.Load rd w s) = true
+loadWaits waiting.Idle = false
+loadWaits waiting.FetchCsr = false
+loadWaits (waiting.FetchFault at k) = false
+loadWaits waiting.CopyMask = false
+loadWaits (waiting.CopyIn n) = false
+loadWaits (waiting.Print n) = false
+loadWaits (waiting.ReadConsole n at) = false
+loadWaits (waiting.CopyOut n) = false
+loadWaits waiting.PutChar = false
+loadWaits waiting.PutByte = false
+loadWaits waiting.GetChar = false
+loadWaits waiting.Forward = false
+
+unfoldable pub loadWhen : Vcpu → Error → Bool
+loadWhen v e = pick (loadWaits (v .waiting)) false (is e error.BadState)
+
+-- any other changing call while an ask waits: 2, and that before 1 for an argument that is not allowed
+unfoldable pub changingWhen : Vcpu → Bool → Error → Bool
+changingWhen v allowed e =
+    pick (eqb (waitingAsk (v .waiting)) 0) (and (not allowed) (is e error.InvalidInput)) (is e error.BadState)
+
+-- a register index up to 31
+unfoldable pub indexAllowed : ℕ → Bool
+indexAllowed i = ltb i 32
+
+-- levels 3 with mode 8, levels 4 with mode 9, and root & 0x3fff = 0
+unfoldable pub pagingAllowed : ℕ → ℕ → ℕ → Bool
+pagingAllowed levels mode root =
+    and (pick (eqb levels 3) (eqb mode 8) (and (eqb levels 4) (eqb mode 9))) (eqb (root % 2 ^ 14) 0)
+
+-- vectors 2^63+1, 2^63+5, 9 and 2^63+9
+unfoldable pub vectorAllowed : ℕ → Bool
+vectorAllowed v = or (eqb v supervisorSoft) (or (eqb v supervisorTimer) (supervisorExternal v))

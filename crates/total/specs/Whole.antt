@@ -1,0 +1,55 @@
+-- A whole trap: its start and the answers that carry it on. 01, One trap; Refusals and errors by number.
+use Prim.Native.Nat.{ℕ}
+use mathlib.Core.Bool.{Bool, true, false}
+use mathlib.Core.List.{List, [], _∷_}
+use mathlib.Core.Path.{_≡_}
+use Rattle.types.specs.declared.Answer.{Answer}
+use Rattle.types.specs.declared.Error.{Error}
+use Rattle.types.specs.declared.Error.the-variants as error
+use Rattle.types.specs.declared.Reply.{Reply}
+use Rattle.types.specs.declared.Reply.the-variants as reply
+use Rattle.types.specs.declared.Trap.{Trap}
+use Rattle.regs.specs.declared.Event.the-variants as event
+use Rattle.regs.specs.declared.Outcome.{Outcome}
+use Rattle.regs.specs.declared.Vcpu.{Vcpu}
+use Rattle.regs.specs.declared.Waiting.the-variants as waiting
+use Rattle.regs.specs.Record.{counted}
+use Rattle.vcpu.specs.Calls.{startOf, answerOf}
+
+-- answers given one after the other, in turn or not
+unfoldable pub carried : Outcome → List Answer → Outcome
+carried o [] = o
+carried o (a ∷ l) = carried (answerOf (o .vcpu) a) l
+
+-- a start and the answers after it
+unfoldable pub wholeOf : Vcpu → Trap → List Answer → Outcome
+wholeOf v t l = carried (startOf v t) l
+
+-- errors 3 to 6 end a trap; 1, 2 and 7 are refusals
+unfoldable pub endsTrap : Error → Bool
+endsTrap error.InvalidInput = false
+endsTrap error.BadState = false
+endsTrap error.Unsupported = true
+endsTrap error.InvalidTrap = true
+endsTrap error.DecodeFailed = true
+endsTrap error.GuestMemoryFault = true
+endsTrap error.WrongAnswer = false
+
+unfoldable pub inError : Reply → Bool
+inError (reply.Exit x) = false
+inError (reply.Ask a) = false
+inError reply.Done = false
+inError (reply.Value n) = false
+inError (reply.Error e) = endsTrap e
+
+-- the counts as they were, or with one more of event 2
+pub data Counted (k : List ℕ) : List ℕ → Type 0 where
+  same : Counted k k
+  illegal : Counted k (counted k event.IllegalInsn)
+
+-- the record u after a trap on v that ended in an error: no register and no CSR changed, nothing waits
+pub record Over (v u : Vcpu) : Type 0 where
+  pub x : u .x ≡ v .x
+  pub csrs : u .csrs ≡ v .csrs
+  pub waiting : u .waiting ≡ waiting.Idle
+  pub counts : Counted (v .counts) (u .counts)

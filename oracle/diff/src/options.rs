@@ -1,0 +1,108 @@
+//! The command line.
+
+use std::path::PathBuf;
+
+use crate::generate::CLASSES;
+use crate::switches::{Board, SWITCHES};
+
+#[derive(Clone, Copy, PartialEq, Eq)]
+pub enum Mode {
+    /// Each trap from a record of its own.
+    Single,
+    /// Many traps on one record.
+    Sequence,
+    /// Half and half.
+    Both,
+    /// Calls out of turn, judged by the model; `--traps` counts calls.
+    Refusals,
+}
+
+pub struct Options {
+    pub seed: u64,
+    pub traps: u64,
+    pub mode: Mode,
+    /// Traps in one sequence.
+    pub length: u64,
+    /// Which classes are on.
+    pub only: Vec<bool>,
+    pub board: Board,
+    /// The folder to write captures into, instead of a run.
+    pub captures: Option<PathBuf>,
+}
+
+const USAGE: &str = "\
+usage: diff [--seed N] [--traps N] [--mode single|sequence|both|refusals]
+            [--length N] [--only CLASS]... [--off SWITCH]... [--list]
+            [--captures FOLDER]
+
+Runs random traps on the published Rust and on the subject, and compares exit,
+requests and the whole later record. Ends with `0 unexplained` and status 0 if
+they agree but for the switches and everything was reached.
+
+Mode refusals compares calls in and out of turn on the subject and the model;
+--traps counts calls there. --captures writes captures for the replay program
+with the Rust's output for each, and runs nothing else.";
+
+/// The options, or the text to print instead of a run.
+pub fn read(mut args: impl Iterator<Item = String>) -> Result<Options, String> {
+    let mut options = Options {
+        seed: 1,
+        traps: 1_000_000,
+        mode: Mode::Both,
+        length: 1000,
+        only: vec![false; CLASSES.len()],
+        board: Board::all_on(),
+        captures: None,
+    };
+    while let Some(arg) = args.next() {
+        if arg == "--list" {
+            return Err(list());
+        }
+        let Some(value) = args.next() else {
+            return Err(USAGE.into());
+        };
+        match arg.as_str() {
+            "--seed" => options.seed = number(&value)?,
+            "--traps" => options.traps = number(&value)?,
+            "--length" => options.length = number(&value)?.max(1),
+            "--mode" => {
+                options.mode = match value.as_str() {
+                    "single" => Mode::Single,
+                    "sequence" => Mode::Sequence,
+                    "both" => Mode::Both,
+                    "refusals" => Mode::Refusals,
+                    _ => return Err(USAGE.into()),
+                }
+            }
+            "--captures" => options.captures = Some(PathBuf::from(value)),
+            "--only" => {
+                let Some(at) = CLASSES.iter().position(|name| *name == value) else {
+                    return Err(format!("no class {value}\n{}", list()));
+                };
+                options.only[at] = true;
+            }
+            "--off" => {
+                if !options.board.turn_off(&value) {
+                    return Err(format!("no switch {value}\n{}", list()));
+                }
+            }
+            _ => return Err(USAGE.into()),
+        }
+    }
+    if !options.only.contains(&true) {
+        options.only.fill(true);
+    }
+    Ok(options)
+}
+
+fn number(text: &str) -> Result<u64, String> {
+    text.replace('_', "").parse().map_err(|_| format!("{text} is no number\n{USAGE}"))
+}
+
+fn list() -> String {
+    let mut text = format!("{USAGE}\n\nclasses: {}\n\nswitches:\n", CLASSES.join(" "));
+    for (_, name, what) in SWITCHES {
+        text += &format!("  {name:18}{what}\n");
+    }
+    text
+}

@@ -1,0 +1,126 @@
+//! Calls in and out of turn on the subject and on the model. The Rust has no
+//! counterpart of refusals 1, 2 and 7 and of load completions, so the model
+//! judges these.
+
+use model::*;
+
+use crate::calls::{random_call, vector};
+use crate::generate;
+use crate::instructions::{load, other, stimecmp, store};
+use crate::random::Random;
+use crate::subject::{Model, Subject};
+
+/// How often each number was refused, at its index.
+pub type Refused = [u64; 8];
+
+/// Makes `length` calls on one record; the mismatch in words if there is one.
+pub fn run(
+    r: &mut Random,
+    length: u64,
+    subject: &mut dyn Subject,
+    refused: &mut Refused,
+) -> Result<(), String> {
+    let mut judge = Model(generate::record(r));
+    subject.load(&judge.0);
+    for _ in 0..length {
+        let before = judge.record();
+        let call = any_call(r, &before);
+        let (due, is) = (judge.call(&call), subject.call(&call));
+        if let Reply::Error(error) = due {
+            refused[error.number() as usize] += 1;
+            let quiet = matches!(error.number(), 1 | 2 | 7);
+            if quiet && judge.0 != before {
+                return Err(format!("the model changed its record in a refused {call:x?}"));
+            }
+        }
+        let buffer: [u8; 64] = std::array::from_fn(|i| i as u8);
+        let lent = &buffer[..r.below(65) as usize];
+        let same_bytes = judge.to_print(lent) == subject.to_print(lent);
+        if due != is || judge.0 != subject.record() || !same_bytes {
+            return Err(format!(
+                "{call:x?}\n  on {before:x?}\n  model {due:x?}\n    {:x?}\n  {} {is:x?}\n    {:x?}\n",
+                judge.0,
+                subject.name(),
+                subject.record(),
+            ));
+        }
+    }
+    Ok(())
+}
+
+/// Any call; half of them carry the trap on.
+fn any_call(r: &mut Random, record: &Vcpu) -> Call {
+    if r.coin() {
+        return match record.waiting {
+            Waiting::Nothing => start(r, record),
+            Waiting::Load { .. } => Call::CompleteLoad { number: r.edgy() },
+            waiting => Call::Answer(fitting_answer(r, &waiting)),
+        };
+    }
+    match r.below(5) {
+        0 => Call::SetVirtualInterruptPending { vector: vector(r), pending: r.coin() },
+        1 => start(r, record),
+        2 => {
+            let kind = r.pick(&waitings());
+            Call::Answer(fitting_answer(r, &kind))
+        }
+        3 => Call::CompleteLoad { number: r.edgy() },
+        _ => random_call(r),
+    }
+}
+
+/// A trap by its numbers alone: the record stays as it is, so that an ecall
+/// is whatever the registers make it. Registers are written by calls.
+fn start(r: &mut Random, record: &Vcpu) -> Call {
+    let class = r.below(generate::CLASSES.len() as u64) as usize;
+    Call::Start(generate::input(r, class, record.clone()).trap)
+}
+
+/// One waiting part of each kind.
+fn waitings() -> [Waiting; 9] {
+    [
+        Waiting::Fetch(FetchFor::VirtualInstruction),
+        Waiting::Mask,
+        Waiting::CopyIn { n: 1 },
+        Waiting::Print { n: 1 },
+        Waiting::Read { n: 1, at: GuestPhysAddr(0) },
+        Waiting::CopyOut { v: 1 },
+        Waiting::Emit(EmitFor::Byte),
+        Waiting::GetChar,
+        Waiting::Forward,
+    ]
+}
+
+/// An answer of the kind that the waiting part wants.
+fn fitting_answer(r: &mut Random, waiting: &Waiting) -> Answer {
+    match *waiting {
+        Waiting::Fetch(_) => {
+            let at = r.edgy();
+            Answer::Fetch(match r.below(10) {
+                0 => FetchAnswer::Page(GuestVirtAddr(at)),
+                1 => FetchAnswer::Access(GuestVirtAddr(at)),
+                2 => FetchAnswer::Misaligned(GuestVirtAddr(at)),
+                3 => FetchAnswer::GuestPage(GuestPhysAddr(at)),
+                4 => FetchAnswer::Unhandled,
+                5 => FetchAnswer::Word(stimecmp(r)),
+                6 => FetchAnswer::Word(load(r)),
+                7 => FetchAnswer::Word(store(r)),
+                8 => FetchAnswer::Word(other(r)),
+                _ => FetchAnswer::Word(at as u32),
+            })
+        }
+        Waiting::Mask => Answer::Mask { count: r.around(8), bytes: r.number() },
+        Waiting::CopyIn { n } => Answer::CopyIn { count: r.around(n) },
+        Waiting::Print { n } => Answer::Print { error: r.edgy(), value: r.around(n) },
+        Waiting::Read { n, .. } => {
+            let error = if r.coin() { 0 } else { r.edgy() };
+            Answer::Read { error, value: r.around(n) }
+        }
+        Waiting::CopyOut { v } => Answer::CopyOut { count: r.around(v) },
+        Waiting::Emit(_) => Answer::Emit,
+        Waiting::GetChar => Answer::GetChar { number: r.edgy() },
+        Waiting::Forward | Waiting::Nothing | Waiting::Load { .. } => {
+            Answer::Forward { error: r.edgy(), value: r.edgy() }
+        }
+    }
+}

@@ -1,0 +1,131 @@
+//! The smallest input of each known difference, as docs/DIFFERENCES.md has
+//! it: the two sides part with the switch off and agree with it on.
+
+use model::{Call, Trap, Vcpu, EID_DBCN, EID_TIME};
+use scripted::{Fetched, Script};
+
+use crate::compare::run_both;
+use crate::input::Input;
+use crate::outcome::*;
+use crate::rust_side::RustSide;
+use crate::subject::{Model, Subject};
+use crate::switches::{adjust_call, Board, SWITCHES};
+
+fn input(scause: u64) -> Input {
+    Input {
+        record: Vcpu::zero(),
+        trap: Trap { scause, stval: 0, htval: 0, htinst: 0, room: 0 },
+        script: Script::ZERO,
+        bound: false,
+        stale: None,
+    }
+}
+
+fn ecall(registers: &[(usize, u64)]) -> Input {
+    let mut input = input(10);
+    for &(index, number) in registers {
+        input.record.x[index] = number;
+    }
+    input
+}
+
+fn fetched(scause: u64, word: u32) -> Input {
+    let mut input = input(scause);
+    input.script.fetch = Fetched::Word(word);
+    input
+}
+
+fn with(mut input: Input, change: impl FnOnce(&mut Input)) -> Input {
+    change(&mut input);
+    input
+}
+
+/// Each input with its switch, 01's ending and the Rust's.
+fn inputs() -> Vec<(&'static str, Input, Ending, Ending)> {
+    let nothing = Ending::NOTHING;
+    let nested = |flags| Ending::new(NESTED_PAGE_FAULT, &[0, flags]);
+    let csr = |stval| with(input(22), |i| i.trap.stval = stval);
+    let hvip = |input| with(input, |i| i.record.hvip = 0x40);
+    let htinst = |scause, htinst| with(input(scause), |i| i.trap.htinst = htinst);
+    let console = [(17, EID_DBCN), (10, 1)];
+    let read = with(ecall(&[(17, EID_DBCN), (16, 1), (10, 1)]), |i| i.trap.room = 1);
+    let stale = with(csr(0x14D0_20F3), |i| i.stale = Some(1));
+    let store = with(htinst(23, 0x10_0023), |i| i.record.x[1] = 0x100);
+    vec![
+        ("console-bound", ecall(&console), nothing, nothing),
+        ("console-a2", with(ecall(&console), |i| i.record.x[12] = 1), nothing, nothing),
+        ("empty-copy", read, nothing, nothing),
+        ("timer-tick", hvip(ecall(&[])), nothing, nothing),
+        ("timer-tick", hvip(ecall(&[(17, EID_TIME)])), nothing, nothing),
+        ("timer-tick", hvip(csr(0x14D1_2073)), nothing, nothing),
+        ("fetched-opcode", fetched(22, 0x14D0_2000), Ending::error(3), nothing),
+        ("trap-codes", input(2), Ending::error(3), Ending::error(4)),
+        ("trap-codes", input(1 << 63), Ending::error(3), Ending::error(4)),
+        ("direction", fetched(23, 0x03), nested(2), Ending::new(MMIO_READ, &[0, 1])),
+        ("direction", fetched(21, 0x23), nested(1), Ending::new(MMIO_WRITE, &[0, 1, 0])),
+        ("other-word-flags", htinst(21, 5), nested(1), nested(0)),
+        ("undecoded-word", fetched(21, 0), nested(1), Ending::error(5)),
+        (
+            "store-data",
+            store,
+            Ending::new(MMIO_WRITE, &[0, 1, 0]),
+            Ending::new(MMIO_WRITE, &[0, 1, 0x100]),
+        ),
+        (
+            "access-events",
+            htinst(21, 1),
+            Ending::new(MMIO_READ, &[0, 1]),
+            Ending::new(MMIO_READ, &[0, 1]),
+        ),
+        ("cached-vstimecmp", stale, nothing, nothing),
+    ]
+}
+
+fn off(name: &str) -> Board {
+    let mut board = Board::all_on();
+    assert!(board.turn_off(name));
+    board
+}
+
+#[test]
+fn each_switch_explains_its_input() {
+    let mut rust = RustSide::new();
+    let mut subject = Model(Vcpu::zero());
+    for (name, input, by_01, by_rust) in inputs() {
+        let pair = run_both(&mut Board::all_on(), &mut rust, &mut subject, &input, false);
+        assert!(pair.agree(), "{name}");
+        assert_eq!(pair.subject.ending, by_01, "{name}");
+        let pair = run_both(&mut off(name), &mut rust, &mut subject, &input, false);
+        assert!(!pair.agree(), "{name}");
+        if name != "console-a2" {
+            assert_eq!(pair.rust.ending, by_rust, "{name}");
+        }
+    }
+}
+
+#[test]
+fn each_switch_explains_its_call() {
+    let calls = [
+        ("register-index", Call::SetGpr { index: 32, value: 0 }, Ending::new(DONE, &[])),
+        ("vector-error", Call::InjectInterrupt { vector: 0 }, Ending::error(3)),
+    ];
+    for (name, call, by_rust) in calls {
+        let mut rust = RustSide::new();
+        rust.load(&Vcpu::zero(), false, None);
+        let mut outcome = rust.call(&call).unwrap();
+        adjust_call(&mut off(name), &call, &mut outcome);
+        assert_eq!(outcome.ending, by_rust, "{name}");
+        adjust_call(&mut Board::all_on(), &call, &mut outcome);
+        let mut subject = Model(Vcpu::zero());
+        assert_eq!(outcome.ending, Ending::of(&subject.call(&call)), "{name}");
+    }
+}
+
+#[test]
+fn every_switch_has_an_input() {
+    let named: Vec<&str> = inputs().iter().map(|i| i.0).collect();
+    for (_, name, _) in SWITCHES {
+        let is_call = name == "register-index" || name == "vector-error";
+        assert!(is_call || named.contains(&name), "{name}");
+    }
+}

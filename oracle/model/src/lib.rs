@@ -1,0 +1,26 @@
+//! Document 01's exit handler as a plain program, written from 01 and the
+//! recorded readings of it alone. It judges the published Rust and the proved
+//! library; it shares no line with either.
+
+#![forbid(unsafe_code)]
+
+mod calls;
+mod decode;
+mod ecall;
+mod fault;
+mod numbers;
+pub mod replay;
+mod trap;
+mod types;
+mod virtual_instruction;
+mod words;
+
+#[cfg(test)]
+mod marked_cases;
+#[cfg(test)]
+mod replay_tests;
+#[cfg(test)]
+mod rule_tests;
+
+pub use numbers::*;
+pub use types::*;

@@ -1,0 +1,346 @@
+//! Rules that the marked cases leave out: refusals, asks, readings.
+
+use crate::*;
+
+fn trap(scause: u64) -> Trap {
+    Trap { scause, stval: 0, htval: 0, htinst: 0, room: 4096 }
+}
+
+fn ecall(set: &[(usize, u64)]) -> Vcpu {
+    let mut v = Vcpu::zero();
+    for &(index, value) in set {
+        v.x[index] = value;
+    }
+    v
+}
+
+fn every_answer() -> Vec<Answer> {
+    vec![
+        Answer::Fetch(FetchAnswer::Unhandled),
+        Answer::Mask { count: 8, bytes: 1 },
+        Answer::CopyIn { count: 1 },
+        Answer::Print { error: 0, value: 1 },
+        Answer::Read { error: 0, value: 1 },
+        Answer::CopyOut { count: 1 },
+        Answer::Emit,
+        Answer::GetChar { number: 1 },
+        Answer::Forward { error: 0, value: 1 },
+    ]
+}
+
+fn every_waiting() -> Vec<Waiting> {
+    vec![
+        Waiting::Fetch(FetchFor::VirtualInstruction),
+        Waiting::Mask,
+        Waiting::CopyIn { n: 1 },
+        Waiting::Print { n: 1 },
+        Waiting::Read { n: 1, at: GuestPhysAddr(0) },
+        Waiting::CopyOut { v: 1 },
+        Waiting::Emit(EmitFor::Byte),
+        Waiting::GetChar,
+        Waiting::Forward,
+    ]
+}
+
+fn load() -> Waiting {
+    Waiting::Load { rd: 5, width: Width::One, signed: true }
+}
+
+/// Every changing call but an answer, some with bad arguments.
+fn changing_calls() -> Vec<Call> {
+    vec![
+        Call::Setup,
+        Call::SetEntry { entry: 0 },
+        Call::SetGpr { index: 0, value: 0 },
+        Call::SetGpr { index: 32, value: 0 },
+        Call::SetNestedPageTable { levels: 3, mode: 8, root: 0 },
+        Call::SetNestedPageTable { levels: 5, mode: 8, root: 0 },
+        Call::SetVirtualInterruptPending { vector: 9, pending: true },
+        Call::SetVirtualInterruptPending { vector: 1, pending: true },
+        Call::InjectInterrupt { vector: 7 },
+        Call::SetVseipLevel { asserted: true },
+        Call::LatchHvip { bits: 0 },
+        Call::SetReturnValue { value: 0 },
+        Call::CompleteIpi { abi: IpiAbi::Legacy, completion: IpiCompletion::Success },
+        Call::Start(trap(14)),
+        Call::CompleteLoad { number: 0 },
+    ]
+}
+
+#[test]
+fn a_waiting_ask_refuses_all_but_answers_and_reads() {
+    for waiting in every_waiting() {
+        let mut v = Vcpu { waiting, ..Vcpu::zero() };
+        let before = v.clone();
+        for call in changing_calls() {
+            assert_eq!(v.call(&call), Reply::Error(Error::BadState), "{call:?}");
+            assert_eq!(v, before);
+        }
+        assert_eq!(v.get_gpr(31), Reply::Value(0));
+        assert_eq!(v.get_gpr(32), Reply::Error(Error::InvalidInput));
+    }
+}
+
+#[test]
+fn a_waiting_load_refuses_starts_and_answers_only() {
+    for call in changing_calls() {
+        let mut v = Vcpu { waiting: load(), ..Vcpu::zero() };
+        let reply = v.call(&call);
+        match call {
+            Call::Start(_) => assert_eq!(reply, Reply::Error(Error::BadState)),
+            Call::CompleteLoad { .. } => assert_eq!(v.waiting, Waiting::Nothing),
+            _ => {
+                assert_ne!(reply, Reply::Error(Error::BadState));
+                assert_eq!(v.waiting, load());
+            }
+        }
+    }
+    let mut v = Vcpu { waiting: load(), ..Vcpu::zero() };
+    for answer in every_answer() {
+        assert_eq!(v.answer(&answer), Reply::Error(Error::WrongAnswer));
+        assert_eq!(v.waiting, load());
+    }
+}
+
+#[test]
+fn an_answer_fits_its_own_ask_alone() {
+    for (i, waiting) in every_waiting().into_iter().enumerate() {
+        for (j, answer) in every_answer().into_iter().enumerate() {
+            let mut v = Vcpu { waiting, ..Vcpu::zero() };
+            let before = v.clone();
+            let refused = v.answer(&answer) == Reply::Error(Error::WrongAnswer);
+            assert_eq!(refused, i != j);
+            assert!(!refused || v == before);
+        }
+    }
+    let mut v = Vcpu::zero();
+    for answer in every_answer() {
+        assert_eq!(v.answer(&answer), Reply::Error(Error::WrongAnswer));
+    }
+    assert_eq!(v.complete_load(0), Reply::Error(Error::BadState));
+    assert_eq!(v, Vcpu::zero());
+}
+
+#[test]
+fn bad_arguments() {
+    let mut v = Vcpu::zero();
+    for call in [
+        Call::GetGpr { index: 32 },
+        Call::SetGpr { index: u64::MAX, value: 1 },
+        Call::SetNestedPageTable { levels: 3, mode: 9, root: 0 },
+        Call::SetNestedPageTable { levels: 4, mode: 8, root: 0 },
+        Call::SetNestedPageTable { levels: 4, mode: 9, root: 0x2000 },
+        Call::InjectInterrupt { vector: 1 },
+        Call::InjectInterrupt { vector: INTERRUPT },
+        Call::SetVirtualInterruptPending { vector: 5, pending: false },
+    ] {
+        assert_eq!(v.call(&call), Reply::Error(Error::InvalidInput));
+    }
+    assert_eq!(v, Vcpu::zero());
+    assert_eq!(v.set_nested_page_table(4, 9, !0x3fff), Reply::Done);
+    assert_eq!(v.hgatp, 0x9000_0fff_ffff_fffc);
+}
+
+#[test]
+fn pending_bits() {
+    let mut v = Vcpu::zero();
+    v.latch_hvip(1 << 63);
+    v.inject_interrupt(INTERRUPT + 1);
+    v.inject_interrupt(INTERRUPT + 5);
+    v.inject_interrupt(9);
+    assert_eq!(v.hvip, 1 << 63 | 0x444);
+    v.set_virtual_interrupt_pending(INTERRUPT + 9, false);
+    v.set_virtual_interrupt_pending(INTERRUPT + 5, false);
+    assert_eq!(v.hvip, 1 << 63 | 4);
+    v.set_vseip_level(true);
+    assert_eq!(v.hvip, 1 << 63 | 0x404);
+}
+
+#[test]
+fn x0_reads_0_and_keeps_its_slot() {
+    let mut v = Vcpu::zero();
+    v.x[0] = 99;
+    v.vstimecmp = 7;
+    assert_eq!(v.set_gpr(0, 5), Reply::Done);
+    assert_eq!(v.get_gpr(0), Reply::Value(0));
+    // csrrw x0, stimecmp, x0
+    v.start(&Trap { stval: 0x14D0_1073, ..trap(22) });
+    assert_eq!((v.vstimecmp, v.x[0]), (0, 99));
+    // sd x0
+    let reply = v.start(&Trap { htinst: 0x3023, ..trap(23) });
+    let exit = Exit::MmioWrite { addr: GuestPhysAddr(0), width: Width::Eight, data: 0 };
+    assert_eq!(reply, Reply::Exit(exit));
+    // ld x0 waits, and its completion writes nothing
+    v.start(&Trap { htinst: 0x3003, ..trap(21) });
+    v.complete_load(5);
+    assert_eq!(v.x, { let mut x = [0; 32]; x[0] = 99; x });
+}
+
+#[test]
+fn scause_lists() {
+    let error = |scause| match Vcpu::zero().start(&trap(scause)) {
+        Reply::Error(error) => error.number(),
+        _ => 0,
+    };
+    for code in 0..40 {
+        let want = match code {
+            1 | 5 | 9 => 0,
+            0..=12 => 3,
+            _ => 4,
+        };
+        assert_eq!(error(INTERRUPT + code), want);
+        let want = match code {
+            10 | 21 | 22 | 23 => 0,
+            0..=9 | 11 | 12 | 13 | 15 | 20 => 3,
+            _ => 4,
+        };
+        assert_eq!(error(code), want);
+    }
+    assert_eq!(error((1 << 32) + 10), 4);
+    assert_eq!(error(INTERRUPT + (1 << 32) + 9), 4);
+}
+
+#[test]
+fn console_order_of_checks() {
+    for fid in [0, 1] {
+        let mut v = ecall(&[(A7, EID_DBCN), (A6, fid), (A2, 1)]);
+        v.start(&trap(10));
+        assert_eq!((v.x[A0], v.x[A1]), (0, 0));
+        let mut v = ecall(&[(A7, EID_DBCN), (A6, fid), (A0, 1), (A2, 1)]);
+        v.start(&Trap { room: 0, ..trap(10) });
+        assert_eq!((v.x[A0], v.x[A1]), (INVALID_PARAM, 0));
+        let mut v = ecall(&[(A7, EID_DBCN), (A6, fid), (A0, 1)]);
+        v.start(&Trap { room: 0, ..trap(10) });
+        assert_eq!((v.x[A0], v.sepc), (0, 4));
+    }
+}
+
+#[test]
+fn console_write_bounds_and_prints() {
+    let mut v = ecall(&[(A7, EID_DBCN), (A0, u64::MAX), (A1, 0x99)]);
+    let reply = v.start(&Trap { room: u64::MAX, ..trap(10) });
+    assert_eq!(reply, Reply::Ask(Ask::CopyIn { n: 4096, at: GuestPhysAddr(0x99) }));
+    let buffer = [7; 4096];
+    assert!(v.to_print(&buffer).is_empty());
+    assert_eq!(v.answer(&Answer::CopyIn { count: 4096 }), Reply::Ask(Ask::Print { n: 4096 }));
+    assert_eq!(v.to_print(&buffer).len(), 4096);
+    assert!(v.to_print(&buffer[1..]).is_empty());
+    v.answer(&Answer::Print { error: 5, value: 6 });
+    assert_eq!((v.x[A0], v.x[A1], v.sepc), (5, 6, 4));
+    assert!(v.to_print(&buffer).is_empty());
+}
+
+#[test]
+fn console_read_pairs() {
+    let start = || {
+        let mut v = ecall(&[(A7, EID_DBCN), (A6, 1), (A0, 9), (A1, 0x99)]);
+        assert_eq!(v.start(&trap(10)), Reply::Ask(Ask::Read { n: 9 }));
+        v
+    };
+    for (error, value) in [(0, 0), (0, 10), (1, 5), (u64::MAX, 0)] {
+        let mut v = start();
+        let reply = v.answer(&Answer::Read { error, value });
+        assert_eq!(reply, Reply::Exit(Exit::Nothing));
+        assert_eq!((v.x[A0], v.x[A1]), (error, value));
+    }
+    for (count, want) in [(9, (0, 9)), (8, (FAILED, 0)), (10, (FAILED, 0))] {
+        let mut v = start();
+        let reply = v.answer(&Answer::Read { error: 0, value: 9 });
+        assert_eq!(reply, Reply::Ask(Ask::CopyOut { n: 9, at: GuestPhysAddr(0x99) }));
+        // A waiting ecall's answers read no register.
+        v.x[A1] = 1;
+        v.answer(&Answer::CopyOut { count });
+        assert_eq!((v.x[A0], v.x[A1]), want);
+    }
+}
+
+#[test]
+fn fences_count_in_order_before_the_ask() {
+    for fid in 0..9 {
+        let mut v = ecall(&[(A7, EID_RFNC), (A6, fid), (A0, 3)]);
+        let args = [3, 0, 0, 0, 0, 0];
+        assert_eq!(v.start(&trap(10)), Reply::Ask(Ask::Forward { eid: EID_RFNC, fid, args }));
+        let mut counts = [0; 9];
+        if fid <= 6 {
+            counts[2 + fid as usize] = 1;
+        }
+        assert_eq!((v.counts, v.sepc), (counts, 0));
+        v.answer(&Answer::Forward { error: 1, value: 2 });
+        assert_eq!((v.x[A0], v.x[A1], v.sepc), (1, 2, 4));
+    }
+}
+
+#[test]
+fn legacy_results() {
+    let mut v = ecall(&[(A7, 1), (A0, 0x1234), (A1, 9)]);
+    assert_eq!(v.start(&trap(10)), Reply::Ask(Ask::Emit { number: 0x1234 }));
+    assert_eq!(v.answer(&Answer::Emit), Reply::Exit(Exit::Nothing));
+    assert_eq!((v.x[A0], v.x[A1], v.sepc), (0x1234, 9, 4));
+    let mut v = ecall(&[(A7, 2), (A1, 9)]);
+    v.start(&trap(10));
+    v.answer(&Answer::GetChar { number: u64::MAX });
+    assert_eq!((v.x[A0], v.x[A1], v.sepc), (u64::MAX, 9, 4));
+    let mut v = ecall(&[(A7, 3), (A0, 5)]);
+    v.hvip = u64::MAX;
+    v.start(&trap(10));
+    assert_eq!((v.x[A0], v.hvip), (0, !4));
+    for count in [0, 7, 9, u64::MAX] {
+        let mut v = ecall(&[(A7, 4), (A0, 0x50), (A1, 9)]);
+        let ask = Ask::Mask { at: GuestVirtAddr(0x50) };
+        assert_eq!(v.start(&trap(10)), Reply::Ask(ask));
+        v.answer(&Answer::Mask { count, bytes: 3 });
+        assert_eq!((v.x[A0], v.x[A1], v.sepc), (FAILED, 0, 4));
+    }
+}
+
+#[test]
+fn htinst_is_compared_whole_and_decoded_low() {
+    let start = |scause, htinst| Vcpu::zero().start(&Trap { htinst, ..trap(scause) });
+    assert_eq!(start(21, 1 << 32), Reply::Error(Error::DecodeFailed));
+    assert_eq!(start(21, (1 << 32) + 0x3000), Reply::Error(Error::Unsupported));
+    assert_eq!(start(21, (1 << 32) + 0x3020), Reply::Error(Error::Unsupported));
+    let fault = |access| Reply::Exit(Exit::NestedPageFault { addr: GuestPhysAddr(0), access });
+    // A store under 21, a load under 23, LOAD with funct3 7, and no access.
+    assert_eq!(start(21, 0x70_2023), fault(Access::Read));
+    assert_eq!(start(23, 0x2383), fault(Access::Write));
+    assert_eq!(start(21, 0x7383), fault(Access::Read));
+    assert_eq!(start(23, 0x13), fault(Access::Write));
+}
+
+#[test]
+fn fetched_words_by_length() {
+    let run = |word| {
+        let mut v = Vcpu::zero();
+        v.start(&Trap { htval: 1, stval: 7, ..trap(21) });
+        (v.answer(&Answer::Fetch(FetchAnswer::Word(word))), v.sepc)
+    };
+    let addr = GuestPhysAddr(7);
+    let fault = Reply::Exit(Exit::NestedPageFault { addr, access: Access::Read });
+    assert_eq!(run(0x2383), (Reply::Exit(Exit::MmioRead { addr, width: Width::Four }), 4));
+    // 01 is no 32-bit form when fetched, and 0x3000 is no pseudo word.
+    assert_eq!(run(0x2381), (fault, 0));
+    assert_eq!(run(0x3000), (fault, 0));
+    assert_eq!(run(0x1f), (Reply::Error(Error::DecodeFailed), 0));
+}
+
+#[test]
+fn a_fetched_virtual_word_must_end_in_0x73() {
+    for word in [0x14D0_2371, 0x1f, 0x14E0_2373] {
+        let mut v = Vcpu::zero();
+        v.start(&trap(22));
+        assert_eq!(v.counts[1], 0);
+        let reply = v.answer(&Answer::Fetch(FetchAnswer::Word(word)));
+        assert_eq!(reply, Reply::Error(Error::Unsupported));
+        assert_eq!(v.counts[1], 1);
+    }
+}
+
+#[test]
+fn extension() {
+    for (width, bits) in [(Width::One, 8), (Width::Two, 16), (Width::Four, 32), (Width::Eight, 64)] {
+        let top = 1u64 << (bits - 1);
+        assert_eq!(width.extend(false, u64::MAX), u64::MAX >> (64 - bits));
+        assert_eq!(width.extend(true, top), u64::MAX << (bits - 1));
+        assert_eq!(width.extend(true, !top), top - 1);
+    }
+}
