@@ -2,5 +2,7 @@ pub mod Fields
 pub mod Decode
 pub mod Length
 pub mod Extend
+pub mod Laws
+pub mod Examples
 pub mod Errors
 pub mod Extended

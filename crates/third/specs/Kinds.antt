@@ -1,0 +1,118 @@
+-- The nine kinds of traps that are counted, told from the trap and the record. 01, Ecalls and Virtual instruction.
+use Prim.Native.Nat.{ℕ, _+_, _%_, _^_}
+use mathlib.Core.Bool.{Bool}
+use mathlib.Core.List.{List, [], _∷_}
+use lib.ListN.{getD}
+use lib.Dec.{eqb, ltb}
+use Rattle.types.specs.Pick.{pick, or, and}
+use Rattle.types.specs.Numbers.{answerNumber}
+use Rattle.types.specs.declared.Answer.{Answer}
+use Rattle.types.specs.declared.Answer.the-variants as answers
+use Rattle.types.specs.declared.Fetch.{Fetch}
+use Rattle.types.specs.declared.Fetch.the-variants as fetch
+use Rattle.types.specs.declared.Trap.{Trap}
+use Rattle.consts.specs.Csr.{systemOpcode, stimecmp}
+use Rattle.consts.specs.Sbi.{legacySetTimer, eidTime, eidRfnc}
+use Rattle.consts.specs.Traps.{envCallFromVs, virtualInstruction}
+use Rattle.decoder.specs.Fields.{opcodeField, funct3Field, csrField}
+use Rattle.regs.specs.declared.Vcpu.{Vcpu}
+use Rattle.regs.specs.declared.Waiting.{Waiting}
+use Rattle.regs.specs.declared.Waiting.the-variants as waiting
+use Rattle.regs.specs.Record.{isIdle, waitingAsk}
+use Rattle.third.specs.Calls.{Call, setup, setEntry, getGpr, setGpr, setReturn, paging, pending, latch, completeIpi, start, answer, completeLoad, print}
+use Rattle.third.specs.Table.{a6, a7}
+use Rattle.third.specs.Runs.{stepOf}
+
+-- SBI, 'RFENCE Extension': fids 0 to 6 are kinds 3 to 9 in order; any other fid is of no kind, 0
+unfoldable pub fenceKind : ℕ → ℕ
+fenceKind fid = pick (ltb fid 7) (3 + fid) 0
+
+-- kind 1: legacy 0 and TIME fid 0
+unfoldable pub ecallKind : ℕ → ℕ → ℕ
+ecallKind eid fid =
+    pick (eqb eid legacySetTimer) 1
+    (pick (eqb eid eidTime) (pick (eqb fid 0) 1 0)
+    (pick (eqb eid eidRfnc) (fenceKind fid)
+    0))
+
+-- ISA, 'Zicsr': funct3 of the six CSR instructions
+unfoldable pub csrFunct3 : ℕ → Bool
+csrFunct3 f = or (eqb f 1) (or (eqb f 2) (or (eqb f 3) (or (eqb f 5) (or (eqb f 6) (eqb f 7)))))
+
+-- the word is a CSR instruction on stimecmp
+unfoldable pub onStimecmp : ℕ → Bool
+onStimecmp w =
+    and (eqb (opcodeField w) systemOpcode) (and (eqb (csrField w) stimecmp) (csrFunct3 (funct3Field w)))
+
+-- kind 2: any other word under 22
+unfoldable pub wordKind : ℕ → ℕ
+wordKind w = pick (onStimecmp w) 0 2
+
+-- a word of stval that does not end in 0x73 is fetched, and counts with its answer
+unfoldable pub stvalKind : ℕ → ℕ
+stvalKind w = pick (eqb (opcodeField w) systemOpcode) (wordKind w) 0
+
+-- a trap at its start, by scause
+unfoldable pub causeKind : ℕ → List ℕ → Trap → ℕ
+causeKind scause x t =
+    pick (eqb scause envCallFromVs) (ecallKind (getD x a7 0) (getD x a6 0))
+    (pick (eqb scause virtualInstruction) (stvalKind (t .stval % 2 ^ 32))
+    0)
+
+-- a word fetched under 22
+unfoldable pub waitingKind : Waiting → ℕ → ℕ
+waitingKind waiting.FetchCsr w = wordKind w
+waitingKind waiting.Idle w = 0
+waitingKind (waiting.Load rd width s) w = 0
+waitingKind (waiting.FetchFault at k) w = 0
+waitingKind waiting.CopyMask w = 0
+waitingKind (waiting.CopyIn n) w = 0
+waitingKind (waiting.Print n) w = 0
+waitingKind (waiting.ReadConsole n at) w = 0
+waitingKind (waiting.CopyOut n) w = 0
+waitingKind waiting.PutChar w = 0
+waitingKind waiting.PutByte w = 0
+waitingKind waiting.GetChar w = 0
+waitingKind waiting.Forward w = 0
+
+-- a fetch that fails is of no kind
+unfoldable pub fetchKind : Waiting → Fetch → ℕ
+fetchKind n (fetch.Word w) = waitingKind n w
+fetchKind n (fetch.Page a) = 0
+fetchKind n (fetch.Access a) = 0
+fetchKind n (fetch.Misaligned a) = 0
+fetchKind n (fetch.GuestPage a) = 0
+fetchKind n fetch.Unhandled = 0
+
+-- nor is any other answer
+unfoldable pub answerKind : Waiting → Answer → ℕ
+answerKind n (answers.Fetched f) = fetchKind n f
+answerKind n (answers.MaskCopied count bytes) = 0
+answerKind n (answers.CopiedIn count) = 0
+answerKind n (answers.Printed error value) = 0
+answerKind n (answers.ConsoleRead error value) = 0
+answerKind n (answers.CopiedOut count) = 0
+answerKind n answers.Emitted = 0
+answerKind n (answers.Char number) = 0
+answerKind n (answers.Forwarded error value) = 0
+
+-- the kind of trap that a call starts or carries on; a refused call is of none
+unfoldable pub kindOf : Vcpu → Call → ℕ
+kindOf v (start t) = pick (isIdle (v .waiting)) (causeKind (t .scause) (v .x) t) 0
+kindOf v (answer a) = pick (eqb (waitingAsk (v .waiting)) (answerNumber a)) (answerKind (v .waiting) a) 0
+kindOf v setup = 0
+kindOf v (setEntry entry) = 0
+kindOf v (getGpr index) = 0
+kindOf v (setGpr index value) = 0
+kindOf v (setReturn value) = 0
+kindOf v (paging levels mode root) = 0
+kindOf v (pending vector on) = 0
+kindOf v (latch bits) = 0
+kindOf v (completeIpi abi completion) = 0
+kindOf v (completeLoad n) = 0
+kindOf v (print buffer) = 0
+
+-- how many traps of a kind a sequence has
+unfoldable pub traps : ℕ → Vcpu → List Call → ℕ
+traps kind v [] = 0
+traps kind v (c ∷ cs) = pick (eqb (kindOf v c) kind) 1 0 + traps kind (stepOf v c) cs

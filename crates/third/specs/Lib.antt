@@ -1,0 +1,16 @@
+pub mod Calls
+pub mod Table
+pub mod Runs
+pub mod Bridge
+pub mod Alike
+pub mod Agree
+pub mod Stored
+pub mod Sequences
+pub mod Third
+pub mod Symmetric
+pub mod Zero
+pub mod Kinds
+pub mod Events
+pub mod Counting
+pub mod Shown
+pub mod Witness

@@ -1,0 +1,121 @@
+-- What the closed examples show, and the records that they start from.
+use Prim.Native.Nat.{ℕ}
+use mathlib.Core.Bool.{Bool, true, false}
+use mathlib.Core.List.{List, [], _∷_, _++_}
+use mathlib.Core.Path.{_≡_}
+use lib.ListN.{getD, set, replicate}
+use lib.Dec.{eqb}
+use Rattle.types.specs.Pick.{pick, and}
+use Rattle.types.specs.Numbers.{exitNumber, askNumber, errorNumber}
+use Rattle.types.specs.declared.Ask.{Ask}
+use Rattle.types.specs.declared.Ask.the-variants as ask
+use Rattle.types.specs.declared.Exit.{Exit}
+use Rattle.types.specs.declared.Exit.the-variants as exit
+use Rattle.types.specs.declared.Reply.{Reply}
+use Rattle.types.specs.declared.Reply.the-variants as reply
+use Rattle.types.specs.declared.Trap.{Trap}
+use Rattle.consts.specs.Csr.{setupSstatus, setupHstatus, setupHie}
+use Rattle.regs.specs.declared.Vcpu.{Vcpu}
+use Rattle.regs.specs.declared.Waiting.the-variants as waiting
+use Rattle.regs.specs.Record.{listed}
+use Rattle.third.specs.Calls.{Call, start}
+use Rattle.third.specs.Table.{namesOf}
+use Rattle.third.specs.Runs.{Sight, runOf, seenOf, among, Untouched}
+use Rattle.third.specs.Alike.{Alike}
+
+-- a zero record after setup, with vstimecmp 7 and these registers
+abbrev pub recordOf : List ℕ → Vcpu
+recordOf x =
+    record {
+      x = x;
+      csrs =
+          record {
+            guest = record { sepc = 0x8000_0000; sstatus = setupSstatus; hstatus = setupHstatus };
+            vs = record { vsstatus = 0; vstvec = 0; vsepc = 0; vscause = 0; vstval = 0; vstimecmp = 7 };
+            hs = record { hie = setupHie; hvip = 0; hgeie = 0; hgatp = 0 };
+          };
+      counts = replicate 9 0;
+      waiting = waiting.Idle;
+    }
+
+-- the record with another content of register r
+abbrev pub other : ℕ → ℕ → Vcpu → Vcpu
+other r n v = record { x = set (v .x) r n; csrs = v .csrs; counts = v .counts; waiting = v .waiting }
+
+-- the replies among what a host saw
+abbrev pub replies : List Sight → List Reply
+replies [] = []
+replies (s ∷ ss) = s .reply ∷ replies ss
+
+-- the premises of demand 3 hold of a record, its other one with n in r, and a sequence that gives these replies; r differs
+-- before and after
+pub record Met (r n : ℕ) (v : Vcpu) (cs : List Call) (rs : List Reply) : Type 0 where
+  pub alike : Alike r v (other r n v)
+  pub untouched : Untouched r v cs
+  pub seen : replies (seenOf v cs) ≡ rs
+  pub before : eqb (getD (v .x) r 0) (getD (other r n v .x) r 0) ≡ false
+  pub after : eqb (getD (runOf v cs .x) r 0) (getD (runOf (other r n v) cs .x) r 0) ≡ false
+
+-- an exit, ask or reply as numbers: its own in 01, then its data
+unfoldable pub exitNumbers : Exit → List ℕ
+exitNumbers exit.Nothing = []
+exitNumbers (exit.ExternalInterrupt v) = v ∷ []
+exitNumbers (exit.SendIpi q) = q .mask ∷ q .base ∷ []
+exitNumbers (exit.CpuUp t e a) = t ∷ e .0 ∷ a ∷ []
+exitNumbers (exit.CpuDown s) = s ∷ []
+exitNumbers exit.Halt = []
+exitNumbers (exit.Hypercall n) = n ∷ []
+exitNumbers exit.SystemDown = []
+exitNumbers (exit.NestedPageFault a k) = a .0 ∷ []
+exitNumbers (exit.MmioRead a w) = a .0 ∷ []
+exitNumbers (exit.MmioWrite a w d) = a .0 ∷ d ∷ []
+
+unfoldable pub askNumbers : Ask → List ℕ
+askNumbers (ask.Fetch a s) = a .0 ∷ []
+askNumbers (ask.CopyMask a) = a .0 ∷ []
+askNumbers (ask.CopyIn a n) = a .0 ∷ n ∷ []
+askNumbers (ask.Print n) = n ∷ []
+askNumbers (ask.ReadConsole n) = n ∷ []
+askNumbers (ask.CopyOut a n) = a .0 ∷ n ∷ []
+askNumbers (ask.Emit n) = n ∷ []
+askNumbers ask.GetChar = []
+askNumbers (ask.Forward e f a) = e ∷ f ∷ listed a
+
+unfoldable pub replyNumbers : Reply → List ℕ
+replyNumbers (reply.Exit e) = exitNumber e ∷ exitNumbers e
+replyNumbers (reply.Ask a) = askNumber a ∷ askNumbers a
+replyNumbers reply.Done = []
+replyNumbers (reply.Value n) = n ∷ []
+replyNumbers (reply.Error e) = errorNumber e ∷ []
+
+unfoldable pub sightNumbers : List Sight → List ℕ
+sightNumbers [] = []
+sightNumbers (s ∷ ss) = replyNumbers (s .reply) ++ (s .args ++ sightNumbers ss)
+
+-- what tells two runs apart: the timer, then all that the host saw
+unfoldable pub toldOf : Vcpu → List Call → List ℕ
+toldOf v cs = runOf v cs .csrs .vs .vstimecmp ∷ sightNumbers (seenOf v cs)
+
+unfoldable pub sameList : List ℕ → List ℕ → Bool
+sameList [] [] = true
+sameList [] (m ∷ ms) = false
+sameList (n ∷ ns) [] = false
+sameList (n ∷ ns) (m ∷ ms) = and (eqb n m) (sameList ns ms)
+
+-- a row of the table at work: a register, two contents, a record, a trap and what follows it
+pub record Row : Type 0 where
+  pub register : ℕ
+  pub content : ℕ
+  pub before : Vcpu
+  pub trap : Trap
+  pub later : List Call
+
+-- the trap names the register, and what the runs tell differs
+unfoldable pub matters : Row → Bool
+matters k =
+    and (among (k .register) (namesOf (k .before) (start (k .trap))))
+    (pick (sameList (toldOf (k .before) (start (k .trap) ∷ k .later)) (toldOf (other (k .register) (k .content) (k .before)) (start (k .trap) ∷ k .later))) false true)
+
+unfoldable pub allMatter : List Row → Bool
+allMatter [] = true
+allMatter (k ∷ ks) = and (matters k) (allMatter ks)

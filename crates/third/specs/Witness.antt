@@ -1,0 +1,180 @@
+-- Demand 3 is not vacuous: closed examples, computed by the checker. Four sequences meet its premises with r different before and
+-- after; and in rows of the reading table two records that differ in a named register come out differently.
+use Prim.Native.Nat.{ℕ}
+use mathlib.Core.Bool.{true}
+use mathlib.Core.List.{List, [], _∷_}
+use mathlib.Core.Path.{_≡_, refl, sym, _∙_}
+use lib.ListN.{set, length, replicate, length-set}
+use lib.Seq.{getD-set-other}
+use Rattle.types.specs.Numbers.{answerNumber, exitNumber, askNumber, errorNumber}
+use Rattle.types.specs.declared.Answer.the-variants as answers
+use Rattle.types.specs.declared.Ask.the-variants as ask
+use Rattle.types.specs.declared.Exit.the-variants as exit
+use Rattle.types.specs.declared.Fetch.the-variants as fetch
+use Rattle.types.specs.declared.Reply.the-variants as reply
+use Rattle.types.specs.declared.Trap.{Trap}
+use Rattle.types.specs.declared.Width.the-variants as width
+use Rattle.consts.specs.Sbi.{eidSpi, eidHsm, eidHvc, eidDbcn, eidRfnc}
+use Rattle.registers.specs.Bits.{spvpOf, sieOf, withBits}
+use Rattle.registers.specs.Values.{guestPageFaultAddr}
+use Rattle.sbi_ipi.specs.Ipi.{standardRequest}
+use Rattle.decoder.specs.Laws.{storeSource-store}
+use Rattle.decoder.specs.Examples.{lw-x7, sw-x7, cut-5, cut-6, csrrw-opcode, csrrw-csr, csrrw-funct3, csrrw-rs1, zero-opcode}
+use Rattle.regs.specs.declared.Vcpu.{Vcpu}
+use Rattle.regs.specs.Record.{valueOf, stored, moved, timed, pended, eventNumber, bumped, counted, waitingAsk, isIdle, listed}
+use Rattle.regs.specs.Effects.{applied, noArgs, finishedOf, askingOf, failedOf, refusedOf, doneOf}
+use Rattle.ecall.specs.Calls.{notSupportedOf, lesserOf, timeOf, spiOf, hsmOf, srstOf, spanOf, consoleOf, dbcnOf, rfncOf, callOf}
+use Rattle.ecall.specs.Doing.{returnsOf, movesOf, staysOf, asksOf, setTimerOf, hypercallOf, callEffect}
+use Rattle.fetch.specs.Faults.{askFetchOf, missedOf, trapStatusOf, injectedOf, missedEffect}
+use Rattle.virtual_inst.specs.Stimecmp as virtual
+use Rattle.page_fault.specs.Mmio.{loadOf, storeOf, faultOf, faultEffect}
+use Rattle.answers.specs.Answers.{copiedOf, answeredOf, answeredEffect, completedOf}
+use Rattle.trap.specs.Traps.{argumentsOf, sbiOf, stimecmpOf, mmioOf, pageFaultOf, causeOf, trapOf, startedOf, startEffect}
+use Rattle.trap.specs.Resume as resume
+use Rattle.vcpu.specs.Calls.{startOf, answerOf, completeLoadOf, printCount, firstOf, printedOf}
+use Rattle.third.specs.Calls.{Call, start, answer, completeLoad, print}
+use Rattle.third.specs.Table.{a0, a1, a2, a3, a4, a5, a7, sourceNames, forwardNames, timeNames, srstNames, spiNames, hsmNames, consoleNames, byteNames, dbcnNames, eidNames, ecallNames, funct3Names, stimecmpNames, storeNames, causeNames, accessNames, wordNames, fetchNames, answerNames, namesOf, readsOf}
+use Rattle.third.specs.Runs.{unchanged, outcomeOf, bytesOf, sightOf, stepOf, runOf, seenOf, Apart, Untouched}
+use Rattle.third.specs.Alike.{Alike}
+use Rattle.third.specs.Shown.{recordOf, other, Met, exitNumbers, askNumbers, replyNumbers, sightNumbers, toldOf, sameList, Row, matters, allMatter}
+
+other-alike : (r n : ℕ) (v : Vcpu) → length (v .x) ≡ 32 → Alike r v (other r n v)
+other-alike r n v h =
+    record {
+      files = record { long = h; long′ = length-set (v .x) r n ∙ h; agree = λ i d. sym (getD-set-other (v .x) r i n 0 d) };
+      csrs = refl;
+      counts = refl;
+      waiting = refl;
+    }
+
+-- one name that opens what a call goes through; the decoder stays shut
+opened : ℕ
+unfolding answerNumber exitNumber askNumber errorNumber spvpOf sieOf withBits guestPageFaultAddr standardRequest valueOf stored moved timed pended eventNumber bumped counted waitingAsk isIdle listed applied noArgs finishedOf askingOf failedOf refusedOf doneOf notSupportedOf lesserOf timeOf spiOf hsmOf srstOf spanOf consoleOf dbcnOf rfncOf callOf returnsOf movesOf staysOf asksOf setTimerOf hypercallOf callEffect askFetchOf missedOf trapStatusOf injectedOf missedEffect virtual.setOf virtual.clearedOf virtual.stimecmpOf virtual.csrBy virtual.csrOf virtual.startBy virtual.startOf virtual.csrEffect loadOf storeOf faultOf faultEffect copiedOf answeredOf answeredEffect completedOf argumentsOf sbiOf stimecmpOf mmioOf pageFaultOf causeOf trapOf startedOf startEffect resume.resumedOf resume.fetchedOf resume.plainOf resume.continuedOf resume.matchedOf resume.answerEffect startOf answerOf completeLoadOf printCount firstOf printedOf sourceNames forwardNames timeNames srstNames spiNames hsmNames consoleNames byteNames dbcnNames eidNames ecallNames funct3Names stimecmpNames storeNames causeNames accessNames wordNames fetchNames answerNames namesOf readsOf unchanged outcomeOf bytesOf sightOf stepOf runOf seenOf Untouched exitNumbers askNumbers replyNumbers sightNumbers toldOf sameList matters allMatter
+opened = 0
+
+abbrev zeros : List ℕ
+zeros = replicate 32 0
+
+-- an ecall, and other traps by scause, stval and htinst
+abbrev trapped : ℕ → ℕ → ℕ → Trap
+trapped scause stval htinst = record { scause = scause; stval = stval; htval = 0x400_0000; htinst = htinst; room = 4096 }
+
+abbrev ecall : Trap
+ecall = trapped 10 0 0
+
+apart : {r : ℕ} → Apart r []
+apart = record { free = refl }
+
+-- DBCN write with both asks; x5 is 1 and 2
+
+abbrev dbcn : Vcpu
+dbcn = recordOf (set (set (set (set zeros 17 eidDbcn) 10 3) 11 0x8000) 5 1)
+
+abbrev dbcnCalls : List Call
+dbcnCalls =
+    start ecall
+    ∷ answer (answers.CopiedIn 3)
+    ∷ print (65 ∷ 66 ∷ 67 ∷ 68 ∷ [])
+    ∷ answer (answers.Printed 0 3)
+    ∷ []
+
+pub dbcn-met : Met 5 2 dbcn dbcnCalls (reply.Ask (ask.CopyIn (record { 0 = 0x8000 }) 3) ∷ reply.Ask (ask.Print 3) ∷ reply.Done ∷ reply.Exit exit.Nothing ∷ [])
+unfolding opened
+dbcn-met =
+    record {
+      alike = other-alike 5 2 dbcn refl;
+      untouched = (record { free = refl }, apart, (apart, apart, (apart, apart, (apart, apart, tt))));
+      seen = refl;
+      before = refl;
+      after = refl;
+    }
+
+-- a load with its completion, which writes x7
+
+abbrev load : Vcpu
+load = recordOf (set zeros 5 1)
+
+abbrev loadCalls : List Call
+loadCalls = start (trapped 21 0 0x2383) ∷ completeLoad 0x8000_0000 ∷ []
+
+pub load-met : Met 5 2 load loadCalls (reply.Exit (exit.MmioRead (record { 0 = 0x1000_0000 }) width.Word) ∷ reply.Done ∷ [])
+unfolding opened
+load-met =
+    record {
+      alike = other-alike 5 2 load refl;
+      untouched = (apart, apart, (apart, apart, tt));
+      seen = rw lw-x7;
+      before = refl;
+      after = rw lw-x7;
+    }
+
+-- a remote fence, counted and forwarded; its a0 to a5 are named, x5 is not
+
+abbrev fence : Vcpu
+fence = recordOf (set (set (set zeros 17 eidRfnc) 16 1) 5 1)
+
+abbrev fenceCalls : List Call
+fenceCalls = start ecall ∷ answer (answers.Forwarded 0 0) ∷ []
+
+pub fence-met : Met 5 2 fence fenceCalls (reply.Ask (ask.Forward eidRfnc 1 (record { a0 = 0; a1 = 0; a2 = 0; a3 = 0; a4 = 0; a5 = 0 })) ∷ reply.Exit exit.Nothing ∷ [])
+unfolding opened
+fence-met =
+    record {
+      alike = other-alike 5 2 fence refl;
+      untouched = (record { free = refl }, apart, (apart, apart, tt));
+      seen = refl;
+      before = refl;
+      after = refl;
+    }
+
+-- a virtual instruction that must be fetched, and the fetch's page fault is injected
+
+abbrev missed : Vcpu
+missed = recordOf (set zeros 5 1)
+
+abbrev missedCalls : List Call
+missedCalls = start (trapped 22 0 0) ∷ answer (answers.Fetched (fetch.Page (record { 0 = 0x8000_0000 }))) ∷ []
+
+pub missed-met : Met 5 2 missed missedCalls (reply.Ask (ask.Fetch (record { 0 = 0x8000_0000 }) true) ∷ reply.Exit exit.Nothing ∷ [])
+unfolding opened
+missed-met =
+    record {
+      alike = other-alike 5 2 missed refl;
+      untouched = rw zero-opcode ((apart, apart, (apart, apart, tt)));
+      seen = rw zero-opcode;
+      before = refl;
+      after = rw zero-opcode;
+    }
+
+-- in these rows the named register matters
+
+abbrev calls : ℕ → ℕ → List ℕ
+calls eid fid = set (set zeros 17 eid) 16 fid
+
+abbrev row : ℕ → List ℕ → Row
+row r x = record { register = r; content = 9; before = recordOf x; trap = ecall; later = [] }
+
+-- a7; legacy 0, a0; HVC, a5; sPI 0, a1; HSM 0, a2; DBCN 0, a2
+abbrev rows : List Row
+rows =
+    row a7 (calls 2 0)
+    ∷ row a0 (calls 0 0)
+    ∷ row a5 (calls eidHvc 0)
+    ∷ row a1 (calls eidSpi 0)
+    ∷ row a2 (calls eidHsm 0)
+    ∷ row a2 (set (calls eidDbcn 0) 10 3)
+    ∷ []
+
+pub rows-matter : allMatter rows ≡ true
+unfolding opened
+rows-matter = refl
+
+-- csrrw of x5
+pub stimecmp-matters : matters (record { register = 5; content = 9; before = recordOf zeros; trap = trapped 22 0x14D292F3 0; later = [] }) ≡ true
+unfolding opened
+stimecmp-matters = rw (csrrw-opcode, csrrw-csr, csrrw-funct3, csrrw-rs1)
+
+-- sw of x7
+pub store-matters : matters (record { register = 7; content = 6; before = recordOf (set zeros 7 5); trap = trapped 23 0 0x702023; later = [] }) ≡ true
+unfolding opened
+store-matters = rw (sw-x7, storeSource-store, cut-5, cut-6)

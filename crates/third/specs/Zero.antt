@@ -1,0 +1,216 @@
+-- Slot 0 is never named, never read out and never written: two records that differ there alone agree in all else for ever.
+use Prim.Native.Nat.{ℕ, _%_, _^_}
+use mathlib.Core.Bool.{Bool, true, false}
+use mathlib.Core.List.{List, [], _∷_, _++_}
+use mathlib.Core.Path.{_≡_, refl, sym}
+use lib.ListN.{getD}
+use lib.Dec.{eqb, leb, ltb}
+use borrow.Author.Tests.{eqb-false, ne-eqb}
+use Rattle.types.specs.Pick.{pick}
+use Rattle.types.specs.declared.Access.{Access}
+use Rattle.types.specs.declared.Access.the-variants as access
+use Rattle.types.specs.declared.Answer.{Answer}
+use Rattle.types.specs.declared.Answer.the-variants as answers
+use Rattle.types.specs.declared.Fetch.{Fetch}
+use Rattle.types.specs.declared.Fetch.the-variants as fetch
+use Rattle.types.specs.declared.Trap.{Trap}
+use Rattle.consts.specs.Csr.{systemOpcode, stimecmp}
+use Rattle.consts.specs.Sbi.{legacySetTimer, legacyPutchar, legacySendIpi, legacyShutdown, eidTime, eidSpi, eidHsm, eidHvc, eidSrst, eidDbcn, eidRfnc, eidPmu}
+use Rattle.consts.specs.Traps.{envCallFromVs, virtualInstruction, storeGuestPageFault}
+use Rattle.decoder.specs.Fields.{opcodeField, funct3Field, rs1Field, csrField}
+use Rattle.decoder.specs.Length.{htinstOf, fetchedOf, storeSource}
+use Rattle.regs.specs.declared.Vcpu.{Vcpu}
+use Rattle.regs.specs.declared.Waiting.{Waiting}
+use Rattle.regs.specs.declared.Waiting.the-variants as waiting
+use Rattle.regs.specs.declared.Writes.{Writes}
+use Rattle.regs.specs.declared.Writes.the-variants as writes
+use Rattle.regs.specs.Record.{isIdle}
+use Rattle.third.specs.Calls.{Call, setup, setEntry, getGpr, setGpr, setReturn, paging, pending, latch, completeIpi, start, answer, completeLoad, print}
+use Rattle.third.specs.Table.{a0, a1, a2, a6, a7, sourceNames, forwardNames, timeNames, srstNames, spiNames, hsmNames, consoleNames, byteNames, dbcnNames, eidNames, ecallNames, funct3Names, stimecmpNames, storeNames, causeNames, accessNames, wordNames, fetchNames, answerNames, namesOf, readsOf}
+use Rattle.third.specs.Runs.{stepOf, Apart, Untouched, effectOf, wrote, written}
+use Rattle.third.specs.Alike.{Alike}
+use Rattle.third.specs.Third.{Third, third}
+
+none : Apart 0 []
+none = record { free = refl }
+
+picked : (t : Bool) {l m : List ℕ} → Apart 0 l → Apart 0 m → Apart 0 (pick t l m)
+picked true h k = h
+picked false h k = k
+
+zero-source : (i : ℕ) → Apart 0 (sourceNames i)
+unfolding sourceNames
+zero-source i = by (eqb i 0) refl
+  where
+    by : (t : Bool) → eqb i 0 ≡ t → Apart 0 (pick t [] (i ∷ []))
+    by true e = none
+    by false e = record { free = simp e }
+
+-- a0 to a7 are not x0
+
+ten : Apart 0 (a0 ∷ [])
+ten = record { free = refl }
+
+zero-forward : Apart 0 forwardNames
+unfolding forwardNames
+zero-forward = record { free = refl }
+
+zero-time : (fid : ℕ) → Apart 0 (timeNames fid)
+unfolding timeNames
+zero-time fid = picked (eqb fid 0) ten none
+
+zero-srst : (fid : ℕ) → Apart 0 (srstNames fid)
+unfolding srstNames
+zero-srst fid = picked (eqb fid 0) ten none
+
+zero-spi : (fid : ℕ) → Apart 0 (spiNames fid)
+unfolding spiNames
+zero-spi fid = picked (eqb fid 0) {l = a0 ∷ a1 ∷ []} (record { free = refl }) none
+
+zero-hsm : (fid : ℕ) → Apart 0 (hsmNames fid)
+unfolding hsmNames
+zero-hsm fid = picked (eqb fid 0) {l = a0 ∷ a1 ∷ a2 ∷ []} (record { free = refl }) none
+
+zero-console : Apart 0 consoleNames
+unfolding consoleNames
+zero-console = record { free = refl }
+
+zero-dbcn : (fid : ℕ) → Apart 0 (dbcnNames fid)
+unfolding dbcnNames byteNames
+zero-dbcn fid = picked (eqb fid 0) zero-console (picked (eqb fid 1) zero-console (picked (eqb fid 2) ten none))
+
+a6-and : {l : List ℕ} → Apart 0 l → Apart 0 (a6 ∷ l)
+a6-and h = record { free = h .free }
+
+zero-eid : (e fid : ℕ) → Apart 0 (eidNames e fid)
+unfolding eidNames
+zero-eid e fid =
+    picked (eqb e legacySetTimer) ten
+    (picked (eqb e legacyPutchar) ten
+    (picked (eqb e legacySendIpi) ten
+    (picked (leb e legacyShutdown) none
+    (picked (eqb e eidHvc) zero-forward
+    (picked (eqb e eidPmu) zero-forward
+    (picked (eqb e eidRfnc) zero-forward
+    (picked (eqb e eidTime) (a6-and (zero-time fid))
+    (picked (eqb e eidSrst) (a6-and (zero-srst fid))
+    (picked (eqb e eidSpi) (a6-and (zero-spi fid))
+    (picked (eqb e eidHsm) (a6-and (zero-hsm fid))
+    (picked (eqb e eidDbcn) (a6-and (zero-dbcn fid))
+    zero-forward)))))))))))
+
+zero-funct3 : (f s : ℕ) → Apart 0 (funct3Names f s)
+unfolding funct3Names
+zero-funct3 f s = picked (eqb f 1) (zero-source s) (picked (eqb f 2) (zero-source s) (picked (eqb f 3) (zero-source s) none))
+
+zero-stimecmp : (w : ℕ) → Apart 0 (stimecmpNames w)
+unfolding stimecmpNames
+zero-stimecmp w =
+    picked (eqb (opcodeField w) systemOpcode) (picked (eqb (csrField w) stimecmp) (zero-funct3 (funct3Field w) (rs1Field w)) none) none
+
+zero-cause : (scause : ℕ) (x : List ℕ) (t : Trap) → Apart 0 (causeNames scause x t)
+unfolding causeNames ecallNames storeNames
+zero-cause scause x t =
+    picked (eqb scause envCallFromVs) {l = a7 ∷ eidNames (getD x a7 0) (getD x a6 0)} (record { free = zero-eid (getD x a7 0) (getD x a6 0) .free })
+    (picked (eqb scause virtualInstruction) (zero-stimecmp (t .stval % 2 ^ 32))
+    (picked (eqb scause storeGuestPageFault) (zero-source (storeSource (htinstOf (t .htinst)))) none))
+
+zero-access : (k : Access) (w : ℕ) → Apart 0 (accessNames k w)
+unfolding accessNames storeNames
+zero-access access.Read w = none
+zero-access access.Write w = zero-source (storeSource (fetchedOf w))
+zero-access access.Execute w = none
+
+zero-word : (n : Waiting) (w : ℕ) → Apart 0 (wordNames n w)
+unfolding wordNames
+zero-word waiting.Idle w = none
+zero-word (waiting.Load rd width s) w = none
+zero-word waiting.FetchCsr w = zero-stimecmp w
+zero-word (waiting.FetchFault at k) w = zero-access k w
+zero-word waiting.CopyMask w = none
+zero-word (waiting.CopyIn n) w = none
+zero-word (waiting.Print n) w = none
+zero-word (waiting.ReadConsole n at) w = none
+zero-word (waiting.CopyOut n) w = none
+zero-word waiting.PutChar w = none
+zero-word waiting.PutByte w = none
+zero-word waiting.GetChar w = none
+zero-word waiting.Forward w = none
+
+zero-fetch : (n : Waiting) (f : Fetch) → Apart 0 (fetchNames n f)
+unfolding fetchNames
+zero-fetch n (fetch.Word w) = zero-word n w
+zero-fetch n (fetch.Page a) = none
+zero-fetch n (fetch.Access a) = none
+zero-fetch n (fetch.Misaligned a) = none
+zero-fetch n (fetch.GuestPage a) = none
+zero-fetch n fetch.Unhandled = none
+
+zero-answer : (n : Waiting) (a : Answer) → Apart 0 (answerNames n a)
+unfolding answerNames
+zero-answer n (answers.Fetched f) = zero-fetch n f
+zero-answer n (answers.MaskCopied count bytes) = none
+zero-answer n (answers.CopiedIn count) = none
+zero-answer n (answers.Printed error value) = none
+zero-answer n (answers.ConsoleRead error value) = none
+zero-answer n (answers.CopiedOut count) = none
+zero-answer n answers.Emitted = none
+zero-answer n (answers.Char number) = none
+zero-answer n (answers.Forwarded error value) = none
+
+zero-named : (v : Vcpu) (c : Call) → Apart 0 (namesOf v c)
+unfolding namesOf
+zero-named v (start t) = picked (isIdle (v .waiting)) (zero-cause (t .scause) (v .x) t) none
+zero-named v (answer a) = zero-answer (v .waiting) a
+zero-named v setup = none
+zero-named v (setEntry entry) = none
+zero-named v (getGpr index) = none
+zero-named v (setGpr index value) = none
+zero-named v (setReturn value) = none
+zero-named v (paging levels mode root) = none
+zero-named v (pending vector on) = none
+zero-named v (latch bits) = none
+zero-named v (completeIpi abi completion) = none
+zero-named v (completeLoad n) = none
+zero-named v (print buffer) = none
+
+zero-read : (c : Call) → Apart 0 (readsOf c)
+unfolding readsOf
+zero-read (getGpr index) = zero-source index
+zero-read setup = none
+zero-read (setEntry entry) = none
+zero-read (setGpr index value) = none
+zero-read (setReturn value) = none
+zero-read (paging levels mode root) = none
+zero-read (pending vector on) = none
+zero-read (latch bits) = none
+zero-read (completeIpi abi completion) = none
+zero-read (start t) = none
+zero-read (answer a) = none
+zero-read (completeLoad n) = none
+zero-read (print buffer) = none
+
+pub zero-untouched : (v : Vcpu) (cs : List Call) → Untouched 0 v cs
+unfolding Untouched
+zero-untouched v [] = tt
+zero-untouched v (c ∷ cs) = (zero-named v c, zero-read c, zero-untouched (stepOf v c) cs)
+
+zero-wrote : (w : Writes) → wrote 0 w ≡ false
+unfolding wrote
+zero-wrote writes.Keep = refl
+zero-wrote (writes.One i n) = by (eqb i 0) (ltb i 32) refl
+  where
+    by : (s t : Bool) → eqb i 0 ≡ s → pick s false (pick t (eqb 0 i) false) ≡ false
+    by true t e = refl
+    by false true e = ne-eqb 0 i (λ k. eqb-false i 0 e (sym k))
+    by false false e = refl
+zero-wrote (writes.Pair e v) = refl
+
+pub zero-unwritten : (v : Vcpu) (cs : List Call) → written 0 v cs ≡ false
+unfolding written
+zero-unwritten v [] = refl
+zero-unwritten v (c ∷ cs) = rw (zero-wrote (effectOf v c .writes), zero-unwritten (stepOf v c) cs)
+
+-- demand 3 with r = 0 has no premise but that the records are alike
+pub third-zero : (v w : Vcpu) (cs : List Call) → Alike 0 v w → Third 0 v w cs
+third-zero v w cs a = third 0 v w cs [] a (zero-untouched v (cs ++ []))
