@@ -14,14 +14,15 @@ use Rattle.types.specs.declared.Fetch.the-variants as fetch
 use Rattle.types.specs.declared.Reply.{Reply}
 use Rattle.types.specs.declared.Reply.the-variants as reply
 use Rattle.types.specs.declared.Trap.{Trap}
-use Rattle.consts.specs.Csr.{systemOpcode, stimecmp}
+use Rattle.consts.specs.Csr.{systemOpcode}
 use Rattle.consts.specs.Traps.{envCallFromVs, virtualInstruction, loadGuestPageFault, storeGuestPageFault, supervisorSoft, supervisorTimer, supervisorExt, supervisorExternal, knownCause}
-use Rattle.decoder.specs.Fields.{opcodeField, funct3Field, csrField}
+use Rattle.decoder.specs.Fields.{opcodeField}
 use Rattle.decoder.specs.Errors.{longWord, pseudoWord, unfitWord}
 use Rattle.regs.specs.declared.Vcpu.{Vcpu}
 use Rattle.regs.specs.declared.Waiting.{Waiting}
 use Rattle.regs.specs.declared.Waiting.the-variants as waiting
 use Rattle.regs.specs.Record.{isIdle, waitingAsk}
+use Rattle.third.specs.Kinds.{onStimecmp}
 
 -- the two are one error: their numbers are equal
 unfoldable pub is : Error → Error → Bool
@@ -56,13 +57,9 @@ classOf s =
     (pick (eqb s supervisorExt) host-interrupt
     (pick (knownCause s) not-handled unknown)))))))
 
--- funct3 1, 2, 3, 5, 6 or 7
-unfoldable pub csrFunct3 : ℕ → Bool
-csrFunct3 f = or (eqb f 1) (or (eqb f 2) (or (eqb f 3) (or (eqb f 5) (or (eqb f 6) (eqb f 7)))))
-
 -- a word that is no CSR instruction on stimecmp
 unfoldable pub otherWord : ℕ → Bool
-otherWord w = not (and (eqb (opcodeField w) systemOpcode) (and (eqb (csrField w) stimecmp) (csrFunct3 (funct3Field w))))
+otherWord w = not (onStimecmp w)
 
 -- stval has an instruction, and it is another one
 unfoldable pub otherStval : ℕ → Bool

@@ -55,7 +55,8 @@ use Rattle.host_calls.specs.HostCalls.{pagingBy, pagingEffect, pendingBy, pendi
 use Rattle.trap.specs.Traps.{causeOf, externalOf, mmioOf, otherOf, pageFaultOf, sbiOf, startEffect, startedOf, stimecmpOf, trapOf}
 use Rattle.trap.specs.Resume.{answerEffect, continuedOf, fetchedOf, matchedOf, plainOf, resumedOf}
 use Rattle.vcpu.specs.Calls.{answerOf, completeIpiOf, completeLoadOf, getGprOf, latchOf, pagingOf, pendingOf, setEntryOf, setGprOf, setReturnOf, setupOf, startOf, unlessAsking}
-use Rattle.total.specs.When.{is, gives, Class, ecall, virtual-instruction, page-fault, host-interrupt, not-handled, unknown, classOf, csrFunct3, otherWord, otherStval, classWhen, startWhen, wordWhen, fetchWhen, fittingWhen, answerWhen, loadWaits, loadWhen, changingWhen, indexAllowed, pagingAllowed, vectorAllowed}
+use Rattle.third.specs.Kinds.{csrFunct3, onStimecmp}
+use Rattle.total.specs.When.{is, gives, Class, ecall, virtual-instruction, page-fault, host-interrupt, not-handled, unknown, classOf, otherWord, otherStval, classWhen, startWhen, wordWhen, fetchWhen, fittingWhen, answerWhen, loadWaits, loadWhen, changingWhen, indexAllowed, pagingAllowed, vectorAllowed}
 
 -- the same test on both sides
 split : {A B : Type 0} (f : A → B) (b : Bool) {x y : A} {p q : B} → f x ≡ p → f y ≡ q → f (pick b x y) ≡ pick b p q
@@ -112,7 +113,7 @@ csr-by e c true true false false false false false true w1 w2 w3 w5 w6 w7 rd = r
 csr-by e c true true false false false false false false w1 w2 w3 w5 w6 w7 rd = refl
 
 word-gives : (e : Error) (c : Csrs) (w old rs1 : ℕ) → givesIn e (virt.csrEffect c (virt.csrOf w old rs1)) ≡ and (otherWord w) (is e error.Unsupported)
-unfolding virt.csrOf virt.csrBy virt.stimecmpOf otherWord csrFunct3
+unfolding virt.csrOf virt.csrBy virt.stimecmpOf otherWord onStimecmp csrFunct3
 word-gives e c w old rs1 =
     csr-by e c (eqb (opcodeField w) systemOpcode) (eqb (csrField w) stimecmp) (eqb (funct3Field w) 1) (eqb (funct3Field w) 2)
     (eqb (funct3Field w) 3) (eqb (funct3Field w) 5) (eqb (funct3Field w) 6) (eqb (funct3Field w) 7) _ _ _ _ _ _ _
