@@ -5,3 +5,4 @@ pub mod WholeLaws
 pub mod When
 pub mod WhenLaws
 pub mod Demand1
+pub mod Numbering

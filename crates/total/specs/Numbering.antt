@@ -1,0 +1,54 @@
+-- The numbers and values of asks and answers are the ones that the calls go by. 01, One trap.
+use Prim.Native.Nat.{ℕ}
+use mathlib.Core.List.{List}
+use mathlib.Core.Path.{_≡_, refl}
+use lib.ListN.{getD}
+use Rattle.types.specs.Numbers.{askNumber, answerNumber}
+use Rattle.types.specs.Values.{answerValues}
+use Rattle.types.specs.declared.Answer.{Answer}
+use Rattle.types.specs.declared.Answer.the-variants as answer
+use Rattle.types.specs.declared.Ask.{Ask}
+use Rattle.types.specs.declared.Fetch.{Fetch}
+use Rattle.regs.specs.declared.Csrs.{Csrs}
+use Rattle.regs.specs.declared.Waiting.{Waiting}
+use Rattle.regs.specs.Record.{waitingAsk}
+use Rattle.trap.specs.Resume.{continuedOf, fetchedOf, plainOf}
+use Rattle.total.specs.Leaves.{Waits, fetch-csr, fetch-fault, copy-mask, copy-in, print, read-console, copy-out, put-char, put-byte, get-char, forward}
+
+-- what waits has the number of the ask that was asked, and an answer fits by that number alone
+pub waits-number : {a : Ask} {n : Waiting} → Waits a n → waitingAsk n ≡ askNumber a
+unfolding waitingAsk askNumber
+waits-number (fetch-csr at s) = refl
+waits-number (fetch-fault at s a k) = refl
+waits-number (copy-mask at) = refl
+waits-number (copy-in at n) = refl
+waits-number (print n) = refl
+waits-number (read-console n at) = refl
+waits-number (copy-out at n) = refl
+waits-number (put-char n) = refl
+waits-number (put-byte n) = refl
+waits-number get-char = refl
+waits-number (forward eid fid a) = refl
+
+-- an answer other than a fetch's is taken by its two values, in their order
+pub data Plain : Answer → Type 0 where
+  mask-copied : (n b : ℕ) → Plain (answer.MaskCopied n b)
+  copied-in : (n : ℕ) → Plain (answer.CopiedIn n)
+  printed : (e v : ℕ) → Plain (answer.Printed e v)
+  console-read : (e v : ℕ) → Plain (answer.ConsoleRead e v)
+  copied-out : (n : ℕ) → Plain (answer.CopiedOut n)
+  emitted : Plain answer.Emitted
+  char : (n : ℕ) → Plain (answer.Char n)
+  forwarded : (e v : ℕ) → Plain (answer.Forwarded e v)
+
+pub plain-values : (x : List ℕ) (c : Csrs) (n : Waiting) {a : Answer} → Plain a
+    → continuedOf x c n a ≡ plainOf c n (getD (answerValues a) 0 0) (getD (answerValues a) 1 0)
+unfolding continuedOf answerValues
+plain-values x c n (mask-copied k b) = refl
+plain-values x c n (copied-in k) = refl
+plain-values x c n (printed e v) = refl
+plain-values x c n (console-read e v) = refl
+plain-values x c n (copied-out k) = refl
+plain-values x c n emitted = refl
+plain-values x c n (char k) = refl
+plain-values x c n (forwarded e v) = refl
