@@ -16,7 +16,7 @@ use Rattle.consts.specs.Sbi.{eidTime}
 use Rattle.consts.specs.Traps.{knownCause, knownException, knownInterrupt}
 use Rattle.registers.specs.Bits.{sieOf, spvpOf, withBits}
 use Rattle.registers.specs.Values.{guestPageFaultAddr, hgatpOf}
-use Rattle.decoder.specs.Fields.{csrField, funct3Field, opcodeField, rdField, rs1Field, rs2Field}
+use Rattle.fields.specs.Fields.{csrField, funct3Field, opcodeField, rdField, rs1Field, rs2Field}
 use Rattle.decoder.specs.Decode as decode
 use Rattle.decoder.specs.Length as length
 use Rattle.decoder.specs.Extend.{cutOf, extendBy, extendOf, signedBy, widthBits}
@@ -25,7 +25,7 @@ use Rattle.regs.specs.declared.Vcpu.{Vcpu}
 use Rattle.regs.specs.Record.{bumped, counted, eventNumber, isIdle, listed, moved, pended, stored, timed, valueOf, waitingAsk}
 use Rattle.regs.specs.Effects.{applied, askingOf, doneOf, failedOf, finishedOf, guardedOf, noArgs, refusedOf}
 use Rattle.ecall.specs.Calls.{callOf, timeOf}
-use Rattle.ecall.specs.Doing.{callEffect, movesOf, setTimerOf, staysOf}
+use Rattle.ecall_effect.specs.Doing.{callEffect, movesOf, setTimerOf, staysOf}
 use Rattle.fetch.specs.Faults.{askFetchOf, injectedOf, missedEffect, missedOf, trapStatusOf}
 use Rattle.virtual_inst.specs.Stimecmp as virt
 use Rattle.page_fault.specs.Mmio.{faultEffect, faultOf, loadOf, storeOf}

@@ -6,7 +6,7 @@ use Rattle.types.specs.Pick.{pick}
 use Rattle.types.specs.declared.Width.the-variants as width
 use Rattle.decoder.specs.declared.Decoded.{Decoded}
 use Rattle.decoder.specs.declared.Decoded.the-variants as decoded
-use Rattle.decoder.specs.Fields.{opcodeField, rdField, funct3Field, rs2Field}
+use Rattle.fields.specs.Fields.{opcodeField, rdField, funct3Field, rs2Field}
 
 -- by funct3: LB, LH, LW, LD extend the sign; LBU, LHU, LWU don't; 7 is none
 unfoldable pub loadOf : ℕ → ℕ → Decoded

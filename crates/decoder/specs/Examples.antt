@@ -4,7 +4,7 @@ use mathlib.Core.Path.{_≡_, refl}
 use Rattle.types.specs.declared.Width.the-variants as width
 use Rattle.decoder.specs.declared.Decoded.the-variants as decoded
 use Rattle.decoder.specs.declared.Trapped.the-variants as trapped
-use Rattle.decoder.specs.Fields.{opcodeField, rdField, funct3Field, rs1Field, rs2Field, csrField}
+use Rattle.fields.specs.Fields.{opcodeField, rdField, funct3Field, rs1Field, rs2Field, csrField}
 use Rattle.decoder.specs.Decode.{loadOf, storeOf, decodeBy, decodeOf}
 use Rattle.decoder.specs.Length.{transformedOf, htinstOf}
 use Rattle.decoder.specs.Extend.{widthBits, cutOf}

@@ -1,4 +1,3 @@
-pub mod Fields
 pub mod Decode
 pub mod Length
 pub mod Extend

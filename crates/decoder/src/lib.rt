@@ -3,7 +3,6 @@
 // The handler knows this crate by its promises alone.
 ghost use mathlib.Core.Path.{_≡_};
 ghost use Prim.Native.Nat.{_+_, _<_, _≤_, _^_};
-ghost use Rattle.decoder.specs.Fields.{csrField, funct3Field, opcodeField, rdField, rs1Field, rs2Field};
 ghost use Rattle.decoder.specs.Decode.{decodeBy, decodeOf, loadOf, storeOf};
 ghost use Rattle.decoder.specs.Length.{fetchedOf, htinstOf, opSource, storeSource, transformedOf};
 ghost use Rattle.decoder.specs.Extend.{cutOf, extendBy, extendOf, signedBy};
@@ -93,17 +92,17 @@ pub fn from_fetched(word: u32) -> Trapped
 pub fn decode(word: u64) -> Decoded
     ensures { λ r. ⌜ r ≡ decodeOf word ⌝ }
 {
-    decode_by(opcode(word), word)
+    decode_by(fields::opcode(word), word)
 }
 
 fn decode_by(opcode: u64, word: u64) -> Decoded
     ensures { λ r. ⌜ r ≡ decodeBy opcode word ⌝ }
 {
     if opcode == 0x03 {
-        return load(funct3(word), rd(word));
+        return load(fields::funct3(word), fields::rd(word));
     }
     if opcode == 0x23 {
-        return store(funct3(word), rs2(word));
+        return store(fields::funct3(word), fields::rs2(word));
     }
     Decoded::Neither
 }
@@ -156,43 +155,6 @@ pub fn extend(width: Width, signed: bool, n: u64) -> u64
         Width::Word => extend_by(0x1_0000_0000, 0x8000_0000, 0xffff_ffff_0000_0000, signed, n),
         Width::Double => n,
     }
-}
-
-// The fields of a 32-bit instruction.
-pub fn opcode(word: u64) -> u64
-    ensures { λ r. ⌜ r ≡ opcodeField word ⌝ }
-{
-    word % 128
-}
-
-pub fn rd(word: u64) -> usize
-    ensures { λ r. ⌜ r ≡ rdField word ⌝ }
-{
-    (word / 128 % 32) as usize
-}
-
-pub fn funct3(word: u64) -> u64
-    ensures { λ r. ⌜ r ≡ funct3Field word ⌝ }
-{
-    word / 4096 % 8
-}
-
-pub fn rs1(word: u64) -> usize
-    ensures { λ r. ⌜ r ≡ rs1Field word ⌝ }
-{
-    (word / 0x8000 % 32) as usize
-}
-
-pub fn rs2(word: u64) -> usize
-    ensures { λ r. ⌜ r ≡ rs2Field word ⌝ }
-{
-    (word / 0x10_0000 % 32) as usize
-}
-
-pub fn csr(word: u64) -> u64
-    ensures { λ r. ⌜ r ≡ csrField word ⌝ }
-{
-    word / 0x10_0000 % 4096
 }
 
 // The seven loads by funct3.

@@ -24,7 +24,7 @@ use Rattle.consts.specs.Traps.{envCallFromVs, virtualInstruction, loadGuestPage
 use Rattle.decoder.specs.declared.Decoded.the-variants as decoded
 use Rattle.decoder.specs.declared.Trapped.{Trapped}
 use Rattle.decoder.specs.declared.Trapped.the-variants as trapped
-use Rattle.decoder.specs.Fields.{opcodeField, rdField, funct3Field, rs1Field, csrField}
+use Rattle.fields.specs.Fields.{opcodeField, rdField, funct3Field, rs1Field, csrField}
 use Rattle.decoder.specs.Length.{htinstOf, fetchedOf, storeSource}
 use Rattle.regs.specs.declared.Csrs.{Csrs}
 use Rattle.regs.specs.declared.Effect.{Effect}
@@ -35,7 +35,7 @@ use Rattle.regs.specs.declared.Waiting.the-variants as waiting
 use Rattle.regs.specs.Record.{valueOf, isIdle}
 use Rattle.ecall.specs.declared.Call.the-variants as call
 use Rattle.ecall.specs.Calls.{timeOf, spiOf, hsmOf, srstOf, dbcnOf, spanOf, consoleOf, rfncOf, callOf, lesserOf, notSupportedOf}
-use Rattle.ecall.specs.Doing.{callEffect}
+use Rattle.ecall_effect.specs.Doing.{callEffect}
 use Rattle.ecall.specs.declared.Call as ecalls
 use Rattle.virtual_inst.specs.Stimecmp as virtual
 use Rattle.page_fault.specs.Mmio.{storeOf, faultOf, faultEffect}

@@ -22,7 +22,7 @@ use Rattle.consts.specs.Csr.{consoleRoom, systemOpcode, stimecmp}
 use Rattle.consts.specs.Sbi.{legacySetTimer, legacyPutchar, legacyGetchar, legacyClearIpi, legacySendIpi, legacyFenceI, legacySfenceVma, legacySfenceVmaAsid, legacyShutdown, eidTime, eidSpi, eidHsm, eidHvc, eidSrst, eidDbcn, eidRfnc}
 use Rattle.consts.specs.Traps.{envCallFromVs, virtualInstruction, loadGuestPageFault, storeGuestPageFault, supervisorSoft, supervisorTimer, supervisorExt, knownCause, supervisorExternal}
 use Rattle.decoder.specs.declared.Trapped.{Trapped}
-use Rattle.decoder.specs.Fields.{opcodeField, rdField, funct3Field, rs1Field, csrField}
+use Rattle.fields.specs.Fields.{opcodeField, rdField, funct3Field, rs1Field, csrField}
 use Rattle.regs.specs.declared.Csrs.{Csrs}
 use Rattle.regs.specs.declared.Effect.{Effect}
 use Rattle.regs.specs.declared.Vcpu.{Vcpu}
@@ -32,7 +32,7 @@ use Rattle.regs.specs.Record.{eventNumber, isIdle, waitingAsk}
 use Rattle.regs.specs.Effects.{finishedOf, askingOf, failedOf, refusedOf, doneOf, guardedOf}
 use Rattle.ecall.specs.declared.Call as ecalls
 use Rattle.ecall.specs.Calls.{timeOf, spiOf, hsmOf, srstOf, dbcnOf, spanOf, consoleOf, rfncOf, callOf, lesserOf, notSupportedOf}
-use Rattle.ecall.specs.Doing.{callEffect, returnsOf, movesOf, staysOf, asksOf, setTimerOf, clearIpiOf, hypercallOf}
+use Rattle.ecall_effect.specs.Doing.{callEffect, returnsOf, movesOf, staysOf, asksOf, setTimerOf, clearIpiOf, hypercallOf}
 use Rattle.fetch.specs.declared.Missed.{Missed}
 use Rattle.fetch.specs.declared.Missed.the-variants as missed
 use Rattle.fetch.specs.Faults.{askFetchOf, missedEffect}

@@ -14,7 +14,7 @@ use Rattle.types.specs.declared.Trap.{Trap}
 use Rattle.consts.specs.Csr.{systemOpcode, stimecmp}
 use Rattle.consts.specs.Sbi.{legacySetTimer, eidTime, eidRfnc}
 use Rattle.consts.specs.Traps.{envCallFromVs, virtualInstruction}
-use Rattle.decoder.specs.Fields.{opcodeField, funct3Field, csrField}
+use Rattle.fields.specs.Fields.{opcodeField, funct3Field, csrField}
 use Rattle.regs.specs.declared.Vcpu.{Vcpu}
 use Rattle.regs.specs.declared.Waiting.{Waiting}
 use Rattle.regs.specs.declared.Waiting.the-variants as waiting

@@ -24,7 +24,7 @@ use Rattle.regs.specs.declared.Vcpu.{Vcpu}
 use Rattle.regs.specs.Record.{valueOf, stored, moved, timed, pended, eventNumber, bumped, counted, waitingAsk, isIdle, listed}
 use Rattle.regs.specs.Effects.{applied, noArgs, finishedOf, askingOf, failedOf, refusedOf, doneOf}
 use Rattle.ecall.specs.Calls.{notSupportedOf, lesserOf, timeOf, spiOf, hsmOf, srstOf, spanOf, consoleOf, dbcnOf, rfncOf, callOf}
-use Rattle.ecall.specs.Doing.{returnsOf, movesOf, staysOf, asksOf, setTimerOf, hypercallOf, callEffect}
+use Rattle.ecall_effect.specs.Doing.{returnsOf, movesOf, staysOf, asksOf, setTimerOf, hypercallOf, callEffect}
 use Rattle.fetch.specs.Faults.{askFetchOf, missedOf, trapStatusOf, injectedOf, missedEffect}
 use Rattle.virtual_inst.specs.Stimecmp as virtual
 use Rattle.page_fault.specs.Mmio.{loadOf, storeOf, faultOf, faultEffect}

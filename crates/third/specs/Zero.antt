@@ -17,7 +17,7 @@ use Rattle.types.specs.declared.Trap.{Trap}
 use Rattle.consts.specs.Csr.{systemOpcode, stimecmp}
 use Rattle.consts.specs.Sbi.{legacySetTimer, legacyPutchar, legacySendIpi, legacyShutdown, eidTime, eidSpi, eidHsm, eidHvc, eidSrst, eidDbcn, eidRfnc, eidPmu}
 use Rattle.consts.specs.Traps.{envCallFromVs, virtualInstruction, storeGuestPageFault}
-use Rattle.decoder.specs.Fields.{opcodeField, funct3Field, rs1Field, csrField}
+use Rattle.fields.specs.Fields.{opcodeField, funct3Field, rs1Field, csrField}
 use Rattle.decoder.specs.Length.{htinstOf, fetchedOf, storeSource}
 use Rattle.regs.specs.declared.Vcpu.{Vcpu}
 use Rattle.regs.specs.declared.Waiting.{Waiting}

@@ -26,7 +26,7 @@ use Rattle.regs.specs.Record.{isIdle, waitingAsk}
 use Rattle.regs.specs.Effects.{askingOf, doneOf, failedOf, finishedOf, guardedOf, refusedOf}
 use Rattle.ecall.specs.declared.Call.{Call}
 use Rattle.ecall.specs.declared.Call.the-variants as call
-use Rattle.ecall.specs.Doing.{asksOf, callEffect, clearIpiOf, hypercallOf, movesOf, returnsOf, setTimerOf, staysOf}
+use Rattle.ecall_effect.specs.Doing.{asksOf, callEffect, clearIpiOf, hypercallOf, movesOf, returnsOf, setTimerOf, staysOf}
 use Rattle.fetch.specs.declared.Missed.{Missed}
 use Rattle.fetch.specs.declared.Missed.the-variants as missed
 use Rattle.fetch.specs.Faults.{askFetchOf, missedEffect}

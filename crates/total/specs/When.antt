@@ -16,7 +16,7 @@ use Rattle.types.specs.declared.Reply.the-variants as reply
 use Rattle.types.specs.declared.Trap.{Trap}
 use Rattle.consts.specs.Csr.{systemOpcode}
 use Rattle.consts.specs.Traps.{envCallFromVs, virtualInstruction, loadGuestPageFault, storeGuestPageFault, supervisorSoft, supervisorTimer, supervisorExt, supervisorExternal, knownCause}
-use Rattle.decoder.specs.Fields.{opcodeField}
+use Rattle.fields.specs.Fields.{opcodeField}
 use Rattle.decoder.specs.Errors.{longWord, pseudoWord, unfitWord}
 use Rattle.regs.specs.declared.Vcpu.{Vcpu}
 use Rattle.regs.specs.declared.Waiting.{Waiting}

@@ -29,7 +29,7 @@ use Rattle.decoder.specs.declared.Decoded.{Decoded}
 use Rattle.decoder.specs.declared.Decoded.the-variants as decoded
 use Rattle.decoder.specs.declared.Trapped.{Trapped}
 use Rattle.decoder.specs.declared.Trapped.the-variants as trapped
-use Rattle.decoder.specs.Fields.{opcodeField, funct3Field, csrField}
+use Rattle.fields.specs.Fields.{opcodeField, funct3Field, csrField}
 use Rattle.decoder.specs.Length as length
 use Rattle.decoder.specs.Errors.{isPseudo, isUnfit, longWord, pseudoWord, unfitWord, htinst-pseudo, htinst-unfit, fetched-unfit, fetched-real}
 use Rattle.regs.specs.declared.Csrs.{Csrs}
@@ -42,7 +42,7 @@ use Rattle.regs.specs.Record.{isIdle, waitingAsk}
 use Rattle.regs.specs.Effects.{applied, askingOf, doneOf, failedOf, finishedOf, guardedOf, refusedOf}
 use Rattle.ecall.specs.declared.Call.{Call}
 use Rattle.ecall.specs.declared.Call.the-variants as call
-use Rattle.ecall.specs.Doing.{asksOf, callEffect, clearIpiOf, hypercallOf, movesOf, returnsOf, setTimerOf, staysOf}
+use Rattle.ecall_effect.specs.Doing.{asksOf, callEffect, clearIpiOf, hypercallOf, movesOf, returnsOf, setTimerOf, staysOf}
 use Rattle.fetch.specs.Faults.{askFetchOf, missedEffect, missedOf}
 use Rattle.virtual_inst.specs.declared.Csr.{Csr}
 use Rattle.virtual_inst.specs.declared.Csr.the-variants as csr

@@ -35,7 +35,7 @@ use Rattle.regs.specs.Record.{counted, bumped, eventNumber, isIdle, stored, wai
 use Rattle.regs.specs.Effects.{applied, askingOf, failedOf, finishedOf, refusedOf}
 use Rattle.ecall.specs.declared.Call.{Call}
 use Rattle.ecall.specs.declared.Call.the-variants as call
-use Rattle.ecall.specs.Doing.{asksOf, callEffect, clearIpiOf, hypercallOf, movesOf, returnsOf, setTimerOf, staysOf}
+use Rattle.ecall_effect.specs.Doing.{asksOf, callEffect, clearIpiOf, hypercallOf, movesOf, returnsOf, setTimerOf, staysOf}
 use Rattle.fetch.specs.declared.Missed.{Missed}
 use Rattle.fetch.specs.declared.Missed.the-variants as missed
 use Rattle.fetch.specs.Faults.{askFetchOf, missedEffect}

@@ -9,7 +9,7 @@ use Rattle.types.specs.declared.Answer.the-variants as answer
 use Rattle.types.specs.declared.Error.the-variants as error
 use Rattle.types.specs.declared.Fetch.{Fetch}
 use Rattle.types.specs.declared.Fetch.the-variants as fetch
-use Rattle.decoder.specs.Fields.{rs1Field}
+use Rattle.fields.specs.Fields.{rs1Field}
 use Rattle.decoder.specs.Length as length
 use Rattle.regs.specs.declared.Csrs.{Csrs}
 use Rattle.regs.specs.declared.Effect.{Effect}

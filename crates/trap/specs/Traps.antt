@@ -15,7 +15,7 @@ use Rattle.types.specs.declared.Trap.{Trap}
 use Rattle.consts.specs.Traps.{envCallFromVs, virtualInstruction, loadGuestPageFault, storeGuestPageFault, supervisorSoft, supervisorTimer, supervisorExt, knownCause}
 use Rattle.registers.specs.Values.{guestPageFaultAddr}
 use Rattle.decoder.specs.declared.Trapped.{Trapped}
-use Rattle.decoder.specs.Fields.{rs1Field}
+use Rattle.fields.specs.Fields.{rs1Field}
 use Rattle.decoder.specs.Length.{htinstOf, storeSource}
 use Rattle.regs.specs.declared.Csrs.{Csrs}
 use Rattle.regs.specs.declared.Effect.{Effect}
@@ -25,7 +25,7 @@ use Rattle.regs.specs.declared.Writes.the-variants as writes
 use Rattle.regs.specs.Record.{valueOf, isIdle}
 use Rattle.regs.specs.Effects.{finishedOf, failedOf, refusedOf}
 use Rattle.ecall.specs.Calls.{callOf}
-use Rattle.ecall.specs.Doing.{callEffect}
+use Rattle.ecall_effect.specs.Doing.{callEffect}
 use Rattle.virtual_inst.specs.Stimecmp.{startOf, csrEffect}
 use Rattle.page_fault.specs.Mmio.{faultOf, faultEffect}
 

@@ -48,7 +48,7 @@ fn trap(x: [u64; 32], c: Csrs, t: Trap) -> Effect
     match scause {
         consts::ENV_CALL_FROM_VS => sbi(c, x[17], x[16], arguments(x), t.room),
         consts::VIRTUAL_INST => {
-            let rs1 = regs::register(x, decoder::rs1(t.stval % 0x1_0000_0000));
+            let rs1 = regs::register(x, fields::rs1(t.stval % 0x1_0000_0000));
             stimecmp(c, t.stval, rs1)
         }
         consts::LOAD_GUEST_PAGE_FAULT => page_fault_trap(x, c, t, Access::Read),
@@ -77,7 +77,7 @@ fn arguments(x: [u64; 32]) -> Args
 fn sbi(c: Csrs, eid: u64, fid: u64, a: Args, room: u64) -> Effect
     ensures { λ r. ⌜ r ≡ sbiOf c eid fid a room ⌝ }
 {
-    ecall::effect(c, eid, fid, a, ecall::decide(eid, fid, a, room))
+    ecall_effect::effect(c, eid, fid, a, ecall::decide(eid, fid, a, room))
 }
 
 fn stimecmp(c: Csrs, stval: u64, rs1: u64) -> Effect
@@ -176,7 +176,7 @@ fn resumed(x: [u64; 32], c: Csrs, w: Waiting, word: u32) -> Effect
         } => regs::refused(c, w, Error::WrongAnswer),
         Waiting::FetchCsr => {
             let wide = word as u64;
-            let rs1 = regs::register(x, decoder::rs1(wide));
+            let rs1 = regs::register(x, fields::rs1(wide));
             virtual_inst::effect(c, virtual_inst::decide(wide, c.vs.vstimecmp, rs1))
         }
         Waiting::FetchFault { at, access } => {

@@ -8,7 +8,7 @@ use Rattle.types.specs.declared.Error.the-variants as error
 use Rattle.types.specs.declared.Exit.the-variants as exit
 use Rattle.consts.specs.Csr.{systemOpcode, stimecmp}
 use Rattle.registers.specs.Bits.{withBits}
-use Rattle.decoder.specs.Fields.{opcodeField, rdField, funct3Field, rs1Field, csrField}
+use Rattle.fields.specs.Fields.{opcodeField, rdField, funct3Field, rs1Field, csrField}
 use Rattle.regs.specs.declared.Csrs.{Csrs}
 use Rattle.regs.specs.declared.Effect.{Effect}
 use Rattle.regs.specs.declared.Event.the-variants as event

@@ -24,14 +24,14 @@ pub fn start(stval: u64, old: u64, rs1: u64) -> Csr
     ensures { λ r. ⌜ r ≡ startOf stval old rs1 ⌝ }
 {
     let word = stval % 0x1_0000_0000;
-    start_by(decoder::opcode(word), word, old, rs1)
+    start_by(fields::opcode(word), word, old, rs1)
 }
 
 // What a word that stval or a fetch gave does.
 pub fn decide(word: u64, old: u64, rs1: u64) -> Csr
     ensures { λ r. ⌜ r ≡ csrOf word old rs1 ⌝ }
 {
-    decide_by(decoder::opcode(word), decoder::csr(word), word, old, rs1)
+    decide_by(fields::opcode(word), fields::csr(word), word, old, rs1)
 }
 
 pub fn effect(c: Csrs, d: Csr) -> Effect
@@ -67,9 +67,9 @@ fn decide_by(opcode: u64, csr: u64, word: u64, old: u64, rs1: u64) -> Csr
     if opcode == consts::SYSTEM_OPCODE {
         if csr == consts::CSR_STIMECMP {
             return stimecmp(
-                decoder::funct3(word),
-                decoder::rd(word),
-                decoder::rs1(word) as u64,
+                fields::funct3(word),
+                fields::rd(word),
+                fields::rs1(word) as u64,
                 old,
                 rs1,
             );

@@ -1,0 +1,18 @@
+-- `ecall_effect::moves` meets its contract.
+use Rattle.ecall_effect.specs.Doing.{movesOf}
+use borrow.Author.Needs.{needs}
+use Rattle.ecall_effect.proofs.moves.Statement.{statement}
+use Rattle.ecall_effect.proofs.moves.Tie as tie
+
+advance-requires : tie.Need-advance-requires
+advance-requires c κs = search needs
+
+finished-requires : tie.Need-finished-requires
+finished-requires c κs = search needs
+
+returns : tie.Need-returns
+unfolding movesOf
+returns c = simp (c .finished .ensures, c .before .advance .ensures)
+
+pub moves-spec : {M : Type 1} → statement M
+moves-spec = tie.close (tie.spec advance-requires finished-requires returns)

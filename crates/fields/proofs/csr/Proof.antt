@@ -1,0 +1,12 @@
+-- `fields::csr` meets its contract.
+use mathlib.Core.Path.{refl}
+use Rattle.fields.specs.Fields.{csrField}
+use Rattle.fields.proofs.csr.Statement.{statement}
+use Rattle.fields.proofs.csr.Tie as tie
+
+returns : tie.Need-returns
+unfolding csrField
+returns c = refl
+
+pub csr-spec : {M : Type 1} → statement M
+csr-spec = tie.close (tie.spec returns)

@@ -1,0 +1,12 @@
+-- `fields::funct3` meets its contract.
+use mathlib.Core.Path.{refl}
+use Rattle.fields.specs.Fields.{funct3Field}
+use Rattle.fields.proofs.funct3.Statement.{statement}
+use Rattle.fields.proofs.funct3.Tie as tie
+
+returns : tie.Need-returns
+unfolding funct3Field
+returns c = refl
+
+pub funct3-spec : {M : Type 1} → statement M
+funct3-spec = tie.close (tie.spec returns)

@@ -1,0 +1,12 @@
+-- `fields::opcode` meets its contract.
+use mathlib.Core.Path.{refl}
+use Rattle.fields.specs.Fields.{opcodeField}
+use Rattle.fields.proofs.opcode.Statement.{statement}
+use Rattle.fields.proofs.opcode.Tie as tie
+
+returns : tie.Need-returns
+unfolding opcodeField
+returns c = refl
+
+pub opcode-spec : {M : Type 1} → statement M
+opcode-spec = tie.close (tie.spec returns)
