@@ -1,0 +1,12 @@
+-- `capture::bad` meets its contract.
+use mathlib.Core.Path.{refl}
+use Rattle.capture.specs.Replay.{badOf}
+use Rattle.capture.proofs.bad.Statement.{statement}
+use Rattle.capture.proofs.bad.Tie as tie
+
+returns : tie.Need-returns
+unfolding badOf
+returns c = refl
+
+pub bad-spec : {M : Type 1} → statement M
+bad-spec = tie.close (tie.spec returns)

@@ -1,0 +1,5 @@
+pub mod Pairs
+pub mod Replay
+pub mod Feeds
+pub mod Laws
+pub mod Pieces

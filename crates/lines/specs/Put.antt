@@ -1,0 +1,14 @@
+-- A text written at a place of a buffer.
+use Prim.Native.Nat.{ℕ, _+_, _≤_}
+use mathlib.Core.List.{List, _++_}
+use mathlib.Core.Path.{_≡_}
+use lib.ListN.{drop, length, take}
+
+-- the buffer with the text at a place; its other bytes stay
+unfoldable pub putAt : List ℕ → ℕ → List ℕ → List ℕ
+putAt out at t = take at out ++ (t ++ drop (at + length t) out)
+
+-- the text stands at a place, and r is where it ends
+pub record Put (out : List ℕ) (at : ℕ) (t : List ℕ) (r : ℕ) (later : List ℕ) : Type 0 where
+  pub ends : r ≡ at + length t
+  pub holds : later ≡ putAt out at t

@@ -1,0 +1,260 @@
+// The lines of a capture and of a replay's output: a key, sixteen lowercase hex digits, LF (01, Replay program).
+// Keys and digits are read and written here and nowhere else.
+ghost use mathlib.Core.Path.{_≡_};
+ghost use Prim.Native.Nat.{_+_, _≤_, _<_};
+ghost use lib.ListN.{length};
+ghost use Rattle.lines.specs.Hex.{digitOf, glyph as glyphOf, nibbleOf, pushOf, pushedOf, readOf, sixteen};
+ghost use Rattle.lines.specs.Keys.{fourAt, keyOf};
+ghost use Rattle.lines.specs.Lines.{atEndOf, inDigitsOf, inKeyOf, lineOf, lineText, Read};
+ghost use Rattle.lines.specs.Put.{Put, putAt};
+
+// What sixteen bytes are as hex digits.
+pub enum Digits {
+    Number(u64),
+    Bad,
+}
+
+// What is known of a line after some of its bytes.
+pub enum Got {
+    // So many bytes fit, and the digits among them make this number.
+    More(usize, u64),
+    // The line is whole.
+    Whole(u64),
+    // A byte does not fit.
+    Unfit,
+}
+
+// What was read of a line, and where the bytes after it begin.
+pub struct Part {
+    pub got: Got,
+    pub next: usize,
+}
+
+// Reads on in line k of a capture, of which `at` bytes gave the number v: from `from` to the line's end, to a byte
+// that does not fit, or to the end of the bytes.
+pub fn read(k: usize, at: usize, v: u64, s: &[u8], from: usize) -> Part
+    requires { ⌜ from ≤ length (now s) ⌝ }
+    ensures { λ r. ⌜ Read (keyOf k) at v (now (s .entry)) from r ⌝ }
+{
+    match k {
+        0 => scan(b"sepc=", at, v, s, from),
+        1 => scan(b"vstimecmp=", at, v, s, from),
+        33 => scan(b"scause=", at, v, s, from),
+        34 => scan(b"stval=", at, v, s, from),
+        35 => scan(b"htval=", at, v, s, from),
+        36 => scan(b"htinst=", at, v, s, from),
+        37 => scan(b"word=", at, v, s, from),
+        38 => scan(b"more=", at, v, s, from),
+        _ => read_register(
+            b"x01=x02=x03=x04=x05=x06=x07=x08=x09=x10=x11=x12=x13=x14=x15=x16=x17=x18=x19=x20=x21=x22=x23=x24=x25=x26=x27=x28=x29=x30=x31=",
+            k - 2,
+            at,
+            v,
+            s,
+            from,
+        ),
+    }
+}
+
+// The same for the line of a general register, whose key is the four bytes at i * 4.
+fn read_register(keys: &[u8], i: usize, at: usize, v: u64, s: &[u8], from: usize) -> Part
+    requires { ⌜ (length (now keys) ≡ 124) × (from ≤ length (now s)) ⌝ }
+    ensures { λ r. ⌜ Read (fourAt (now (keys .entry)) i) at v (now (s .entry)) from r ⌝ }
+{
+    if i < 31 {
+        let a = i * 4;
+        let e = a + 4;
+        return scan(&keys[a..e], at, v, s, from);
+    }
+    scan(&keys[..0], at, v, s, from)
+}
+
+// Byte by byte.
+fn scan(key: &[u8], at: usize, v: u64, s: &[u8], from: usize) -> Part
+    requires { ⌜ from ≤ length (now s) ⌝ }
+    ensures { λ r. ⌜ Read (now (key .entry)) at v (now (s .entry)) from r ⌝ }
+{
+    let mut a = at;
+    let mut w = v;
+    let mut i = from;
+    while i < s.len() {
+        let g = line(key, a, w, s[i]);
+        i += 1;
+        match g {
+            Got::More(b, x) => {
+                a = b;
+                w = x;
+            }
+            Got::Whole(x) => {
+                return Part {
+                    got: Got::Whole(x),
+                    next: i,
+                };
+            }
+            Got::Unfit => {
+                return Part {
+                    got: Got::Unfit,
+                    next: i,
+                };
+            }
+        }
+    }
+    Part {
+        got: Got::More(a, w),
+        next: i,
+    }
+}
+
+// One byte more of a line, of which `at` bytes gave the number v.
+fn line(key: &[u8], at: usize, v: u64, b: u8) -> Got
+    ensures { λ r. ⌜ r ≡ lineOf (now (key .entry)) at v b ⌝ }
+{
+    if at < key.len() {
+        return in_key(at + 1, v, b, key[at]);
+    }
+    if at - key.len() < 16 {
+        return in_digits(at + 1, v, nibble(b));
+    }
+    at_end(v, b)
+}
+
+// A byte where the key has x.
+fn in_key(next: usize, v: u64, b: u8, x: u8) -> Got
+    ensures { λ r. ⌜ r ≡ inKeyOf next v b x ⌝ }
+{
+    if b == x {
+        return Got::More(next, v);
+    }
+    Got::Unfit
+}
+
+// A byte that is the digit d; 16 is none.
+fn in_digits(next: usize, v: u64, d: u64) -> Got
+    ensures { λ r. ⌜ r ≡ inDigitsOf next v d ⌝ }
+{
+    if d < 16 {
+        return Got::More(next, push(v, d));
+    }
+    Got::Unfit
+}
+
+// The byte after the digits.
+fn at_end(v: u64, b: u8) -> Got
+    ensures { λ r. ⌜ r ≡ atEndOf v b ⌝ }
+{
+    if b == 10 {
+        return Got::Whole(v);
+    }
+    Got::Unfit
+}
+
+// A byte as a lowercase hex digit; 16 if it is none.
+fn nibble(b: u8) -> u64
+    ensures { λ r. ⌜ r ≡ nibbleOf b ⌝ }
+{
+    if b < 48 {
+        return 16;
+    }
+    if b < 58 {
+        return b as u64 - 48;
+    }
+    if b < 97 {
+        return 16;
+    }
+    if b < 103 {
+        return b as u64 - 87;
+    }
+    16
+}
+
+// One digit more behind a number, in 64 bits.
+fn push(v: u64, d: u64) -> u64
+    requires { ⌜ d < 16 ⌝ }
+    ensures { λ r. ⌜ r ≡ pushOf v d ⌝ }
+{
+    v % 0x1000000000000000 * 16 + d
+}
+
+fn pushed(v: u64, d: u64) -> Digits
+    ensures { λ r. ⌜ r ≡ pushedOf v d ⌝ }
+{
+    if d < 16 {
+        return Digits::Number(push(v, d));
+    }
+    Digits::Bad
+}
+
+fn digit(x: Digits, b: u8) -> Digits
+    ensures { λ r. ⌜ r ≡ digitOf x b ⌝ }
+{
+    match x {
+        Digits::Number(v) => pushed(v, nibble(b)),
+        Digits::Bad => Digits::Bad,
+    }
+}
+
+// The number of sixteen digits.
+pub fn read_digits(s: &[u8]) -> Digits
+    ensures { λ r. ⌜ r ≡ readOf (now (s .entry)) ⌝ }
+{
+    if s.len() == 16 {
+        let mut x = Digits::Number(0);
+        let mut i = 0;
+        while i < s.len() {
+            x = digit(x, s[i]);
+            i += 1;
+        }
+        return x;
+    }
+    Digits::Bad
+}
+
+// Writes a line's text at a place of the buffer, and says where it ends. The other bytes stay.
+pub fn put(key: &[u8], v: u64, out: &mut [u8], at: usize) -> usize
+    requires { ⌜ at + length (now key) + 17 ≤ length (now out) ⌝ }
+    ensures { λ r. ⌜ Put (now (out .entry)) at (lineText (now (key .entry)) v) r (now (out .exit)) ⌝ }
+{
+    put_key(key, out, at);
+    let a = at + key.len();
+    put_digits(v, out, a);
+    let e = a + 16;
+    out[e] = 10;
+    e + 1
+}
+
+fn put_key(key: &[u8], out: &mut [u8], at: usize)
+    requires { ⌜ at + length (now key) ≤ length (now out) ⌝ }
+    ensures { λ _. ⌜ now (out .exit) ≡ putAt (now (out .entry)) at (now (key .entry)) ⌝ }
+{
+    let mut i: usize = 0;
+    while i < key.len() {
+        let j = at + i;
+        out[j] = key[i];
+        i += 1;
+    }
+}
+
+// From the last digit to the first.
+fn put_digits(v: u64, out: &mut [u8], at: usize)
+    requires { ⌜ at + 16 ≤ length (now out) ⌝ }
+    ensures { λ _. ⌜ now (out .exit) ≡ putAt (now (out .entry)) at (sixteen v) ⌝ }
+{
+    let mut i: usize = 16;
+    let mut rest = v;
+    while 0 < i {
+        i -= 1;
+        let j = at + i;
+        out[j] = glyph(rest % 16);
+        rest = rest / 16;
+    }
+}
+
+fn glyph(d: u64) -> u8
+    requires { ⌜ d < 16 ⌝ }
+    ensures { λ r. ⌜ r ≡ glyphOf d ⌝ }
+{
+    if d < 10 {
+        return 48 + d as u8;
+    }
+    87 + d as u8
+}
