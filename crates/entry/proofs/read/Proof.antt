@@ -1,0 +1,15 @@
+-- `entry::read` meets its contract.
+use Rattle.entry.specs.Entry.{readOf}
+use borrow.Author.Needs.{needs}
+use Rattle.entry.proofs.read.Statement.{statement}
+use Rattle.entry.proofs.read.Tie as tie
+
+get-gpr-requires : tie.Need-get-gpr-requires
+get-gpr-requires c κs = search needs
+
+returns : tie.Need-returns
+unfolding readOf
+returns c = simp (c .get-gpr .ensures)
+
+pub read-spec : {M : Type 1} → statement M
+read-spec = tie.close (tie.spec get-gpr-requires returns)
