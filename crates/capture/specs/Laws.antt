@@ -81,23 +81,28 @@ gave-with s a v (got.More b w) = refl
 gave-with s a v (got.Whole w) = refl
 gave-with s a v got.Unfit = refl
 
+-- a test that holds
 picked : {A : Type 0} (t : Bool) (x y : A) → t ≡ true → pick t x y ≡ x
 picked t x y e = rw e
 
+-- a test that does not
 passed : {A : Type 0} (t : Bool) (x y : A) → t ≡ false → pick t x y ≡ y
 passed t x y e = rw e
 
+-- one byte of a line
 fed-one : (s : State) (a v b : ℕ) → s .over ≡ false → fedOf (withOf s a v) b ≡ gaveOf s (lineOf (keyOf (s .key)) a v b)
 unfolding fedOf withOf
 fed-one s a v b e = passed (s .over) _ _ e ∙ gave-with s a v (lineOf (keyOf (s .key)) a v b)
 
--- the output and the state after a reading and the bytes behind it
+-- the output of a reading and of the bytes behind it
 abbrev said : State → Taken → List ℕ
 said s t = textOf (gaveOf s (t .got) .gives) ++ outOf (gaveOf s (t .got) .state) (t .left)
 
+-- the state after them
 abbrev led : State → Taken → State
 led s t = afterOf (gaveOf s (t .got) .state) (t .left)
 
+-- the output, by what the first byte gave
 said-got : (s : State) (l : List ℕ) (g : Got) → ((a w : ℕ) → outOf (withOf s a w) l ≡ said s (takenOf (keyOf (s .key)) a w l))
     → textOf (gaveOf s g .gives) ++ outOf (gaveOf s g .state) l ≡ said s (after g (λ a w. takenOf (keyOf (s .key)) a w l) l)
 unfolding gaveOf textOf
@@ -105,6 +110,7 @@ said-got s l (got.More a w) on = on a w
 said-got s l (got.Whole w) on = refl
 said-got s l got.Unfit on = refl
 
+-- the state, by what the first byte gave
 led-got : (s : State) (l : List ℕ) (g : Got) → ((a w : ℕ) → afterOf (withOf s a w) l ≡ led s (takenOf (keyOf (s .key)) a w l))
     → afterOf (gaveOf s g .state) l ≡ led s (after g (λ a w. takenOf (keyOf (s .key)) a w l) l)
 unfolding gaveOf
@@ -112,6 +118,7 @@ led-got s l (got.More a w) on = on a w
 led-got s l (got.Whole w) on = refl
 led-got s l got.Unfit on = refl
 
+-- the output of bytes is that of the line read on and of the bytes behind it
 line-said : (l : List ℕ) (s : State) (a v : ℕ) → s .over ≡ false → outOf (withOf s a v) l ≡ said s (takenOf (keyOf (s .key)) a v l)
 unfolding outOf takenOf gaveOf textOf
 line-said [] s a v e = refl
@@ -119,6 +126,7 @@ line-said (b ∷ l) s a v e =
     ap (λ (x : Step). textOf (x .gives) ++ outOf (x .state) l) (fed-one s a v b e)
     ∙ said-got s l (lineOf (keyOf (s .key)) a v b) (λ c w. line-said l s c w e)
 
+-- and so is the state
 line-led : (l : List ℕ) (s : State) (a v : ℕ) → s .over ≡ false → afterOf (withOf s a v) l ≡ led s (takenOf (keyOf (s .key)) a v l)
 unfolding afterOf takenOf gaveOf
 line-led [] s a v e = refl
@@ -126,6 +134,7 @@ line-led (b ∷ l) s a v e =
     ap (λ (x : Step). afterOf (x .state) l) (fed-one s a v b e)
     ∙ led-got s l (lineOf (keyOf (s .key)) a v b) (λ c w. line-led l s c w e)
 
+-- a state knows of its line what it knows
 with-own : (s : State) → s ≡ withOf s (s .at) (s .value)
 unfolding withOf
 with-own s = refl
@@ -148,6 +157,7 @@ read-feeds s l from p e r =
           ∙ ap (led s) (r .reads);
     }
 
+-- a byte after an unfit line
 fed-over : (s : State) (b : ℕ) → s .over ≡ true → fedOf s b ≡ quiet s
 unfolding fedOf
 fed-over s b e = picked (s .over) _ _ e
@@ -158,11 +168,13 @@ unfolding outOf textOf
 over-said [] s e = refl
 over-said (b ∷ l) s e = ap (λ (x : Step). textOf (x .gives) ++ outOf (x .state) l) (fed-over s b e) ∙ over-said l s e
 
+-- and nothing changes
 pub over-led : (l : List ℕ) (s : State) → s .over ≡ true → afterOf s l ≡ s
 unfolding afterOf
 over-led [] s e = refl
 over-led (b ∷ l) s e = ap (λ (x : Step). afterOf (x .state) l) (fed-over s b e) ∙ over-led l s e
 
+-- so all bytes are one step
 pub over-feeds : (s : State) (l : List ℕ) (from : ℕ) → s .over ≡ true → from ≤ length l → Feeds s l from (record { step = quiet s; next = length l })
 unfolding textOf
 over-feeds s l from e h =
@@ -186,11 +198,13 @@ filled-next s t l from i e out f z later p w h q =
     ∙ sym (append-assoc (take e out) (textOf (f .step .gives)) (outOf (f .step .state) (drop (f .next) l)))
     ∙ ap (λ (x : List ℕ). x ++ outOf (f .step .state) (drop (f .next) l)) (sym (put-front out e (textOf (f .step .gives)) z later m q))
 
+-- writing what was given keeps the buffer's length
 pub written-same : (g : Gives) (out : List ℕ) (e z : ℕ) (later : List ℕ) → e + 84 ≤ length out → Put out e (textOf g) z later → length later ≡ length out
 written-same g out e z later h q =
     let n : length (textOf g) ≤ 84 = text-short g in
     put-same (omega arith) q
 
+-- and ends in the buffer
 pub written-end : (g : Gives) (out : List ℕ) (e z : ℕ) (later : List ℕ) → e + 84 ≤ length out → Put out e (textOf g) z later → z ≤ length later
 written-end g out e z later h q =
     let n : length (textOf g) ≤ 84 = text-short g in

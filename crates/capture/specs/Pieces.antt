@@ -15,11 +15,13 @@ unfoldable pub piecesOf : State → List (List ℕ) → List ℕ
 piecesOf s [] = textOf (endOf s)
 piecesOf s (c ∷ cs) = outOf s c ++ piecesOf (afterOf s c) cs
 
+-- the state after two pieces
 after-pieces : (s : State) (a b : List ℕ) → afterOf s (a ++ b) ≡ afterOf (afterOf s a) b
 unfolding afterOf
 after-pieces s [] b = refl
 after-pieces s (x ∷ a) b = after-pieces (fedOf s x .state) a b
 
+-- the output of two pieces
 out-pieces : (s : State) (a b : List ℕ) → outOf s (a ++ b) ≡ outOf s a ++ outOf (afterOf s a) b
 unfolding outOf afterOf
 out-pieces s [] b = refl
@@ -27,6 +29,7 @@ out-pieces s (x ∷ a) b =
     ap (λ (o : List ℕ). textOf (fedOf s x .gives) ++ o) (out-pieces (fedOf s x .state) a b)
     ∙ sym (append-assoc (textOf (fedOf s x .gives)) (outOf (fedOf s x .state) a) (outOf (afterOf (fedOf s x .state) a) b))
 
+-- the same from any state
 in-pieces : (s : State) (cs : List (List ℕ)) → piecesOf s cs ≡ outOf s (joined cs) ++ textOf (endOf (afterOf s (joined cs)))
 unfolding piecesOf joined outOf afterOf
 in-pieces s [] = refl

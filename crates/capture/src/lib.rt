@@ -282,6 +282,7 @@ fn header(s: State, n: u64) -> Step
     }
 }
 
+// The record with a header line's number: sepc, vstimecmp, or the register of that line.
 fn headed(v: Vcpu, k: usize, n: u64) -> Vcpu
     ensures { λ r. ⌜ r ≡ headedOf v k n ⌝ }
 {
@@ -432,6 +433,7 @@ fn code(before: u64, r: Reply) -> u64
     }
 }
 
+// Errors are 0x100 plus their number.
 fn failed(number: u64) -> u64
     requires { ⌜ number ≤ 7 ⌝ }
     ensures { λ r. ⌜ r ≡ 256 + number ⌝ }

@@ -38,6 +38,7 @@ read-none keys i at v s from r n h p =
     let m : length keys ≤ i * 4 = omega arith in
     subst (λ (k : List ℕ). Read (take 4 k) at v s from r) (sym (drop-of-length-le keys m)) p
 
+-- neither 0 nor 1 is 2 or more
 pub two-up : (k : ℕ) → (k ≡ 0 → ⊥) → (k ≡ 1 → ⊥) → 2 ≤ k
 two-up zero a b = absurd (a refl)
 two-up (suc zero) a b = absurd (b refl)

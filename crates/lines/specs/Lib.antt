@@ -5,3 +5,4 @@ pub mod Put
 pub mod PutLaws
 pub mod Laws
 pub mod Fold
+pub mod Whole

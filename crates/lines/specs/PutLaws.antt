@@ -12,17 +12,20 @@ use Rattle.lines.specs.Lines.{lineText}
 use Rattle.lines.specs.Put.{Put, putAt}
 
 module _ (out : List ℕ) (at : ℕ) (t : List ℕ) (fits : at + length t ≤ length out) where
+  -- the bytes up to the text's end
   head-length : length (take at out ++ t) ≡ at + length t
   head-length =
       let p : length (take at out) ≡ at = length-take-le at out (omega arith) in
       simp (length-append, p)
 
+  -- writing keeps the length
   pub put-length : length (putAt out at t) ≡ length out
   unfolding putAt
   put-length =
       let p : length (take at out) ≡ at = length-take-le at out (omega arith) in
       simp (length-append, p, length-drop) (omega arith)
 
+-- the bytes behind two texts
 put-rest : (out p : List ℕ) (e n : ℕ) → length p ≡ e → drop (e + n) (p ++ drop e out) ≡ drop (e + n) out
 put-rest out p e n h = sym (drop-drop n e (p ++ drop e out)) ∙ ap (drop n) (drop-at p (drop e out) e h) ∙ drop-drop n e out
 
@@ -70,14 +73,17 @@ put-next out at t i now h l e =
     ∙ put-put out at (take i t) (getD t i 0 ∷ []) f
     ∙ ap (putAt out at) (sym (take-suc t i 0 l) ∙ ap (λ (k : ℕ). take k t) (sym (add-one i)))
 
+-- the loop that writes a text ends with all of it
 pub put-all : (out : List ℕ) (at : ℕ) (t : List ℕ) (i : ℕ) (now : List ℕ) → length t ≤ i → now ≡ putAt out at (take i t) → now ≡ putAt out at t
 put-all out at t i now h e = e ∙ ap (putAt out at) (take-all i t h)
 
+-- a store, seen from its place on
 drop-set : (l : List ℕ) (i a : ℕ) → i < length l → drop i (set l i a) ≡ a ∷ drop (suc i) l
 drop-set l i a h =
     let n : i < suc i = omega arith in
     drop-cons (set l i a) i 0 (lt-length-set l i a h) ∙ rw (getD-set-same l i a 0 h, drop-set-lt (suc i) l i a n)
 
+-- one digit more in front of those written
 digit-set : (at j rest : ℕ) (out : List ℕ) → at + j < length out
     → lastDigits j (rest / 16) ++ drop (at + j) (set out (at + j) (glyph (rest % 16))) ≡ lastDigits (suc j) rest ++ drop (at + suc j) out
 digit-set at j rest out h =
@@ -93,21 +99,26 @@ digit-put at i rest g out r p h e q =
     let b : at + (i - 1) < length out = omega arith in
     rw e (digit-set at (i - 1) rest out b ∙ subst (λ (n : ℕ). lastDigits n rest ++ drop (at + n) out ≡ r) (sym s) q)
 
+-- n digits are n bytes
 pub digits-length : (n v : ℕ) → length (lastDigits n v) ≡ n
 digits-length zero v = refl
 digits-length (suc n) v = length-append (lastDigits n (v / 16)) (glyph (v % 16) ∷ []) ∙ rw (digits-length n (v / 16), add-one)
 
+-- sixteen digits are the last sixteen
 pub sixteen-digits : (v : ℕ) → sixteen v ≡ lastDigits 16 v
 unfolding sixteen
 sixteen-digits v = refl
 
+-- they are sixteen bytes
 pub sixteen-length : (v : ℕ) → length (sixteen v) ≡ 16
 sixteen-length v = ap length (sixteen-digits v) ∙ digits-length 16 v
 
+-- a line is its key and 17 bytes
 pub line-length : (key : List ℕ) (v : ℕ) → length (lineText key v) ≡ length key + 17
 unfolding lineText
 line-length key v = simp (length-append, sixteen-length) (omega arith)
 
+-- the loop that writes digits ends with all sixteen
 pub digits-put : (at i rest v : ℕ) (out out₀ : List ℕ) → i ≤ 0 → take at out ≡ take at out₀ → lastDigits i rest ++ drop (at + i) out ≡ lastDigits 16 v ++ drop (at + 16) out₀ → out ≡ putAt out₀ at (sixteen v)
 unfolding putAt
 digits-put at zero rest v out out₀ z e q =
@@ -138,6 +149,7 @@ line-put out mid late at v key h e f =
     (put-both b (record { ends = omega arith; holds = f })
     (record { ends = refl; holds = put-one late (at + length key + 16) 10 i }))
 
+-- room for a key and 17 bytes is room for its line
 pub line-fits : (out key : List ℕ) (at v : ℕ) → at + length key + 17 ≤ length out → at + length (lineText key v) ≤ length out
 line-fits out key at v h = let n : length (lineText key v) ≡ length key + 17 = line-length key v in omega arith
 

@@ -175,6 +175,7 @@ fn push(v: u64, d: u64) -> u64
     v % 0x1000000000000000 * 16 + d
 }
 
+// The same where the digit may be none.
 fn pushed(v: u64, d: u64) -> Digits
     ensures { λ r. ⌜ r ≡ pushedOf v d ⌝ }
 {
@@ -184,6 +185,7 @@ fn pushed(v: u64, d: u64) -> Digits
     Digits::Bad
 }
 
+// One byte more behind what was read.
 fn digit(x: Digits, b: u8) -> Digits
     ensures { λ r. ⌜ r ≡ digitOf x b ⌝ }
 {
@@ -222,6 +224,7 @@ pub fn put(key: &[u8], v: u64, out: &mut [u8], at: usize) -> usize
     e + 1
 }
 
+// The key's bytes, in order.
 fn put_key(key: &[u8], out: &mut [u8], at: usize)
     requires { ⌜ at + length (now key) ≤ length (now out) ⌝ }
     ensures { λ _. ⌜ now (out .exit) ≡ putAt (now (out .entry)) at (now (key .entry)) ⌝ }
@@ -249,6 +252,7 @@ fn put_digits(v: u64, out: &mut [u8], at: usize)
     }
 }
 
+// The byte of a digit.
 fn glyph(d: u64) -> u8
     requires { ⌜ d < 16 ⌝ }
     ensures { λ r. ⌜ r ≡ glyphOf d ⌝ }
