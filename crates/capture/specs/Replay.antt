@@ -15,7 +15,7 @@ use Rattle.lines.specs.declared.Got.{Got}
 use Rattle.lines.specs.declared.Got.the-variants as got
 use Rattle.lines.specs.Keys.{bytes, keyOf}
 use Rattle.lines.specs.Lines.{lineOf, lineText}
-use Rattle.vcpu.specs.Calls.{answerOf, completeLoadOf, newOf, setEntryOf, setGprOf, setupOf, startOf}
+use Rattle.calls.specs.Calls.{answerOf, completeLoadOf, newOf, setEntryOf, setGprOf, setupOf, startOf}
 use Rattle.capture.specs.declared.Gives.{Gives}
 use Rattle.capture.specs.declared.Gives.the-variants as gives
 use Rattle.capture.specs.declared.State.{State}

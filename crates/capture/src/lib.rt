@@ -75,7 +75,7 @@ pub struct Filled {
 pub fn begin() -> State
     ensures { λ r. ⌜ r ≡ begun ⌝ }
 {
-    let o = vcpu::setup(vcpu::new(0, 0));
+    let o = setup::setup(setup::new(0, 0));
     let v = o.vcpu;
     State {
         vcpu: v,
@@ -287,7 +287,7 @@ fn headed(v: Vcpu, k: usize, n: u64) -> Vcpu
     ensures { λ r. ⌜ r ≡ headedOf v k n ⌝ }
 {
     if k == 0 {
-        let o = vcpu::set_entry(v, GuestPhysAddr(n));
+        let o = setup::set_entry(v, GuestPhysAddr(n));
         return o.vcpu;
     }
     if k == 1 {
@@ -296,7 +296,7 @@ fn headed(v: Vcpu, k: usize, n: u64) -> Vcpu
         w.csrs = c;
         return w;
     }
-    let o = vcpu::set_gpr(v, k - 1, n);
+    let o = gprs::set_gpr(v, k - 1, n);
     o.vcpu
 }
 
@@ -425,11 +425,11 @@ fn code(before: u64, r: Reply) -> u64
     ensures { λ n. ⌜ n ≡ codeOf before r ⌝ }
 {
     match r {
-        Reply::Exit(e) => types::exit_number(e),
+        Reply::Exit(e) => numbers::exit_number(e),
         Reply::Ask(_) => before,
         Reply::Done => before,
         Reply::Value(_) => before,
-        Reply::Error(e) => failed(types::error_number(e)),
+        Reply::Error(e) => failed(numbers::error_number(e)),
     }
 }
 
