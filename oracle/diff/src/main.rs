@@ -33,6 +33,9 @@ use subject::{Model, Subject};
 use switches::Board;
 use tally::Tally;
 
+/// What a fetch may answer.
+const FETCHES: [&str; 6] =
+    ["word", "page fault", "access fault", "misaligned", "guest page fault", "unhandled"];
 /// A run stops after so many mismatches.
 const ENOUGH: u64 = 3;
 
@@ -61,9 +64,20 @@ fn write_captures(mut options: Options, subject: &mut dyn Subject) -> ExitCode {
     let mut random = Random::new(options.seed);
     let mut rust = RustSide::new();
     match captures::write(&folder, &mut random, &mut options.board, &mut rust, subject) {
-        Ok(traps) => {
-            println!("{traps} traps in {}", folder.display());
-            ExitCode::SUCCESS
+        Ok(reached) => {
+            let mut missed = reached.tally.print(&options.board, &options.only);
+            for (name, count) in FETCHES.iter().zip(reached.fetches) {
+                println!("fetch   {name:24}{count:>12}");
+                if count == 0 {
+                    missed.push(format!("fetch {name}"));
+                }
+            }
+            println!("        loads of a register{:>17}", reached.loads);
+            for name in &missed {
+                println!("not reached: {name}");
+            }
+            println!("{} traps in {}", reached.tally.traps + reached.loads, folder.display());
+            if missed.is_empty() { ExitCode::SUCCESS } else { ExitCode::FAILURE }
         }
         Err(error) => {
             println!("{error}");
