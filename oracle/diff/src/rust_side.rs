@@ -199,7 +199,7 @@ impl RustSide {
                 if let RiscvVmExit::MmioRead { width, reg, reg_width, signed_ext, .. } = exit {
                     wide = reg_width == RiscvAccessWidth::Qword;
                     self.waiting = Waiting::Load {
-                        rd: reg as u8,
+                        rd: reg as u64,
                         width: model_width(width),
                         signed: signed_ext,
                     };

@@ -49,6 +49,7 @@ pub const SWITCHES: [(Switch, &str, &str); 14] = [
 ];
 
 /// Which switches are on, and how often each was used.
+#[derive(Clone)]
 pub struct Board {
     on: [bool; SWITCHES.len()],
     pub used: [u64; SWITCHES.len()],
