@@ -6,12 +6,7 @@ use crate::record_words::*;
 use crate::subject::Subject;
 
 #[repr(C)]
-pub struct CallWords {
-    pub kind: u64,
-    pub numbers: [u64; 5],
-}
-
-#[repr(C)]
+#[derive(Default)]
 pub struct ReplyWords {
     pub kind: u64,
     pub number: u64,
@@ -20,14 +15,19 @@ pub struct ReplyWords {
 }
 
 extern "C" {
-    fn vcpu_call(record: *mut Words, call: CallWords) -> ReplyWords;
+    /// `vcpu_call` with the call and the reply by address; tools/archive adds
+    /// it, since a struct by value is passed otherwise on each processor. The
+    /// call is a kind and five numbers.
+    fn vcpu_call_at(reply: *mut ReplyWords, record: *mut Words, call: *const [u64; 6]);
 }
 
 /// A call by words, on a record by words.
-pub fn call_words(record: &mut Words, kind: u64, numbers: [u64; 5]) -> ReplyWords {
-    // The record is 58 words, as abi's repr(C) struct is, and lives for the
-    // call.
-    unsafe { vcpu_call(record, CallWords { kind, numbers }) }
+pub fn call_words(record: &mut Words, kind: u64, [a, b, c, d, e]: [u64; 5]) -> ReplyWords {
+    let mut reply = ReplyWords::default();
+    // The sizes are those of abi's repr(C) structs, and all three live for
+    // the call.
+    unsafe { vcpu_call_at(&mut reply, record, &[kind, a, b, c, d, e]) };
+    reply
 }
 
 pub struct Abi(pub Words);

@@ -57,6 +57,10 @@ fn main() -> ExitCode {
     }
     let passed = match options.mode {
         Mode::Refusals => run_refusals(&options, subject),
+        Mode::Words if options.subject == SubjectName::Model => {
+            println!("mode words makes calls of the proved library: give --subject abi");
+            false
+        }
         Mode::Words => run_words(&options),
         Mode::Switches => run_switches(&options, subject),
         _ => run_traps(&options, subject),
@@ -118,6 +122,7 @@ fn run_switches(options: &Options, subject: &mut dyn Subject) -> bool {
 
 #[cfg(has_abi)]
 fn run_words(options: &Options) -> bool {
+    println!("seed {}, subject abi", options.seed);
     let mut random = Random::new(options.seed);
     let mut tally = wild_words::Tally::default();
     while tally.calls < options.traps {
@@ -131,9 +136,9 @@ fn run_words(options: &Options) -> bool {
     tally.reached_all()
 }
 
+/// Not reached: main has said that the library is missing.
 #[cfg(not(has_abi))]
 fn run_words(_options: &Options) -> bool {
-    println!("mode words makes calls of the proved library: give --subject abi");
     false
 }
 
