@@ -5,6 +5,7 @@ mod abi;
 mod calls;
 mod captures;
 mod compare;
+mod constants;
 mod generate;
 mod input;
 mod instructions;
@@ -34,7 +35,7 @@ use random::Random;
 use run::Run;
 use rust_side::RustSide;
 use subject::{Model, Subject};
-use switches::{Board, SWITCHES};
+use switches::{Board, Switch, SWITCHES};
 
 fn main() -> ExitCode {
     let options = match options::read(std::env::args().skip(1)) {
@@ -100,24 +101,27 @@ fn run_traps(options: &Options, subject: &mut dyn Subject) -> bool {
 /// difference.
 fn run_switches(options: &Options, subject: &mut dyn Subject) -> bool {
     println!("seed {}, subject {}", options.seed, subject.name());
-    let mut needed = 0;
-    for (_, name, _) in SWITCHES {
+    let mut needed = true;
+    for (switch, name, _) in SWITCHES {
+        if switch == Switch::SepcOverflow && !RustSide::checks_overflow() {
+            println!("\nswitch {name}: this build has no overflow checks");
+            continue;
+        }
         let mut board = Board::all_on();
         board.turn_off(name);
         let mut run = Run::new(options, board, subject);
         run.enough = 1;
         println!("\nswitch {name} off");
         run.go();
-        match run.tally.unexplained {
-            0 => println!("no mismatch in {} traps: nothing shows that it is needed", run.tally.traps),
-            _ => {
-                println!("mismatch after {} traps", run.tally.traps);
-                needed += 1;
-            }
+        if run.tally.unexplained == 0 {
+            println!("no mismatch in {} traps: nothing shows that it is needed", run.tally.traps);
+            needed = false;
+        } else {
+            println!("mismatch after {} traps", run.tally.traps);
         }
     }
-    println!("\n{needed} of {} switches are needed", SWITCHES.len());
-    needed == SWITCHES.len()
+    println!("\n{}", if needed { "every switch is needed" } else { "a switch is not needed" });
+    needed
 }
 
 #[cfg(has_abi)]

@@ -3,6 +3,7 @@
 use std::time::Instant;
 
 use crate::compare::run_both;
+use crate::constants;
 use crate::generate;
 use crate::input::Input;
 use crate::options::{Mode, Options};
@@ -46,6 +47,10 @@ impl Run<'_> {
         let mut next_report = 0;
         if RustSide::fresh(7, 0x9000) != model::Vcpu::new(7, 0x9000) {
             println!("mismatch: the record of a new vCPU");
+            self.tally.unexplained += 1;
+        }
+        for name in constants::wrong() {
+            println!("mismatch: the constant {name}");
             self.tally.unexplained += 1;
         }
         while self.tally.traps < due && self.tally.unexplained < self.enough {

@@ -57,6 +57,13 @@ impl RustSide {
         side.record()
     }
 
+    /// Whether the published text was built with overflow checks.
+    pub fn checks_overflow() -> bool {
+        let mut vcpu = RustSide::new().free;
+        vcpu.regs().guest_regs.sepc = usize::MAX;
+        catch_unwind(AssertUnwindSafe(|| vcpu.advance_pc(4))).is_err()
+    }
+
     fn vcpu(&mut self) -> &mut RiscvVcpu<Scripted> {
         if self.is_bound {
             &mut self.bound

@@ -78,6 +78,12 @@ fn inputs() -> Vec<(&'static str, Input, Ending, Ending)> {
             Ending::new(MMIO_READ, &[0, 1]),
         ),
         ("cached-vstimecmp", stale, nothing, nothing),
+        (
+            "sepc-overflow",
+            with(ecall(&[]), |i| i.record.sepc = u64::MAX - 3),
+            nothing,
+            Ending::new(PANIC, &[]),
+        ),
     ]
 }
 
@@ -95,6 +101,9 @@ fn each_switch_explains_its_input() {
         let pair = run_both(&mut Board::all_on(), &mut rust, &mut subject, &input, false);
         assert!(pair.agree(), "{name}");
         assert_eq!(pair.subject.ending, by_01, "{name}");
+        if name == "sepc-overflow" && !RustSide::checks_overflow() {
+            continue;
+        }
         let pair = run_both(&mut off(name), &mut rust, &mut subject, &input, false);
         assert!(!pair.agree(), "{name}");
         if name != "console-a2" {

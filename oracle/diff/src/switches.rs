@@ -26,12 +26,13 @@ pub enum Switch {
     CachedVstimecmp,
     RegisterIndex,
     VectorError,
+    SepcOverflow,
 }
 
 use Switch::*;
 
 /// Each switch with its name and what it does.
-pub const SWITCHES: [(Switch, &str, &str); 14] = [
+pub const SWITCHES: [(Switch, &str, &str); 15] = [
     (ConsoleBound, "console-bound", "DBCN 0 and 1 with a0 above the room: the Rust is given a0 = room"),
     (ConsoleA2, "console-a2", "DBCN 0 and 1 with a0 and a2 not 0: the Rust's outcome is replaced by INVALID_PARAM, 0"),
     (EmptyCopy, "empty-copy", "DBCN 1 answered 0, 0: the Rust's copy of no bytes is dropped, and 0, 0 returned"),
@@ -46,6 +47,7 @@ pub const SWITCHES: [(Switch, &str, &str); 14] = [
     (CachedVstimecmp, "cached-vstimecmp", "a stimecmp access with a saved vstimecmp that is not the live one: the Rust is given the live one"),
     (RegisterIndex, "register-index", "a register write above 31, which the Rust ignores: refusal 1"),
     (VectorError, "vector-error", "an interrupt vector not allowed: the Rust's error 3 is refusal 1"),
+    (SepcOverflow, "sepc-overflow", "with overflow checks, sepc passing 2^64: the Rust's panic is its outcome from 16 bytes lower, moved back"),
 ];
 
 /// Which switches are on, and how often each was used.
@@ -76,7 +78,7 @@ impl Board {
     }
 
     /// Whether the switch is on; if so this use is counted.
-    fn takes(&mut self, switch: Switch) -> bool {
+    pub fn takes(&mut self, switch: Switch) -> bool {
         let at = switch as usize;
         self.used[at] += self.on[at] as u64;
         self.on[at]
