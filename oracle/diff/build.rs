@@ -1,12 +1,14 @@
 //! Links the proved library where it is at hand: VCPU_ABI names the archive
-//! of crate abi, lowered for this machine. Without it the program is built
-//! with the model alone as a subject.
+//! of crate abi and VCPU_IN_PLACE that of crate in_place, lowered for this
+//! machine. Without them the program is built with the model alone as a
+//! subject.
 
 use std::path::Path;
 use std::process::exit;
 
 /// Each archive's variable, and the cfg that its subject stands under.
-const ARCHIVES: [(&str, &str); 1] = [("VCPU_ABI", "has_abi")];
+const ARCHIVES: [(&str, &str); 2] =
+    [("VCPU_ABI", "has_abi"), ("VCPU_IN_PLACE", "has_in_place")];
 
 fn main() {
     for (variable, cfg) in ARCHIVES {

@@ -7,12 +7,15 @@ mod captures;
 mod compare;
 mod constants;
 mod generate;
+#[cfg(has_in_place)]
+mod in_place;
 mod input;
 mod instructions;
 mod options;
 mod outcome;
 mod random;
-#[cfg(has_abi)]
+#[cfg(any(has_abi, has_in_place))]
+#[cfg_attr(not(has_abi), allow(dead_code))]
 mod record_words;
 mod refusals;
 mod run;
@@ -48,8 +51,9 @@ fn main() -> ExitCode {
     // A panic in the published text is an outcome, not a message.
     std::panic::set_hook(Box::new(|_| {}));
     let Some(mut subject) = subject_named(options.subject) else {
-        println!("this program was built without the proved library");
-        println!("set VCPU_ABI to the archive of crate abi, as tools/archive writes it, and build again");
+        println!("this program was built without that part of the proved library");
+        println!("set VCPU_ABI (abi) or VCPU_IN_PLACE (in-place) to the crate's archive, as");
+        println!("tools/archive writes it, and build again");
         return ExitCode::from(2);
     };
     let subject = subject.as_mut();
@@ -58,8 +62,8 @@ fn main() -> ExitCode {
     }
     let passed = match options.mode {
         Mode::Refusals => run_refusals(&options, subject),
-        Mode::Words if options.subject == SubjectName::Model => {
-            println!("mode words makes calls of the proved library: give --subject abi");
+        Mode::Words if options.subject != SubjectName::Abi => {
+            println!("mode words makes calls of crate abi: give --subject abi");
             false
         }
         Mode::Words => run_words(&options),
@@ -79,8 +83,10 @@ fn subject_named(name: SubjectName) -> Option<Box<dyn Subject>> {
         SubjectName::Model => Some(Box::new(Model(model::Vcpu::zero()))),
         #[cfg(has_abi)]
         SubjectName::Abi => Some(Box::new(abi::Abi([0; 58]))),
-        #[cfg(not(has_abi))]
-        SubjectName::Abi => None,
+        #[cfg(has_in_place)]
+        SubjectName::InPlace => Some(Box::new(in_place::InPlace([0; 58]))),
+        #[cfg(not(all(has_abi, has_in_place)))]
+        _ => None,
     }
 }
 

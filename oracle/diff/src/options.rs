@@ -25,8 +25,10 @@ pub enum Mode {
 #[derive(Clone, Copy, PartialEq, Eq)]
 pub enum SubjectName {
     Model,
-    /// The proved library by its exported entry.
+    /// The proved library by crate abi's one exported function.
     Abi,
+    /// The proved library by crate in_place's exported functions.
+    InPlace,
 }
 
 pub struct Options {
@@ -46,7 +48,7 @@ pub struct Options {
 }
 
 const USAGE: &str = "\
-usage: diff [--subject model|abi] [--seed N] [--traps N]
+usage: diff [--subject model|abi|in-place] [--seed N] [--traps N]
             [--mode single|sequence|both|refusals|words|switches]
             [--length N] [--only CLASS]... [--off SWITCH]... [--enough N]
             [--list] [--captures FOLDER]
@@ -91,6 +93,7 @@ pub fn read(mut args: impl Iterator<Item = String>) -> Result<Options, String> {
                 options.subject = match value.as_str() {
                     "model" => SubjectName::Model,
                     "abi" => SubjectName::Abi,
+                    "in-place" => SubjectName::InPlace,
                     _ => return Err(USAGE.into()),
                 }
             }
