@@ -6,6 +6,8 @@ mod calls;
 mod captures;
 mod compare;
 mod constants;
+#[cfg(test)]
+mod faults;
 mod generate;
 #[cfg(has_in_place)]
 mod in_place;
