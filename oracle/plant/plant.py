@@ -52,7 +52,7 @@ def read_options():
     parser.add_argument("--results", type=Path, default=Path(tempfile.gettempdir()) / "plant.results")
     parser.add_argument("--part", type=lambda text: tuple(map(int, text.split("/"))), default=(1, 1))
     parser.add_argument("--only", help="files whose name holds this")
-    parser.add_argument("--traps", type=int, default=200_000)
+    parser.add_argument("--traps", type=int, default=100_000)
     parser.add_argument("--table", type=Path, help="where the table of what was found goes")
     parser.add_argument("--list", action="store_true")
     return parser.parse_args()
