@@ -11,7 +11,7 @@ use published::types::{
 };
 use published::vcpu::RiscvVcpu;
 use published::{ipi_request, run_guest, RiscvVcpuCreateConfig};
-use scripted::{live, with_live, Script};
+use scripted::{live, with_live, Live, Script};
 
 use crate::outcome::*;
 
@@ -22,6 +22,8 @@ pub struct RustSide {
     free: RiscvVcpu<Scripted>,
     bound: RiscvVcpu<Scripted>,
     is_bound: bool,
+    /// The hart's own henvcfg when the vCPU was bound.
+    host_henvcfg: usize,
     stale: bool,
     waiting: Waiting,
     counts: [u64; 9],
@@ -34,11 +36,13 @@ impl RustSide {
             RiscvVcpu::new(0, 0, config).expect("a vCPU can be made")
         };
         let mut bound: RiscvVcpu<Scripted> = make();
+        with_live(|live| live.henvcfg = 0);
         bound.bind().expect("a vCPU can be bound");
         RustSide {
             free: make(),
             bound,
             is_bound: false,
+            host_henvcfg: 0,
             stale: false,
             waiting: Waiting::Nothing,
             counts: [0; 9],
@@ -190,6 +194,48 @@ impl RustSide {
         strays
     }
 
+    /// Takes a bound vCPU off the hart and puts it back, after another guest
+    /// had the hart. 01 leaves `bind` and `unbind` out, so they must keep the
+    /// record, and leave nothing of it on the hart. The names of what is not so.
+    pub fn rebind(&mut self) -> Vec<&'static str> {
+        const STCE: usize = 1 << 63;
+        if !self.is_bound {
+            return Vec::new();
+        }
+        let before = self.record();
+        let was_unbound = self.bound.unbind().is_ok();
+        let off = live();
+        let mut saved = self.record();
+        let vs = &self.bound.regs().vs_csrs;
+        saved.vstimecmp = vs.vstimecmp as u64;
+        let others = [vs.htimedelta, vs.vsatp, vs.vsie, vs.vsscratch];
+        let again = self.bound.unbind().is_ok();
+        let another = !OUTSIDE & !STCE;
+        with_live(|live| {
+            *live = Live { sstatus: live.sstatus, henvcfg: another, ..every_csr(another) }
+        });
+        let was_bound = self.bound.bind().is_ok();
+        let stce = live().henvcfg == another | STCE;
+        with_live(|live| live.henvcfg = OUTSIDE);
+        let mut wrong = self.strays();
+        for (is_wrong, name) in [
+            (!was_unbound || again, "what unbind answers"),
+            (!was_bound || self.bound.bind().is_ok(), "what bind answers"),
+            (saved != before || others != [OUTSIDE; 4], "the saved record"),
+            (off.henvcfg != self.host_henvcfg, "henvcfg of the host"),
+            ([off.hie, off.hvip, off.hgeie, off.hgatp] != [0; 4], "the hart's CSRs"),
+            (off.vstimecmp != usize::MAX, "the hart's vstimecmp"),
+            (!stce, "henvcfg.STCE"),
+            (self.record() != before, "the record"),
+        ] {
+            if is_wrong {
+                wrong.push(name);
+            }
+        }
+        self.host_henvcfg = another;
+        wrong
+    }
+
     /// Runs one trap through the public `run`.
     pub fn run_trap(&mut self, trap: &Trap, script: &Script) -> Outcome {
         scripted::begin(script, self.counts);
@@ -317,6 +363,32 @@ impl RustSide {
                 return None;
             }
         })
+    }
+}
+
+/// Live CSRs that all hold one number.
+fn every_csr(number: usize) -> Live {
+    Live {
+        scause: number,
+        stval: number,
+        htval: number,
+        htinst: number,
+        sstatus: number,
+        henvcfg: number,
+        hgatp: number,
+        hgeie: number,
+        hie: number,
+        htimedelta: number,
+        hvip: number,
+        vsatp: number,
+        vscause: number,
+        vsepc: number,
+        vsie: number,
+        vsscratch: number,
+        vsstatus: number,
+        vstimecmp: number,
+        vstval: number,
+        vstvec: number,
     }
 }
 
