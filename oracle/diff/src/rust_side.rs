@@ -4,7 +4,7 @@ use std::panic::{catch_unwind, AssertUnwindSafe};
 
 use model::{Call, IpiAbi, IpiCompletion, Trap, Vcpu, Waiting, Width};
 use published::host::Scripted;
-use published::regs::GprIndex;
+use published::regs::{GprIndex, VirtualHsCsrs, VsCsrs};
 use published::types::{
     RiscvAccessWidth, RiscvGuestPhysAddr, RiscvIpiAbi, RiscvIpiCompletion, RiscvNestedPagingConfig,
     RiscvVcpuError, RiscvVmExit,
@@ -202,7 +202,13 @@ impl RustSide {
         if !self.is_bound {
             return Vec::new();
         }
+        let another = !OUTSIDE & !STCE;
         let before = self.record();
+        // What counts is on the hart: a guest that ran has changed it there.
+        let regs = self.bound.regs();
+        regs.vs_csrs = every_vs_csr(another);
+        regs.virtual_hs_csrs =
+            VirtualHsCsrs { hie: another, hvip: another, hgeie: another, hgatp: another };
         let was_unbound = self.bound.unbind().is_ok();
         let off = live();
         let mut saved = self.record();
@@ -210,7 +216,6 @@ impl RustSide {
         saved.vstimecmp = vs.vstimecmp as u64;
         let others = [vs.htimedelta, vs.vsatp, vs.vsie, vs.vsscratch];
         let again = self.bound.unbind().is_ok();
-        let another = !OUTSIDE & !STCE;
         with_live(|live| {
             *live = Live { sstatus: live.sstatus, henvcfg: another, ..every_csr(another) }
         });
@@ -363,6 +368,22 @@ impl RustSide {
                 return None;
             }
         })
+    }
+}
+
+/// Saved VS CSRs that all hold one number.
+fn every_vs_csr(number: usize) -> VsCsrs {
+    VsCsrs {
+        htimedelta: number,
+        vsatp: number,
+        vscause: number,
+        vsepc: number,
+        vsie: number,
+        vsscratch: number,
+        vsstatus: number,
+        vstimecmp: number,
+        vstval: number,
+        vstvec: number,
     }
 }
 
