@@ -209,23 +209,28 @@ impl RustSide {
         regs.vs_csrs = every_vs_csr(another);
         regs.virtual_hs_csrs =
             VirtualHsCsrs { hie: another, hvip: another, hgeie: another, hgatp: another };
+        scripted::begin(&Script::ZERO, self.counts);
         let was_unbound = self.bound.unbind().is_ok();
         let off = live();
         let mut saved = self.record();
         let vs = &self.bound.regs().vs_csrs;
         saved.vstimecmp = vs.vstimecmp as u64;
         let others = [vs.htimedelta, vs.vsatp, vs.vsie, vs.vsscratch];
-        let again = self.bound.unbind().is_ok();
+        let again = self.bound.unbind();
         with_live(|live| {
             *live = Live { sstatus: live.sstatus, henvcfg: another, ..every_csr(another) }
         });
         let was_bound = self.bound.bind().is_ok();
         let stce = live().henvcfg == another | STCE;
+        let bound_again = self.bound.bind();
+        let noted = scripted::end();
+        let refused = Err(RiscvVcpuError::BadState);
         with_live(|live| live.henvcfg = OUTSIDE);
         let mut wrong = self.strays();
         for (is_wrong, name) in [
-            (!was_unbound || again, "what unbind answers"),
-            (!was_bound || self.bound.bind().is_ok(), "what bind answers"),
+            (!was_unbound || again != refused, "what unbind answers"),
+            (!was_bound || bound_again != refused, "what bind answers"),
+            (!noted.requests.is_empty() || noted.counts != self.counts, "requests and events"),
             (saved != before || others != [OUTSIDE; 4], "the saved record"),
             (off.henvcfg != self.host_henvcfg, "henvcfg of the host"),
             ([off.hie, off.hvip, off.hgeie, off.hgatp] != [0; 4], "the hart's CSRs"),
