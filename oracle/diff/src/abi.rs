@@ -42,7 +42,7 @@ impl Subject for Abi {
     }
 
     fn record(&self) -> Vcpu {
-        record_of(&self.0)
+        record_of_whole(&self.0)
     }
 
     fn call(&mut self, call: &Call) -> Reply {

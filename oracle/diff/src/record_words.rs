@@ -10,8 +10,19 @@ pub fn words_of(record: &Vcpu) -> Words {
     record.to_words(waiting_words(&record.waiting))
 }
 
+/// The record that the words stand for. Words that what waits doesn't carry
+/// count for nothing.
 pub fn record_of(words: &Words) -> Vcpu {
     Vcpu::from_words(words, waiting_of(&words[54..]))
+}
+
+/// The same, where those words must be 0.
+pub fn record_of_whole(words: &Words) -> Vcpu {
+    let record = record_of(words);
+    if words_of(&record) != *words {
+        stray("waiting part", &words[54..]);
+    }
+    record
 }
 
 fn waiting_words(waiting: &Waiting) -> [u64; 4] {
@@ -34,18 +45,18 @@ fn waiting_words(waiting: &Waiting) -> [u64; 4] {
     }
 }
 
-/// What waits by its words. Words that no call leaves are a fault here, so
-/// that a run finds them.
+/// What waits by its words. A kind or number that no call leaves is a fault
+/// here, so that a run finds it.
 fn waiting_of(words: &[u64]) -> Waiting {
-    let waiting = match *words {
+    match *words {
         [0, ..] => Waiting::Nothing,
         [1, rd, width, signed] => {
-            Waiting::Load { rd, width: width_of(width), signed: signed == 1 }
+            Waiting::Load { rd, width: width_of(width), signed: flag_of(signed) }
         }
         [2, ..] => Waiting::Fetch(FetchFor::VirtualInstruction),
         [3, addr, access, _] => Waiting::Fetch(FetchFor::GuestPageFault {
             addr: GuestPhysAddr(addr),
-            write: access == 2,
+            write: flag_of(access.wrapping_sub(1)),
         }),
         [4, ..] => Waiting::Mask,
         [5, n, ..] => Waiting::CopyIn { n },
@@ -57,11 +68,15 @@ fn waiting_of(words: &[u64]) -> Waiting {
         [11, ..] => Waiting::GetChar,
         [12, ..] => Waiting::Forward,
         _ => stray("waiting part", words),
-    };
-    if waiting_words(&waiting) != *words {
-        stray("waiting part", words);
     }
-    waiting
+}
+
+fn flag_of(word: u64) -> bool {
+    match word {
+        0 => false,
+        1 => true,
+        _ => stray("flag", &[word]),
+    }
 }
 
 fn width_of(bytes: u64) -> Width {
@@ -125,11 +140,7 @@ pub fn ask_of(number: u64, values: &[u64; 8]) -> Ask {
     match number {
         1 => Ask::Fetch {
             at: GuestVirtAddr(a),
-            supervisor: match b {
-                0 => false,
-                1 => true,
-                _ => stray("supervisor flag", &[b]),
-            },
+            supervisor: flag_of(b),
         },
         2 => Ask::Mask { at: GuestVirtAddr(a) },
         3 => Ask::CopyIn { at: GuestPhysAddr(a), n: b },
