@@ -11,6 +11,7 @@ found is kept in --results (plant.results in the temporary folder's parent by de
 
 import argparse
 import os
+import re
 import resource
 import shutil
 import subprocess
@@ -37,7 +38,7 @@ def main():
     planted = [(name, fault) for name, fault in planted if not options.only or options.only in name]
     if options.list:
         for name, fault in planted:
-            print(title(name, fault))
+            print(f"{title(name, fault)}\t{fault.function}")
         return
     number, of = options.part
     mine = planted[(number - 1) * len(planted) // of : number * len(planted) // of]
@@ -68,7 +69,7 @@ def texts(source):
 
 
 def title(name, fault):
-    return f"{name}\t{fault.kind}\t{fault.ordinal}\t{fault.function}"
+    return f"{name}\t{fault.kind}\t{fault.ordinal}"
 
 
 class Bench:
@@ -111,10 +112,9 @@ class Bench:
             return "not noticed"
         if done.returncode < 0:
             return f"noticed: signal {-done.returncode}"
-        last = done.stdout.strip().splitlines()[-1:] or [""]
-        traps, unexplained = last[0].split(" ")[0], last[0].split(" ")[2:3]
-        if unexplained not in ([], ["0"]):
-            return f"noticed after {traps}"
+        last = re.search(r"^(\d+) traps, (\d+) unexplained$", done.stdout, re.M)
+        if last and last[2] != "0":
+            return f"noticed after {last[1]}"
         missed = [line for line in done.stdout.splitlines() if line.startswith("not reached")]
         if missed:
             return f"noticed: {missed[0]}"
@@ -154,7 +154,7 @@ def read_results(path):
 
 
 def finish(mine, results, options):
-    """Counts by file and kind, then each fault that was not noticed with its reason."""
+    """Writes the table; fails if a fault was not noticed and has no reason."""
     rows = [(name, fault, results[title(name, fault)]) for name, fault in mine]
     built = [row for row in rows if row[2] != "does not compile"]
     noticed = [row for row in built if row[2] != "not noticed"]
@@ -171,29 +171,36 @@ def finish(mine, results, options):
     sys.exit(1 if without else 0)
 
 
+HEADER = """# Planted faults
+
+`oracle/plant/plant.py --table docs/PLANTED.md` writes this page. It plants faults of one token each, one at a time, in a copy of the published text of riscv_vcpu 0.6.3 and of the stand-ins in oracle/, and runs oracle/diff on each copy, with the model as its subject, to the first mismatch or for 100,000 traps. A fault is named by its file, its kind and its number among the faults of that kind in the file; oracle/plant/rules.py says what counts. Comments, strings, attributes, log lines and `use` lines are passed over.
+
+| kind | the n-th .. |
+|---|---|
+"""
+
+
 def table(rows, built, noticed, missed):
-    counts = [int(found.rsplit(" ", 1)[1]) for _, _, found in noticed if found.startswith("noticed after")]
-    counts.sort()
-    lines = [f"{len(built)} faults that compile, {len(noticed)} noticed, {len(missed)} not noticed. Of those noticed by a mismatch"]
+    lines = [HEADER + "\n".join(f"| {kind} | {what} |" for kind, what in KINDS.items()), ""]
+    lines.append(f"{len(rows)} faults, of which {len(built)} compile. {len(noticed)} are noticed and {len(missed)} are not.")
+    counts = sorted(int(found.rsplit(" ", 1)[1]) for _, _, found in noticed if found.startswith("noticed after"))
     if counts:
-        half, most = counts[len(counts) // 2], counts[-1]
-        lines[0] += f", half were noticed within {half:,} traps and all within {most:,}."
-    lines += ["", "| file | " + " | ".join(KINDS) + " | all |", "|---" * (len(KINDS) + 2) + "|"]
-    for name in dict.fromkeys(name for name, _, _ in rows):
-        cells = []
-        for kind in [*KINDS, None]:
-            of = [row for row in built if row[0] == name and kind in (row[1].kind, None)]
-            seen = [row for row in of if row[2] != "not noticed"]
-            cells.append(f"{len(seen)}/{len(of)}" if of else "")
-        if cells[-1]:
-            lines.append(f"| {name} | " + " | ".join(cells) + " |")
-    lines += ["", "| not noticed | in | reason |", "|---|---|---|"]
+        lines[-1] += f" Half of those noticed by a mismatch are noticed within {counts[len(counts) // 2]:,} traps, all within {counts[-1]:,}."
+    lines += ["", "## Not noticed, and why", "", "| file | function | faults | reason |", "|---|---|---|---|"]
     groups = {}
     for name, fault, _ in missed:
-        key = (name, fault.function, reason_for(name, fault))
-        groups.setdefault(key, []).append(f"{fault.kind} {fault.ordinal}")
+        groups.setdefault((name, fault.function, reason_for(name, fault)), []).append(f"{fault.kind} {fault.ordinal}")
     for (name, function, reason), which in groups.items():
-        lines.append(f"| {name}: {', '.join(which)} | {function} | {reason} |")
+        lines.append(f"| {name} | {function} | {', '.join(which)} | {reason} |")
+    lines += ["", "## Noticed", ""]
+    lines += ["In brackets: after how many traps, where 0 is before the first; or how the run ended otherwise.", ""]
+    lines += ["| file | kind | faults |", "|---|---|---|"]
+    groups = {}
+    for name, fault, found in noticed:
+        how = found.removeprefix("noticed").removeprefix(":").removeprefix(" after").strip()
+        groups.setdefault((name, fault.kind), []).append(f"{fault.ordinal} ({how})")
+    for (name, kind), which in groups.items():
+        lines.append(f"| {name} | {kind} | {', '.join(which)} |")
     return "\n".join(lines) + "\n"
 
 

@@ -21,10 +21,10 @@ KINDS = {
     "test": "`true` and `false` exchanged",
     "equal": "`==` and `!=` exchanged",
     "order": "`<=` made `<`, or `..=` made `..`",
-    "bits": "`|` and `&` between numbers exchanged",
+    "bits": "bit OR and bit AND between numbers exchanged",
     "shift": "`<<` and `>>` exchanged",
     "not": "`!` before a value dropped",
-    "assign": "`+=` made `-=`, or `|=` made `&=`",
+    "assign": "`+=` made `-=`, or an OR into a place made an AND",
     "path": "last name of a path made the next one under the same name",
     "field": "field made the next one of the same value",
     "call": "method made the next one of the same value",
@@ -55,12 +55,12 @@ class Token:
 def tokens(text):
     """The tokens that rules count, each with the function it stands in."""
     found = [m for m in TOKEN.finditer(text) if not m.group().startswith(("//", "/*"))]
-    kept, seen, function, at = [], {}, "outside functions", 0
+    kept, inside, at = [], Inside(), 0
     while at < len(found):
         word = found[at].group()
         following = [m.group() for m in found[at + 1 : at + 3]]
-        if word == "#" and following[:1] == ["["]:
-            at = close(found, at + 1) + 1
+        if word == "#" and "[" in following:
+            at = close(found, at + 1 + following.index("[")) + 1
             continue
         if word in LOGS and following == ["!", "("]:
             at = close(found, at + 2) + 1
@@ -70,13 +70,40 @@ def tokens(text):
                 at += 1
             at += 1
             continue
-        if word == "fn" and re.match(r"\w", following[0]):
-            name = following[0]
-            seen[name] = seen.get(name, 0) + 1
-            function = name if seen[name] == 1 else f"{name}, number {seen[name]}"
-        kept.append(Token(word, found[at].start(), found[at].end(), function))
+        inside.step(word, following)
+        kept.append(Token(word, found[at].start(), found[at].end(), inside.function()))
         at += 1
     return kept
+
+
+class Inside:
+    """The function that a token stands in; one of several of the same name has its number."""
+
+    def __init__(self):
+        self.seen, self.open, self.depth, self.named = {}, [], 0, None
+
+    def step(self, word, following):
+        if word == "fn" and re.match(r"\w", following[0]):
+            name = following[0]
+            self.seen[name] = self.seen.get(name, 0) + 1
+            number = self.seen[name]
+            self.named = name if number == 1 else f"{name}, number {number}"
+        elif word == "{":
+            self.depth += 1
+            if self.named:
+                self.open.append((self.named, self.depth))
+                self.named = None
+        elif word == "}":
+            if self.open and self.open[-1][1] == self.depth:
+                self.open.pop()
+            self.depth -= 1
+        elif word == ";" and self.named and not self.open:
+            self.named = None
+
+    def function(self):
+        if self.named:
+            return self.named
+        return self.open[-1][0] if self.open else "outside functions"
 
 
 def close(found, at):
