@@ -7,8 +7,7 @@ use std::path::Path;
 use std::process::exit;
 
 /// Each archive's variable, and the cfg that its subject stands under.
-const ARCHIVES: [(&str, &str); 2] =
-    [("VCPU_ABI", "has_abi"), ("VCPU_IN_PLACE", "has_in_place")];
+const ARCHIVES: [(&str, &str); 2] = [("VCPU_ABI", "has_abi"), ("VCPU_IN_PLACE", "has_in_place")];
 
 fn main() {
     for (variable, cfg) in ARCHIVES {

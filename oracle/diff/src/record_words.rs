@@ -138,10 +138,7 @@ pub fn ask_carries(number: u64) -> usize {
 pub fn ask_of(number: u64, values: &[u64; 8]) -> Ask {
     let [a, b, ..] = *values;
     match number {
-        1 => Ask::Fetch {
-            at: GuestVirtAddr(a),
-            supervisor: flag_of(b),
-        },
+        1 => Ask::Fetch { at: GuestVirtAddr(a), supervisor: flag_of(b) },
         2 => Ask::Mask { at: GuestVirtAddr(a) },
         3 => Ask::CopyIn { at: GuestPhysAddr(a), n: b },
         4 => Ask::Print { n: a },
@@ -149,11 +146,7 @@ pub fn ask_of(number: u64, values: &[u64; 8]) -> Ask {
         6 => Ask::CopyOut { at: GuestPhysAddr(a), n: b },
         7 => Ask::Emit { number: a },
         8 => Ask::GetChar,
-        9 => Ask::Forward {
-            eid: a,
-            fid: b,
-            args: std::array::from_fn(|i| values[2 + i]),
-        },
+        9 => Ask::Forward { eid: a, fid: b, args: std::array::from_fn(|i| values[2 + i]) },
         _ => stray("ask", &[number]),
     }
 }

@@ -55,7 +55,11 @@ impl Run<'_> {
         }
         while self.tally.traps < due && self.tally.unexplained < self.enough {
             if self.tally.traps >= next_report {
-                eprint!("\r{} of {due} traps, {} s ", self.tally.traps, started.elapsed().as_secs());
+                eprint!(
+                    "\r{} of {due} traps, {} s ",
+                    self.tally.traps,
+                    started.elapsed().as_secs()
+                );
                 next_report += due.div_ceil(100);
             }
             let single = match self.options.mode {

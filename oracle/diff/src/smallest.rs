@@ -6,9 +6,9 @@ use scripted::{Fetched, Script};
 
 use crate::compare::run_both;
 use crate::input::Input;
+use crate::options::SubjectName;
 use crate::outcome::*;
 use crate::rust_side::RustSide;
-use crate::options::SubjectName;
 use crate::subject::Subject;
 use crate::subject_named;
 use crate::switches::{adjust_call, Board, SWITCHES};
