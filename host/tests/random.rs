@@ -46,7 +46,13 @@ fn random_calls_give_what_the_model_gives() {
         }
         sum = sum_call(sum, &record, &reply);
     }
-    println!("seed {seed}: {calls} calls, {alike} of them through the interface too, sum {sum:016x}");
+    println!("seed {seed}: {calls} calls, sum {sum:016x}");
+    println!("{alike} of them through the interface too");
+    // The C run ends in the same sum, on every processor.
+    let (stored, run) = (include_str!("../c/sums"), format!("seed {seed}: {calls} calls, "));
+    if let Some(line) = stored.lines().find(|line| line.starts_with(&run)) {
+        assert_eq!(line, format!("{run}sum {sum:016x}"), "host/c/sums");
+    }
     if calls >= 20_000 {
         let gives = |code: u64| reached.keys().any(|(_, given)| *given == code);
         let all = (0..=10).chain(0x21..=0x29).chain([0x40, 0x41]).chain(0x101..=0x107);
