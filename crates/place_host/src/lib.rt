@@ -1,0 +1,155 @@
+// The host's own calls on the lent words: their effect is that of the by-value call, written where the record lies.
+ghost use mathlib.Core.Path.{_≡_};
+ghost use Rattle.abi.specs.Words.{abiOf, completionOf, tested};
+ghost use Rattle.vcpu.specs.Calls.{completeIpiOf, latchOf, newOf, pagingOf, pendingOf, setEntryOf, setGprOf, setReturnOf, setupOf};
+ghost use Rattle.place.specs.View.{Done, replyWord, viewOf};
+ghost use Rattle.place_host.specs.Host.{hostWords, writeWords};
+use regs::Effect;
+use regs::Writes;
+use sbi_ipi::IpiCompletion;
+use types::Ask;
+use types::Error;
+use types::Exit;
+use types::GuestPhysAddr;
+use types::IpiAbi;
+use types::Reply;
+
+// The state that a guest starts with.
+pub fn setup(r: &mut [u64; 58]) -> u64
+    ensures { λ n. ⌜ Done (setupOf (viewOf (now (r .entry)))) (now (r .exit)) n ⌝ }
+{
+    place::sized(r);
+    let c = place::csrs(r);
+    let w = place::waiting(r);
+    let e = regs::done(host_calls::setup_csrs(c), Writes::Keep, w);
+    host(r, regs::guarded(regs::ask_of(w), c, w, e))
+}
+
+// Where the guest starts.
+pub fn set_entry(r: &mut [u64; 58], entry: GuestPhysAddr) -> u64
+    ensures { λ n. ⌜ Done (setEntryOf (viewOf (now (r .entry))) entry) (now (r .exit)) n ⌝ }
+{
+    place::sized(r);
+    let c = place::csrs(r);
+    let w = place::waiting(r);
+    let e = regs::done(host_calls::entry_csrs(c, entry), Writes::Keep, w);
+    host(r, regs::guarded(regs::ask_of(w), c, w, e))
+}
+
+// Writes a general register; x0 stays.
+pub fn set_gpr(r: &mut [u64; 58], index: usize, value: u64) -> u64
+    ensures { λ n. ⌜ Done (setGprOf (viewOf (now (r .entry))) index value) (now (r .exit)) n ⌝ }
+{
+    place::sized(r);
+    let c = place::csrs(r);
+    let w = place::waiting(r);
+    let e = host_calls::write_effect(c, w, index, value);
+    host(r, regs::guarded(regs::ask_of(w), c, w, e))
+}
+
+// Writes a0.
+pub fn set_return_value(r: &mut [u64; 58], value: u64) -> u64
+    ensures { λ n. ⌜ Done (setReturnOf (viewOf (now (r .entry))) value) (now (r .exit)) n ⌝ }
+{
+    place::sized(r);
+    let c = place::csrs(r);
+    let w = place::waiting(r);
+    let e = regs::done(c, Writes::One(10, value), w);
+    host(r, regs::guarded(regs::ask_of(w), c, w, e))
+}
+
+// Sets the guest-stage page table.
+pub fn set_nested_page_table(r: &mut [u64; 58], levels: u64, mode: u64, root: u64) -> u64
+    ensures { λ n. ⌜ Done (pagingOf (viewOf (now (r .entry))) levels mode root) (now (r .exit)) n ⌝ }
+{
+    place::sized(r);
+    let c = place::csrs(r);
+    let w = place::waiting(r);
+    let e = host_calls::paging_effect(c, w, levels, mode, root);
+    host(r, regs::guarded(regs::ask_of(w), c, w, e))
+}
+
+// Sets or clears a pending interrupt of the guest.
+pub fn set_pending(r: &mut [u64; 58], vector: u64, level: bool) -> u64
+    ensures { λ n. ⌜ Done (pendingOf (viewOf (now (r .entry))) vector level) (now (r .exit)) n ⌝ }
+{
+    place::sized(r);
+    let c = place::csrs(r);
+    let w = place::waiting(r);
+    let e = host_calls::pending_effect(c, w, vector, level);
+    host(r, regs::guarded(regs::ask_of(w), c, w, e))
+}
+
+// Latches pending bits that the hardware raised.
+pub fn latch_hvip(r: &mut [u64; 58], bits: u64) -> u64
+    ensures { λ n. ⌜ Done (latchOf (viewOf (now (r .entry))) bits) (now (r .exit)) n ⌝ }
+{
+    place::sized(r);
+    let c = place::csrs(r);
+    let w = place::waiting(r);
+    let e = regs::done(regs::with_hvip(c, c.hs.hvip | bits), Writes::Keep, w);
+    host(r, regs::guarded(regs::ask_of(w), c, w, e))
+}
+
+// Gives the guest the result of an IPI request.
+pub fn complete_ipi(r: &mut [u64; 58], abi: IpiAbi, completion: IpiCompletion) -> u64
+    ensures { λ n. ⌜ Done (completeIpiOf (viewOf (now (r .entry))) abi completion) (now (r .exit)) n ⌝ }
+{
+    place::sized(r);
+    let c = place::csrs(r);
+    let w = place::waiting(r);
+    let e = regs::done(
+        c,
+        host_calls::ipi_writes(abi, sbi_ipi::completion_number(completion)),
+        w,
+    );
+    host(r, regs::guarded(regs::ask_of(w), c, w, e))
+}
+
+// Writes an effect that counts nothing and leaves what waits.
+fn host(r: &mut [u64; 58], e: Effect) -> u64
+    ensures { λ n. ⌜ (now (r .exit) ≡ hostWords (now (r .entry)) e) × (n ≡ replyWord (e .reply)) ⌝ }
+{
+    let writes = e.writes;
+    let reply = e.reply;
+    r[place::SEPC] = e.csrs.guest.sepc;
+    r[place::SSTATUS] = e.csrs.guest.sstatus;
+    r[place::HSTATUS] = e.csrs.guest.hstatus;
+    r[place::VSSTATUS] = e.csrs.vs.vsstatus;
+    r[place::VSTVEC] = e.csrs.vs.vstvec;
+    r[place::VSEPC] = e.csrs.vs.vsepc;
+    r[place::VSCAUSE] = e.csrs.vs.vscause;
+    r[place::VSTVAL] = e.csrs.vs.vstval;
+    r[place::VSTIMECMP] = e.csrs.vs.vstimecmp;
+    r[place::HIE] = e.csrs.hs.hie;
+    r[place::HVIP] = e.csrs.hs.hvip;
+    r[place::HGEIE] = e.csrs.hs.hgeie;
+    r[place::HGATP] = e.csrs.hs.hgatp;
+    write(r, writes);
+    reply_word(reply)
+}
+
+fn write(r: &mut [u64; 58], w: Writes)
+    ensures { λ _. ⌜ now (r .exit) ≡ writeWords (now (r .entry)) w ⌝ }
+{
+    match w {
+        Writes::Keep => {}
+        Writes::One(i, n) => place::put(r, i, n),
+        Writes::Pair(a, b) => {
+            r[place::A0] = a;
+            r[place::A1] = b;
+        }
+    }
+}
+
+fn reply_word(p: Reply) -> u64
+    ensures { λ n. ⌜ n ≡ replyWord p ⌝ }
+{
+    match p {
+        Reply::Exit(e) => types::exit_number(e),
+        Reply::Ask(a) => ask_word(a),
+        Reply::Done => 0x40,
+        Reply::Value(_) => 0x41,
+        Reply::Error(e) => error_word(e),
+    }
+}
