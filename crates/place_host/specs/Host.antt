@@ -4,6 +4,8 @@ use mathlib.Core.List.{List}
 use mathlib.Core.Path.{_≡_}
 use lib.ListN.{set}
 use lib.Seq.{sets}
+use lib.Dec.{eqb}
+use Rattle.types.specs.Pick.{pick}
 use Rattle.regs.specs.declared.Effect.{Effect}
 use Rattle.regs.specs.declared.Event.the-variants as event
 use Rattle.regs.specs.declared.Waiting.{Waiting}
@@ -21,6 +23,10 @@ writeWords r (writes.Pair a0 a1) = set (set r 10 a0) 11 a1
 -- the 13 CSRs, then the registers
 unfoldable pub hostWords : List ℕ → Effect → List ℕ
 hostWords r e = writeWords (sets r 32 (csrsWords (e .csrs))) (e .writes)
+
+-- kind 6 is ask 4, with its n first
+unfoldable pub printedBy : ℕ → ℕ → ℕ
+printedBy kind n = pick (eqb kind 6) n 0
 
 -- an effect that counts nothing and leaves what waits: so are those of all the host's calls
 pub record Keeps (e : Effect) (w : Waiting) : Type 0 where

@@ -6,6 +6,8 @@ use mathlib.Core.Path.{_≡_, refl, ap, sym, subst, _∙_}
 use lib.ListN.{getD, length, replicate, set}
 use lib.Seq.{sets}
 use lib.Dec.{eqb, ltb}
+use borrow.Author.Tests.{eqb-true}
+use Rattle.types.specs.Numbers.{errorNumber}
 use Rattle.types.specs.Pick.{pick}
 use Rattle.types.specs.declared.Error.{Error}
 use Rattle.types.specs.declared.Error.the-variants as error
@@ -22,12 +24,14 @@ use Rattle.regs.specs.declared.Writes.the-variants as writes
 use Rattle.regs.specs.Record.{bumped, counted, eventNumber, stored, waitingAsk}
 use Rattle.regs.specs.Effects.{applied, doneOf, guardedOf, refusedOf}
 use Rattle.host_calls.specs.HostCalls.{pagingBy, pagingEffect, pendingBy, pendingEffect, writeEffect}
-use Rattle.vcpu.specs.Calls.{newOf, printCount, unlessAsking}
+use Rattle.vcpu.specs.Calls.{getGprOf, newOf, printCount, unlessAsking}
 use Rattle.abi.specs.Words.{csrsOf, csrsWords, unpackOf, waitingBy, waitingOf}
-use Rattle.place.specs.View.{Done, recordOf, replyWord, viewOf}
-use Rattle.place.specs.Laws.{over, put-shows, same}
+use Rattle.entry.specs.Entry.{readOf}
+use Rattle.place.specs.View.{Done, Made, outOf, recordOf, replyWord, viewOf}
+use Rattle.place.specs.Deeds.{readWord}
+use Rattle.place.specs.Laws.{over, put-shows, read-shows, same, waiting-words}
 use Rattle.place.specs.Spelled.{spelled}
-use Rattle.place_host.specs.Host.{Keeps, hostWords, writeWords}
+use Rattle.place_host.specs.Host.{Keeps, hostWords, printedBy, writeWords}
 
 -- the CSRs written show as written
 csrs-spelled : (k : List ℕ) (c : Csrs) → let r : List ℕ = spelled 58 0 k in
@@ -129,3 +133,44 @@ pending-keeps c w vector on =
 pub new-shows : (hart tree : ℕ) → viewOf (set (set (replicate 58 0) 10 hart) 11 tree) ≡ newOf hart tree
 unfolding viewOf recordOf unpackOf csrsOf waitingOf waitingBy newOf
 new-shows hart tree = refl
+
+-- a register read: the value in word 0
+pub get-made : (r o : List ℕ) (i : ℕ) → ltb i 32 ≡ true → Made o (readOf (viewOf r) i) r (set o 0 (readWord r i)) 0x41
+unfolding readOf getGprOf replyWord outOf
+get-made r o i e = rw e (record { shows = refl; says = refl; gives = ap (λ (n : ℕ). set o 0 n) (read-shows r i) })
+
+pub get-refused : (r o : List ℕ) (i : ℕ) → ltb i 32 ≡ false → Made o (readOf (viewOf r) i) r o 0x101
+unfolding readOf getGprOf replyWord outOf errorNumber
+get-refused r o i e = rw e (record { shows = refl; says = refl; gives = refl })
+
+-- the n of ask 4, where it waits
+
+rest-by : (n : ℕ) (b₂ b₃ b₄ b₅ b₇ b₈ b₉ b₁₀ b₁₁ b₁₂ : Bool) (f m x : Waiting) → printCount f ≡ 0 → printCount m ≡ 0 → printCount x ≡ 0
+    → printCount (pick b₂ waiting.FetchCsr (pick b₃ f (pick b₄ waiting.CopyMask (pick b₅ m (pick b₇ x (pick b₈ (waiting.CopyOut n) (pick b₉ waiting.PutChar (pick b₁₀ waiting.PutByte (pick b₁₁ waiting.GetChar (pick b₁₂ waiting.Forward waiting.Idle)))))))))) ≡ 0
+unfolding printCount
+rest-by n true b₃ b₄ b₅ b₇ b₈ b₉ b₁₀ b₁₁ b₁₂ f m x p q s = refl
+rest-by n false true b₄ b₅ b₇ b₈ b₉ b₁₀ b₁₁ b₁₂ f m x p q s = p
+rest-by n false false true b₅ b₇ b₈ b₉ b₁₀ b₁₁ b₁₂ f m x p q s = refl
+rest-by n false false false true b₇ b₈ b₉ b₁₀ b₁₁ b₁₂ f m x p q s = q
+rest-by n false false false false true b₈ b₉ b₁₀ b₁₁ b₁₂ f m x p q s = s
+rest-by n false false false false false true b₉ b₁₀ b₁₁ b₁₂ f m x p q s = refl
+rest-by n false false false false false false true b₁₀ b₁₁ b₁₂ f m x p q s = refl
+rest-by n false false false false false false false true b₁₁ b₁₂ f m x p q s = refl
+rest-by n false false false false false false false false true b₁₂ f m x p q s = refl
+rest-by n false false false false false false false false false true f m x p q s = refl
+rest-by n false false false false false false false false false false f m x p q s = refl
+
+first-by : (b : Bool) (l w : Waiting) → printCount l ≡ 0 → printCount w ≡ 0 → printCount (pick b l w) ≡ 0
+first-by true l w p q = p
+first-by false l w p q = q
+
+print-by : (k a b c : ℕ) (t : Bool) → eqb k 6 ≡ t → pick t a 0 ≡ printCount (waitingBy k a b c)
+unfolding waitingBy printCount
+print-by k a b c true e = rw (eqb-true k 6 e)
+print-by k a b c false e =
+    sym (rw e (first-by (eqb k 1) _ _ refl (rest-by a (eqb k 2) (eqb k 3) (eqb k 4) (eqb k 5) (eqb k 7) (eqb k 8) (eqb k 9) (eqb k 10) (eqb k 11) (eqb k 12) _ _ _ refl refl refl)))
+
+pub print-words : (r : List ℕ) → length r ≡ 58 → printedBy (getD r 54 0) (getD r 55 0) ≡ printCount (viewOf r .waiting)
+unfolding printedBy
+print-words r e =
+    print-by (getD r 54 0) (getD r 55 0) (getD r 56 0) (getD r 57 0) (eqb (getD r 54 0) 6) refl ∙ ap printCount (waiting-words r e)

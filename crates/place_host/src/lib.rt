@@ -1,15 +1,16 @@
 // The host's own calls on the lent words: their effect is that of the by-value call, written where the record lies.
 ghost use mathlib.Core.Path.{_≡_};
-ghost use Rattle.abi.specs.Words.{abiOf, completionOf, tested};
-ghost use Rattle.vcpu.specs.Calls.{completeIpiOf, latchOf, newOf, pagingOf, pendingOf, setEntryOf, setGprOf, setReturnOf, setupOf};
-ghost use Rattle.place.specs.View.{Done, replyWord, viewOf};
-ghost use Rattle.place_host.specs.Host.{hostWords, writeWords};
+ghost use Prim.Native.Nat.{_+_};
+ghost use Rattle.types.specs.Numbers.{askNumber, errorNumber};
+ghost use Rattle.vcpu.specs.Calls.{completeIpiOf, latchOf, newOf, printCount, pagingOf, pendingOf, setEntryOf, setGprOf, setReturnOf, setupOf};
+ghost use Rattle.entry.specs.Entry.{readOf};
+ghost use Rattle.place.specs.View.{Done, Made, replyWord, viewOf};
+ghost use Rattle.place_host.specs.Host.{hostWords, printedBy, writeWords};
 use regs::Effect;
 use regs::Writes;
 use sbi_ipi::IpiCompletion;
 use types::Ask;
 use types::Error;
-use types::Exit;
 use types::GuestPhysAddr;
 use types::IpiAbi;
 use types::Reply;
@@ -106,6 +107,34 @@ pub fn complete_ipi(r: &mut [u64; 58], abi: IpiAbi, completion: IpiCompletion) -
     host(r, regs::guarded(regs::ask_of(w), c, w, e))
 }
 
+// Reads a general register.
+pub fn get_gpr(r: &[u64; 58], out: &mut [u64; 8], index: usize) -> u64
+    ensures { λ n. ⌜ Made (now (out .entry)) (readOf (viewOf (now (r .entry))) index) (now (r .entry)) (now (out .exit)) n ⌝ }
+{
+    if index < 32 {
+        out[0] = place::read(r, index);
+        return 0x41;
+    }
+    0x101
+}
+
+// How many bytes of the lent buffer ask 4 prints, where it waits.
+pub fn to_print(r: &[u64; 58]) -> u64
+    ensures { λ n. ⌜ n ≡ printCount (viewOf (now (r .entry)) .waiting) ⌝ }
+{
+    place::sized(r);
+    printed(r[place::KIND], r[place::FIRST])
+}
+
+// A record of zeros but for what a guest finds at its start.
+pub fn new(r: &mut [u64; 58], hart_id: u64, dtb_addr: u64)
+    ensures { λ _. ⌜ viewOf (now (r .exit)) ≡ newOf «hart_id» «dtb_addr» ⌝ }
+{
+    *r = [0u64; 58];
+    r[place::A0] = hart_id;
+    r[place::A1] = dtb_addr;
+}
+
 // Writes an effect that counts nothing and leaves what waits.
 fn host(r: &mut [u64; 58], e: Effect) -> u64
     ensures { λ n. ⌜ (now (r .exit) ≡ hostWords (now (r .entry)) e) × (n ≡ replyWord (e .reply)) ⌝ }
@@ -127,6 +156,15 @@ fn host(r: &mut [u64; 58], e: Effect) -> u64
     r[place::HGATP] = e.csrs.hs.hgatp;
     write(r, writes);
     reply_word(reply)
+}
+
+fn printed(kind: u64, count: u64) -> u64
+    ensures { λ n. ⌜ n ≡ printedBy kind count ⌝ }
+{
+    if kind == 6 {
+        return count;
+    }
+    0
 }
 
 fn write(r: &mut [u64; 58], w: Writes)
@@ -151,5 +189,42 @@ fn reply_word(p: Reply) -> u64
         Reply::Done => 0x40,
         Reply::Value(_) => 0x41,
         Reply::Error(e) => error_word(e),
+    }
+}
+
+fn ask_word(a: Ask) -> u64
+    ensures { λ n. ⌜ n ≡ 32 + askNumber a ⌝ }
+{
+    match a {
+        Ask::Fetch {
+            at: _,
+            supervisor: _,
+        } => 0x21,
+        Ask::CopyMask { at: _ } => 0x22,
+        Ask::CopyIn { at: _, count: _ } => 0x23,
+        Ask::Print { count: _ } => 0x24,
+        Ask::ReadConsole { count: _ } => 0x25,
+        Ask::CopyOut { at: _, count: _ } => 0x26,
+        Ask::Emit { number: _ } => 0x27,
+        Ask::GetChar => 0x28,
+        Ask::Forward {
+            eid: _,
+            fid: _,
+            args: _,
+        } => 0x29,
+    }
+}
+
+fn error_word(e: Error) -> u64
+    ensures { λ n. ⌜ n ≡ 256 + errorNumber e ⌝ }
+{
+    match e {
+        Error::InvalidInput => 0x101,
+        Error::BadState => 0x102,
+        Error::Unsupported => 0x103,
+        Error::InvalidTrap => 0x104,
+        Error::DecodeFailed => 0x105,
+        Error::GuestMemoryFault => 0x106,
+        Error::WrongAnswer => 0x107,
     }
 }

@@ -42,10 +42,14 @@ use Rattle.entry.specs.declared.HostCall.{HostCall}
 use Rattle.entry.specs.declared.HostCall.the-variants as hostCall
 use Rattle.entry.specs.Entry.{calledOf, readOf}
 use Rattle.abi.specs.Words.{answerOf, csrsOf, fetchOf, nowhere, unpackOf, waitingBy, waitingOf}
-use Rattle.place.specs.View.{Made, besideOf, exitCount, outOf, recordOf, replyWord, viewOf}
+use Rattle.place.specs.View.{Done, Made, besideOf, exitCount, outOf, recordOf, replyWord, viewOf}
 use Rattle.place.specs.Deeds.{Leaves, answeredLeft, argsWords, callLeft, csrLeft, faultLeft, left, missedLeft, readWord}
 use Rattle.place.specs.Laws.{On, answered-made, call-made, csr-made, csrs-words, fault-made, made-by, missed-made, over, read-shows, same}
 use Rattle.place.specs.Spelled.{spelled}
+
+-- words that show an outcome, left by a function
+pub done-by : {outcome : Outcome} {r s : List ℕ} {w n : ℕ} → Done outcome r w → (s ≡ r) × (n ≡ w) → Done outcome s n
+done-by d e = record { shows = ap viewOf (e .0) ∙ d .shows; says = e .1 ∙ d .says }
 
 -- an ecall
 
@@ -241,22 +245,22 @@ plain-called v ask a b e h = plain-by (v .x) (v .counts) (v .csrs) (v .waiting) 
 
 -- the same, as the functions come by it
 
-pub fetch-made : {r o s p : List ℕ} {w : Waiting} {waits ask a b c : ℕ} → w ≡ viewOf r .waiting → waits ≡ waitingAsk w → waits ≡ ask → ask ≡ 1
+pub fetch-made : (r o s p : List ℕ) (w : Waiting) (waits ask a b c : ℕ) → w ≡ viewOf r .waiting → waits ≡ waitingAsk w → waits ≡ ask → ask ≡ 1
     → Made o (applied (viewOf r) (fetchedOf (viewOf r .x) (viewOf r .csrs) w (fetchOf a b))) s p c → Made o (calledOf (viewOf r) (answerOf ask a b)) s p c
-fetch-made {r} {o} {s} {p} {w} {waits} {ask} {a} {b} {c} e f g h m =
+fetch-made r o s p w waits ask a b c e f g h m =
     subst (λ (n : ℕ). Made o (calledOf (viewOf r) (answerOf n a b)) s p c) (sym h)
     (subst (λ (q : Outcome). Made o q s p c) (fetch-called (viewOf r) a b (ap waitingAsk (sym e) ∙ sym f ∙ g ∙ h))
     (subst (λ (n : Waiting). Made o (applied (viewOf r) (fetchedOf (viewOf r .x) (viewOf r .csrs) n (fetchOf a b))) s p c) e m))
 
-pub plain-made : {r o s p : List ℕ} {w : Waiting} {waits ask a b c : ℕ} → length r ≡ 58 → w ≡ viewOf r .waiting → waits ≡ waitingAsk w → waits ≡ ask → 1 < ask
+pub plain-made : (r o s p : List ℕ) (w : Waiting) (waits ask a b c : ℕ) → length r ≡ 58 → w ≡ viewOf r .waiting → waits ≡ waitingAsk w → waits ≡ ask → 1 < ask
     → Leaves (answeredLeft r o (answeredOf w a b)) s p c → Made o (calledOf (viewOf r) (answerOf ask a b)) s p c
-plain-made {r} {o} {s} {p} {w} {waits} {ask} {a} {b} {c} n e f g h l =
+plain-made r o s p w waits ask a b c n e f g h l =
     subst (λ (q : Outcome). Made o q s p c) (plain-called (viewOf r) ask a b (ap waitingAsk (sym e) ∙ sym f ∙ g) h)
     (made-by (answered-made r o n (answeredOf (viewOf r .waiting) a b)) (subst (λ (k : Waiting). Leaves (answeredLeft r o (answeredOf k a b)) s p c) e l))
 
-pub mismatch-made : {r : List ℕ} (o : List ℕ) {w : Waiting} {waits : ℕ} (ask a b : ℕ) → w ≡ viewOf r .waiting → waits ≡ waitingAsk w → eqb waits ask ≡ false → 0 < ask → ask ≤ 9
+pub mismatch-made : (r o : List ℕ) (w : Waiting) (waits ask a b : ℕ) → w ≡ viewOf r .waiting → waits ≡ waitingAsk w → eqb waits ask ≡ false → 0 < ask → ask ≤ 9
     → Made o (calledOf (viewOf r) (answerOf ask a b)) r o 0x107
-mismatch-made {r} o {w} {waits} ask a b e f g h l =
+mismatch-made r o w waits ask a b e f g h l =
     wrong-made r o ask a b h l (ap (λ (n : ℕ). eqb n ask) (ap waitingAsk (sym e) ∙ sym f) ∙ g)
 
 pub beyond-made : (r o : List ℕ) (ask a b : ℕ) → 9 < ask → Made o (calledOf (viewOf r) (answerOf ask a b)) r o 0x101
@@ -265,8 +269,8 @@ beyond-made r o ask a b h = rw (no-ask ask a b h) (nowhere-made r o)
 pub zero-made : (r o : List ℕ) (a b : ℕ) → Made o (calledOf (viewOf r) (answerOf 0 a b)) r o 0x101
 zero-made r o a b = rw (ask-zero a b) (nowhere-made r o)
 
-pub missed-answer : {r o s p : List ℕ} {w : Waiting} {a b c : ℕ} → length r ≡ 58 → eqb b 0 ≡ false
+pub missed-answer : (r o s p : List ℕ) (w : Waiting) (a b c : ℕ) → length r ≡ 58 → eqb b 0 ≡ false
     → Leaves (missedLeft r o (missedOf (fetchOf a b))) s p c → Made o (applied (viewOf r) (fetchedOf (viewOf r .x) (viewOf r .csrs) w (fetchOf a b))) s p c
-missed-answer {r} {o} {s} {p} {w} {a} {b} {c} n e l =
+missed-answer r o s p w a b c n e l =
     subst (λ (q : Effect). Made o (applied (viewOf r) q) s p c) (missed-fetch (viewOf r .x) (viewOf r .csrs) w a b e)
     (made-by (missed-made r o n (missedOf (fetchOf a b))) l)

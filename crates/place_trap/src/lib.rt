@@ -150,7 +150,7 @@ fn mmio(r: &mut [u64; 58], out: &mut [u64; 8], at: GuestPhysAddr, access: Access
 
 // An answer of another ask's kind, or to no ask, is refused; so is one whose number is no ask's.
 fn matched(waits: u64, r: &mut [u64; 58], out: &mut [u64; 8], w: Waiting, ask: u64, word: u64, more: u64) -> u64
-    ensures { λ c. ⌜ w ≡ viewOf (now (r .entry)) .waiting → waits ≡ waitingAsk w → Made (now (out .entry)) (calledOf (viewOf (now (r .entry))) (answerOf ask word more)) (now (r .exit)) (now (out .exit)) c ⌝ }
+    ensures { λ c. ⌜ (w ≡ viewOf (now (r .entry)) .waiting → waits ≡ waitingAsk w → Made (now (out .entry)) (calledOf (viewOf (now (r .entry))) (answerOf ask word more)) (now (r .exit)) (now (out .exit)) c) ⌝ }
 {
     place::sized(r);
     if ask == 0 {
@@ -170,7 +170,7 @@ fn matched(waits: u64, r: &mut [u64; 58], out: &mut [u64; 8], w: Waiting, ask: u
 
 // A fetch gave a word, or its fault is handled.
 fn fetched(r: &mut [u64; 58], out: &mut [u64; 8], w: Waiting, word: u64, more: u64) -> u64
-    ensures { λ c. ⌜ w ≡ viewOf (now (r .entry)) .waiting → Made (now (out .entry)) (applied (viewOf (now (r .entry))) (fetchedOf (viewOf (now (r .entry)) .x) (viewOf (now (r .entry)) .csrs) w (fetchOf word more))) (now (r .exit)) (now (out .exit)) c ⌝ }
+    ensures { λ c. ⌜ (w ≡ viewOf (now (r .entry)) .waiting → Made (now (out .entry)) (applied (viewOf (now (r .entry))) (fetchedOf (viewOf (now (r .entry)) .x) (viewOf (now (r .entry)) .csrs) w (fetchOf word more))) (now (r .exit)) (now (out .exit)) c) ⌝ }
 {
     place::sized(r);
     if more == 0 {
@@ -181,7 +181,7 @@ fn fetched(r: &mut [u64; 58], out: &mut [u64; 8], w: Waiting, word: u64, more: u
 
 // The trap goes on with the word that was fetched.
 fn resumed(r: &mut [u64; 58], out: &mut [u64; 8], w: Waiting, word: u32) -> u64
-    ensures { λ c. ⌜ w ≡ viewOf (now (r .entry)) .waiting → Made (now (out .entry)) (applied (viewOf (now (r .entry))) (resumedOf (viewOf (now (r .entry)) .x) (viewOf (now (r .entry)) .csrs) w word)) (now (r .exit)) (now (out .exit)) c ⌝ }
+    ensures { λ c. ⌜ (w ≡ viewOf (now (r .entry)) .waiting → Made (now (out .entry)) (applied (viewOf (now (r .entry))) (resumedOf (viewOf (now (r .entry)) .x) (viewOf (now (r .entry)) .csrs) w word)) (now (r .exit)) (now (out .exit)) c) ⌝ }
 {
     match w {
         Waiting::Idle => 0x107,
