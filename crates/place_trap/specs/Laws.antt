@@ -35,7 +35,7 @@ use Rattle.virtual_inst.specs.Stimecmp.{csrEffect, csrOf, startOf}
 use Rattle.page_fault.specs.Mmio.{faultEffect, faultOf}
 use Rattle.answers.specs.Answers.{answeredEffect, answeredOf}
 use Rattle.trap.specs.Traps.{argumentsOf, externalOf, mmioOf, otherOf, sbiOf, stimecmpOf}
-use Rattle.trap.specs.Resume.{answerEffect, continuedOf, fetchedOf, matchedOf, plainOf}
+use Rattle.trap.specs.Resume.{answerEffect, continuedOf, fetchedOf, matchedOf, plainOf, resumedOf}
 use Rattle.vcpu.specs.Calls as calls
 use Rattle.vcpu.specs.Calls.{getGprOf}
 use Rattle.entry.specs.declared.HostCall.{HostCall}
@@ -274,3 +274,8 @@ pub missed-answer : (r o s p : List ℕ) (w : Waiting) (a b c : ℕ) → length 
 missed-answer r o s p w a b c n e l =
     subst (λ (q : Effect). Made o (applied (viewOf r) q) s p c) (missed-fetch (viewOf r .x) (viewOf r .csrs) w a b e)
     (made-by (missed-made r o n (missedOf (fetchOf a b))) l)
+
+pub word-answer : (r o s p : List ℕ) (w : Waiting) (a b c : ℕ) → b ≡ 0
+    → Made o (applied (viewOf r) (resumedOf (viewOf r .x) (viewOf r .csrs) w (a % 2 ^ 32))) s p c → Made o (applied (viewOf r) (fetchedOf (viewOf r .x) (viewOf r .csrs) w (fetchOf a b))) s p c
+unfolding fetchedOf fetchOf
+word-answer r o s p w a b c e m = rw e m
