@@ -112,8 +112,7 @@ refused-out o (reply.Error e) args h = refl
 
 pub place-refusal-keeps-the-record : (r o s p : List ℕ) (c : HostCall) (w : ℕ) → Made o (calledOf (viewOf r) c) s p w → refusalWord w ≡ true → (viewOf s ≡ viewOf r) × (p ≡ o)
 place-refusal-keeps-the-record r o s p c w m h =
-    let q : refuses (calledOf (viewOf r) c .reply) ≡ true = sym (refusal-word (calledOf (viewOf r) c .reply)) ∙ ap refusalWord (sym (m .says)) ∙ h in
-    (
+    let q : refuses (calledOf (viewOf r) c .reply) ≡ true = sym (refusal-word (calledOf (viewOf r) c .reply)) ∙ ap refusalWord (sym (m .says)) ∙ h in (
       m .shows ∙ refusal-keeps-the-record (viewOf r) (calledOf (viewOf r) c) (called-honest (viewOf r) c) q,
       m .gives ∙ refused-out o (calledOf (viewOf r) c .reply) (calledOf (viewOf r) c .args) q,
     )

@@ -33,7 +33,13 @@ pub fn do_csr(r: &mut [u64; 58], out: &mut [u64; 8], d: Csr) -> u64
 }
 
 // Does a guest page fault.
-pub fn do_fault(r: &mut [u64; 58], out: &mut [u64; 8], at: GuestPhysAddr, access: Access, d: Fault) -> u64
+pub fn do_fault(
+    r: &mut [u64; 58],
+    out: &mut [u64; 8],
+    at: GuestPhysAddr,
+    access: Access,
+    d: Fault,
+) -> u64
     ensures { λ w. ⌜ Leaves (faultLeft (now (r .entry)) (now (out .entry)) at access d) (now (r .exit)) (now (out .exit)) w ⌝ }
 {
     match d {

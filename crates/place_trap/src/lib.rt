@@ -149,7 +149,15 @@ fn mmio(r: &mut [u64; 58], out: &mut [u64; 8], at: GuestPhysAddr, access: Access
 }
 
 // An answer of another ask's kind, or to no ask, is refused; so is one whose number is no ask's.
-fn matched(waits: u64, r: &mut [u64; 58], out: &mut [u64; 8], w: Waiting, ask: u64, word: u64, more: u64) -> u64
+fn matched(
+    waits: u64,
+    r: &mut [u64; 58],
+    out: &mut [u64; 8],
+    w: Waiting,
+    ask: u64,
+    word: u64,
+    more: u64,
+) -> u64
     ensures { λ c. ⌜ (w ≡ viewOf (now (r .entry)) .waiting → waits ≡ waitingAsk w → Made (now (out .entry)) (calledOf (viewOf (now (r .entry))) (answerOf ask word more)) (now (r .exit)) (now (out .exit)) c) ⌝ }
 {
     place::sized(r);

@@ -1,6 +1,5 @@
 -- `place_trap::answer` meets its contract.
 use borrow.Author.Needs.{needs}
-
 use Rattle.place_trap.proofs.answer.Statement.{statement}
 use Rattle.place_trap.proofs.answer.Tie as tie
 

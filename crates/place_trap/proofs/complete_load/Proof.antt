@@ -4,7 +4,6 @@ use mathlib.Core.Path.{refl}
 use Rattle.vcpu.specs.Calls.{completeLoadOf}
 use Rattle.place.specs.Laws.{complete-done}
 use Rattle.place_trap.specs.Laws.{done-by}
-
 use Rattle.place_trap.proofs.complete_load.Statement.{statement}
 use Rattle.place_trap.proofs.complete_load.Tie as tie
 

@@ -2,7 +2,6 @@
 use borrow.Author.Needs.{needs}
 use Rattle.place.specs.Laws.{made-by}
 use Rattle.place_trap.specs.Laws.{sbi-made}
-
 use Rattle.place_trap.proofs.sbi.Statement.{statement}
 use Rattle.place_trap.proofs.sbi.Tie as tie
 

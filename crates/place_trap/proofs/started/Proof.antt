@@ -3,7 +3,6 @@ use borrow.Author.Needs.{needs}
 use Rattle.trap.specs.Traps.{startedOf}
 use Rattle.place_trap.specs.Classes.{class-effect}
 use Rattle.place_trap.specs.Laws.{busy-made}
-
 use Rattle.place_trap.proofs.started.Statement.{statement}
 use Rattle.place_trap.proofs.started.Tie as tie
 

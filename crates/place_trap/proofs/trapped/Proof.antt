@@ -2,7 +2,6 @@
 use borrow.Author.Needs.{needs}
 use Rattle.place_trap.specs.Classes.{classEffect}
 use Rattle.place_trap.specs.Laws.{external-made, known-made, unknown-made}
-
 use Rattle.place_trap.proofs.trapped.Statement.{statement}
 use Rattle.place_trap.proofs.trapped.Tie as tie
 
