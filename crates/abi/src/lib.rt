@@ -169,7 +169,7 @@ pub fn waiting_of(w: [u64; 4]) -> Waiting
 }
 
 // By its kind, so that the match is on a parameter.
-fn waiting_by(kind: u64, a: u64, b: u64, c: u64) -> Waiting
+pub fn waiting_by(kind: u64, a: u64, b: u64, c: u64) -> Waiting
     ensures { λ r. ⌜ r ≡ waitingBy kind a b c ⌝ }
 {
     match kind {
@@ -403,7 +403,7 @@ fn test(n: u64) -> bool
 }
 
 // A test as a word.
-fn flag(b: bool) -> u64
+pub fn flag(b: bool) -> u64
     ensures { λ r. ⌜ r ≡ flagOf b ⌝ }
 {
     if b {
