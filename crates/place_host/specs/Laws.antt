@@ -1,5 +1,5 @@
 -- Through the view, the host's calls on words are those on the record.
-use Prim.Native.Nat.{ℕ}
+use Prim.Native.Nat.{ℕ, _%_, _^_}
 use mathlib.Core.Bool.{Bool, true, false}
 use mathlib.Core.List.{List}
 use mathlib.Core.Path.{_≡_, refl, ap, sym, subst, _∙_}
@@ -11,6 +11,7 @@ use Rattle.types.specs.Numbers.{errorNumber}
 use Rattle.types.specs.Pick.{pick}
 use Rattle.types.specs.declared.Error.{Error}
 use Rattle.types.specs.declared.Error.the-variants as error
+use Rattle.consts.specs.Csr.{vseip, vssip, vstip}
 use Rattle.consts.specs.Traps.{supervisorExternal, supervisorSoft, supervisorTimer}
 use Rattle.regs.specs.declared.Csrs.{Csrs}
 use Rattle.regs.specs.declared.Effect.{Effect}
@@ -21,9 +22,10 @@ use Rattle.regs.specs.declared.Waiting.{Waiting}
 use Rattle.regs.specs.declared.Waiting.the-variants as waiting
 use Rattle.regs.specs.declared.Writes.{Writes}
 use Rattle.regs.specs.declared.Writes.the-variants as writes
-use Rattle.regs.specs.Record.{bumped, counted, eventNumber, stored, waitingAsk}
+use Rattle.regs.specs.Record.{bumped, counted, eventNumber, pended, stored, waitingAsk}
 use Rattle.regs.specs.Effects.{applied, doneOf, guardedOf, refusedOf}
-use Rattle.host_calls.specs.HostCalls.{pagingBy, pagingEffect, pendingBy, pendingEffect, writeEffect}
+use Rattle.host_calls.specs.HostCalls.{pagingBy, pagingEffect, pendingBy, pendingEffect, tableCsrs, writeEffect}
+use Rattle.registers.specs.Bits.{withBits}
 use Rattle.calls.specs.Calls.{getGprOf, newOf, printCount}
 use Rattle.regs.specs.Effects.{unlessAsking}
 use Rattle.abi.specs.Words.{csrsOf, csrsWords, unpackOf, waitingBy, waitingOf}
@@ -83,7 +85,7 @@ host-done r n e k =
 
 -- the effects of the host's calls are such
 
-done-keeps : (c : Csrs) (n : Writes) (w : Waiting) → Keeps (doneOf c n w) w
+pub done-keeps : (c : Csrs) (n : Writes) (w : Waiting) → Keeps (doneOf c n w) w
 unfolding doneOf
 done-keeps c n w = record { waits = refl; quiet = refl }
 
@@ -100,14 +102,15 @@ unfolding guardedOf
 guarded-keeps ask c w e k = pick-keeps (eqb ask 0) k (refused-keeps c w error.BadState)
 
 -- a call that is refused while an ask waits
-pub guarded-done : (r : List ℕ) → length r ≡ 58 → (e : Effect) → Keeps e (viewOf r .waiting)
-    → let g : Effect = guardedOf (waitingAsk (viewOf r .waiting)) (viewOf r .csrs) (viewOf r .waiting) e in Done (unlessAsking (viewOf r) e) (hostWords r g) (replyWord (g .reply))
+pub guarded-by : (r s : List ℕ) (n : ℕ) → length r ≡ 58 → (e : Effect) → Keeps e (viewOf r .waiting)
+    → let g : Effect = guardedOf (waitingAsk (viewOf r .waiting)) (viewOf r .csrs) (viewOf r .waiting) e in
+    (s ≡ hostWords r g) × (n ≡ replyWord (g .reply)) → Done (unlessAsking (viewOf r) e) s n
 unfolding unlessAsking
-guarded-done r n e k =
-    host-done r n (guardedOf (waitingAsk (viewOf r .waiting)) (viewOf r .csrs) (viewOf r .waiting) e) (guarded-keeps (waitingAsk (viewOf r .waiting)) (viewOf r .csrs) (viewOf r .waiting) e k)
-
-pub plain-keeps : (c : Csrs) (n : Writes) (w : Waiting) → Keeps (doneOf c n w) w
-plain-keeps = done-keeps
+guarded-by r s n l e k h =
+    let g : Effect = guardedOf (waitingAsk (viewOf r .waiting)) (viewOf r .csrs) (viewOf r .waiting) e in
+    let d : Done (applied (viewOf r) g) (hostWords r g) (replyWord (g .reply)) =
+        host-done r l g (guarded-keeps (waitingAsk (viewOf r .waiting)) (viewOf r .csrs) (viewOf r .waiting) e k) in
+    record { shows = ap viewOf (h .0) ∙ d .shows; says = h .1 ∙ d .says }
 
 pub write-keeps : (c : Csrs) (w : Waiting) (i n : ℕ) → Keeps (writeEffect c w i n) w
 unfolding writeEffect
@@ -116,7 +119,7 @@ write-keeps c w i n = pick-keeps (ltb i 32) (done-keeps c (writes.One i n) w) (r
 by-keeps : (c : Csrs) (w : Waiting) (wanted mode root : ℕ) → Keeps (pagingBy c w wanted mode root) w
 unfolding pagingBy
 by-keeps c w wanted mode root =
-    pick-keeps (eqb mode wanted) (pick-keeps _ (done-keeps _ writes.Keep w) (refused-keeps c w error.InvalidInput)) (refused-keeps c w error.InvalidInput)
+    pick-keeps (eqb mode wanted) (pick-keeps (eqb (root % 2 ^ 14) 0) (done-keeps (tableCsrs c mode root) writes.Keep w) (refused-keeps c w error.InvalidInput)) (refused-keeps c w error.InvalidInput)
 
 pub paging-keeps : (c : Csrs) (w : Waiting) (levels mode root : ℕ) → Keeps (pagingEffect c w levels mode root) w
 unfolding pagingEffect
@@ -126,9 +129,9 @@ paging-keeps c w levels mode root =
 pub pending-keeps : (c : Csrs) (w : Waiting) (vector : ℕ) (on : Bool) → Keeps (pendingEffect c w vector on) w
 unfolding pendingEffect pendingBy
 pending-keeps c w vector on =
-    pick-keeps (eqb vector supervisorSoft) (done-keeps _ writes.Keep w)
-    (pick-keeps (eqb vector supervisorTimer) (done-keeps _ writes.Keep w)
-    (pick-keeps (supervisorExternal vector) (done-keeps _ writes.Keep w) (refused-keeps c w error.InvalidInput)))
+    pick-keeps (eqb vector supervisorSoft) (done-keeps (pended c (withBits (c .hs .hvip) vssip on)) writes.Keep w)
+    (pick-keeps (eqb vector supervisorTimer) (done-keeps (pended c (withBits (c .hs .hvip) vstip on)) writes.Keep w)
+    (pick-keeps (supervisorExternal vector) (done-keeps (pended c (withBits (c .hs .hvip) vseip on)) writes.Keep w) (refused-keeps c w error.InvalidInput)))
 
 -- zeros but for a0 and a1 show as the record that a guest starts with
 pub new-shows : (hart tree : ℕ) → viewOf (set (set (replicate 58 0) 10 hart) 11 tree) ≡ newOf hart tree

@@ -4,6 +4,7 @@ ghost use mathlib.Core.Path.{_≡_};
 ghost use Prim.Native.Nat.{_%_, _^_};
 ghost use lib.ListN.{getD};
 ghost use Rattle.fields.specs.Fields.{rs1Field};
+ghost use Rattle.decoder.specs.Length.{fetchedOf as fetchedWord};
 ghost use Rattle.regs.specs.Record.{valueOf, waitingAsk};
 ghost use Rattle.regs.specs.Effects.{applied};
 ghost use Rattle.virtual_inst.specs.Stimecmp.{csrEffect, csrOf};
@@ -139,7 +140,8 @@ fn page_fault_trap(r: &mut [u64; 58], out: &mut [u64; 8], t: Trap, access: Acces
     mmio(r, out, at, access, decoder::from_htinst(t.htinst))
 }
 
-// A load or store of a device, once its instruction is known.
+// A load or store of a device, once its instruction is known. It has one caller, and mmio_word does the same for the word
+// of a fetch: a function with one caller is always put in its place, so that the instruction passes in registers.
 fn mmio(r: &mut [u64; 58], out: &mut [u64; 8], at: GuestPhysAddr, access: Access, i: Trapped) -> u64
     ensures { λ w. ⌜ Made (now (out .entry)) (applied (viewOf (now (r .entry))) (mmioOf (viewOf (now (r .entry)) .x) (viewOf (now (r .entry)) .csrs) at access i)) (now (r .exit)) (now (out .exit)) w ⌝ }
 {
@@ -200,7 +202,7 @@ fn resumed(r: &mut [u64; 58], out: &mut [u64; 8], w: Waiting, word: u32) -> u64
         } => 0x107,
         Waiting::FetchCsr => stimecmp_word(r, out, word as u64),
         Waiting::FetchFault { at, access } => {
-            mmio(r, out, at, access, decoder::from_fetched(word))
+            mmio_word(r, out, at, access, word)
         }
         Waiting::CopyMask => 0x107,
         Waiting::CopyIn { count: _ } => 0x107,
@@ -212,6 +214,16 @@ fn resumed(r: &mut [u64; 58], out: &mut [u64; 8], w: Waiting, word: u32) -> u64
         Waiting::GetChar => 0x107,
         Waiting::Forward => 0x107,
     }
+}
+
+// A load or store whose instruction was fetched.
+fn mmio_word(r: &mut [u64; 58], out: &mut [u64; 8], at: GuestPhysAddr, access: Access, word: u32) -> u64
+    ensures { λ w. ⌜ Made (now (out .entry)) (applied (viewOf (now (r .entry))) (mmioOf (viewOf (now (r .entry)) .x) (viewOf (now (r .entry)) .csrs) at access (fetchedWord word))) (now (r .exit)) (now (out .exit)) w ⌝ }
+{
+    place::sized(r);
+    let i = decoder::from_fetched(word);
+    let source = place::read(r, decoder::store_source(i));
+    place_deed::do_fault(r, out, at, access, page_fault::decide(access, i, source))
 }
 
 // A CSR instruction that was fetched.
