@@ -1,4 +1,4 @@
-//! The fixed list of calls and replies, crates/calls/data/list. The plain Rust program of document 01 makes it; the program `calls`
+//! The fixed list of calls and replies, crates/call_list/data/list. The plain Rust program of document 01 makes it; the program `call_list`
 //! (in the gate), host/c/list.c (on any processor) and the test below run it.
 //!
 //!     WRITE_LIST=1 cargo test --test list
@@ -9,7 +9,7 @@ use common::*;
 use std::collections::BTreeSet;
 use std::fmt::Write;
 
-const LIST: &str = concat!(env!("CARGO_MANIFEST_DIR"), "/../crates/calls/data/list");
+const LIST: &str = concat!(env!("CARGO_MANIFEST_DIR"), "/../crates/call_list/data/list");
 const CALLS: u64 = 700;
 /// Of the first 3,000 seeds the one whose calls reach everything and the most different outcomes (`search` finds it).
 const SEED: u64 = 506;
@@ -31,7 +31,7 @@ fn list_of(seed: u64) -> (String, BTreeSet<(u64, u64, u64, u64)>) {
     for _ in 0..CALLS {
         let mut changed = record;
         let call = next_call(&mut r, &mut changed);
-        // The program `calls` asks what is to be printed of a buffer of 4,096 bytes: a greater count is left out of the list.
+        // The program `call_list` asks what is to be printed of a buffer of 4,096 bytes: a greater count is left out of the list.
         if call[0] == 13 && changed[54] == 6 && changed[55] > 4096 {
             continue;
         }
