@@ -1,4 +1,5 @@
-//! Finds the proved static libraries of both entries for this machine, or says what to run.
+//! Finds the proved static library of the thin entry for this machine, or says what to run. The other entry's comes with the host's
+//! crate.
 
 use std::env;
 use std::path::{Path, PathBuf};
@@ -11,13 +12,11 @@ fn main() {
         None => Path::new(&env::var("CARGO_MANIFEST_DIR").unwrap()).join("../target").join(&arch),
     };
     println!("cargo:rustc-link-search=native={}", dir.display());
-    for name in ["in_place", "abi"] {
-        let archive = dir.join(format!("lib{name}.a"));
-        println!("cargo:rerun-if-changed={}", archive.display());
-        if !archive.is_file() {
-            eprintln!("There is no {}: run 'tools/archive {name} {arch}'.", archive.display());
-            std::process::exit(1);
-        }
-        println!("cargo:rustc-link-lib=static={name}");
+    let archive = dir.join("libabi.a");
+    println!("cargo:rerun-if-changed={}", archive.display());
+    if !archive.is_file() {
+        eprintln!("There is no {}: run 'tools/archive abi {arch}'.", archive.display());
+        std::process::exit(1);
     }
+    println!("cargo:rustc-link-lib=static=abi");
 }

@@ -132,6 +132,41 @@ impl Handler for InPlace {
     }
 }
 
+/// The same through the host's Rust interface.
+struct Interface(curbizzolu::Vcpu);
+
+impl Handler for Interface {
+    #[inline]
+    fn set(&mut self, work: &Work) {
+        (self.0.x[10], self.0.x[16], self.0.x[17]) = (work.a0, work.a6, work.a7);
+    }
+    #[inline]
+    fn trap(&mut self, work: &Work) -> u64 {
+        use curbizzolu::{Answer, Ask, Exit, Step, Trap};
+        let [scause, stval, htval, htinst, room] = work.trap;
+        let mut step = self.0.start(&Trap { scause, stval, htval, htinst, room });
+        while let Ok(Step::Ask(ask)) = step {
+            let answer = match ask {
+                Ask::Forward { .. } => Answer::Forwarded { error: 0, value: work.given },
+                _ => Answer::Emitted,
+            };
+            step = self.0.answer(&answer);
+        }
+        match step {
+            Ok(Step::Exit(Exit::MmioRead { .. })) => {
+                let _ = self.0.complete_load(work.given);
+                9
+            }
+            Ok(Step::Exit(Exit::MmioWrite { data, .. })) => 10 ^ data,
+            Ok(Step::Exit(Exit::Nothing)) => 0,
+            _ => 1,
+        }
+    }
+    fn state(&self) -> [u64; 5] {
+        [self.0.sepc, self.0.vstimecmp, self.0.x[10], self.0.x[11], self.0.x[12]]
+    }
+}
+
 /// Document 01's thin entry, which calls the step by value.
 struct Thin(Record);
 
@@ -240,7 +275,7 @@ fn run<H: Handler>(handler: &mut H, traps: u64) -> u64 {
     sum
 }
 
-const NAMES: [&str; 5] = ["generator", "plain-enums", "plain-words", "in-place", "thin"];
+const NAMES: [&str; 6] = ["generator", "plain-enums", "plain-words", "in-place", "interface", "thin"];
 
 /// Runs a handler by its number: nanoseconds, and the state that it ends in.
 fn once(which: usize, traps: u64) -> (u64, [u64; 5]) {
@@ -254,6 +289,7 @@ fn once(which: usize, traps: u64) -> (u64, [u64; 5]) {
         1 => timed(PlainEnums(enums::Vcpu::zero()), traps),
         2 => timed(PlainWords(words::Vcpu::zero()), traps),
         3 => timed(InPlace([0; 58]), traps),
+        4 => timed(Interface(curbizzolu::Vcpu::from_words([0; 58])), traps),
         _ => timed(Thin([0; 58]), traps),
     }
 }
@@ -263,10 +299,10 @@ fn main() {
     match args.iter().map(String::as_str).collect::<Vec<_>>()[..] {
         ["time", traps, rounds] => {
             let (traps, rounds): (u64, u64) = (traps.parse().unwrap(), rounds.parse().unwrap());
-            let mut least = [u64::MAX; 5];
+            let mut least = [u64::MAX; NAMES.len()];
             for _ in 0..rounds {
-                let mut states = [[0; 5]; 5];
-                for which in 0..5 {
+                let mut states = [[0; 5]; NAMES.len()];
+                for which in 0..NAMES.len() {
                     let (time, state) = once(which, traps);
                     least[which] = least[which].min(time);
                     states[which] = state;

@@ -261,9 +261,10 @@ static word sum_word(word sum, word w) {
     return z ^ (z >> 29);
 }
 
-/* The sum of what a record's words stand for: of the waiting part its meaning goes in, and of the rest each word. */
-static word sum_record(word sum, const word *record) {
-    word kind = record[54], a = record[55], b = record[56], c = record[57], w[4] = {0};
+/* The waiting part as it is meant: an unknown kind is nothing waiting, and words that its kind has no use for are 0. */
+static void meant(const word *record, word w[4]) {
+    word kind = record[54], a = record[55], b = record[56], c = record[57];
+    memset(w, 0, 4 * sizeof *w);
     if (kind >= 1 && kind <= 12)
         w[0] = kind;
     switch (kind) {
@@ -272,6 +273,12 @@ static word sum_record(word sum, const word *record) {
     case 5: case 6: case 8: w[1] = a; break;
     case 7: w[1] = a; w[2] = b; break;
     }
+}
+
+/* The sum of what a record's words stand for. */
+static word sum_record(word sum, const word *record) {
+    word w[4];
+    meant(record, w);
     for (int i = 0; i < 54; i++)
         sum = sum_word(sum, record[i]);
     for (int i = 0; i < 4; i++)

@@ -1,4 +1,4 @@
-//! The fixed list of calls and replies, crates/call_list/data/list. The plain Rust program of document 01 makes it; the program `calls`
+//! The fixed list of calls and replies, crates/call_list/data/list. The plain Rust program of document 01 makes it; the program `call_list`
 //! (in the gate), host/c/list.c (on any processor) and the test below run it.
 //!
 //!     WRITE_LIST=1 cargo test --test list
@@ -31,14 +31,14 @@ fn list_of(seed: u64) -> (String, BTreeSet<(u64, u64, u64, u64)>) {
     for _ in 0..CALLS {
         let mut changed = record;
         let call = next_call(&mut r, &mut changed);
-        // The program `calls` asks what is to be printed of a buffer of 4,096 bytes: a greater count is left out of the list.
+        // The program `call_list` asks what is to be printed of a buffer of 4,096 bytes: a greater count is left out of the list.
         if call[0] == 13 && changed[54] == 6 && changed[55] > 4096 {
             continue;
         }
-        // The waiting part is written whole: a library may leave other words there that stand for the same.
+        // The waiting part is written whole, its kind last: a library may leave other words there that stand for the same.
         let waiting = record[54..] != changed[54..];
-        for i in 0..58 {
-            if record[i] != changed[i] || (i >= 54 && waiting) {
+        for i in (0..54).chain(if waiting { vec![55, 56, 57, 54] } else { vec![] }) {
+            if i >= 54 || record[i] != changed[i] {
                 record[i] = changed[i];
                 line(&[0, i as u64, record[i], 0, 0, 0], &Reply { code: 0, out: [0; 8] }, &record);
             }

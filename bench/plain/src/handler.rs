@@ -250,6 +250,7 @@ impl Vcpu {
         }
     }
 
+    #[inline(always)]
     fn ecall(&mut self, room: u64) -> Step {
         let (a0, a1, fid) = (self.x[A0], self.x[A1], self.x[A6]);
         match self.x[A7] {
@@ -326,6 +327,7 @@ impl Vcpu {
         }
     }
 
+    #[inline(always)]
     fn virtual_instruction(&mut self, word: u32) -> Step {
         if word & 0x7f == 0x73 {
             return self.csr(word);
@@ -334,6 +336,7 @@ impl Vcpu {
         self.asks(Waiting::FetchCsr, ask)
     }
 
+    #[inline(always)]
     fn csr(&mut self, word: u32) -> Step {
         let f3 = word >> 12 & 7;
         if word & 0x7f != 0x73 || word >> 20 != 0x14d || f3 & 3 == 0 {
@@ -353,6 +356,7 @@ impl Vcpu {
         NOTHING
     }
 
+    #[inline(always)]
     fn page_fault(&mut self, t: &Trap, write: bool) -> Step {
         let at = t.htval << 2 | t.stval & 3;
         if t.htinst == 0 {
@@ -369,7 +373,7 @@ impl Vcpu {
         self.access(at, write, word | 2, if word & 2 == 0 { 2 } else { 4 })
     }
 
-    #[inline]
+    #[inline(always)]
     fn access(&mut self, at: u64, write: bool, word: u32, length: u64) -> Step {
         let f3 = word >> 12 & 7;
         let width = match f3 & 3 {
@@ -451,6 +455,7 @@ impl Vcpu {
         }
     }
 
+    #[inline(always)]
     fn missed(&mut self, fault: Fetch) -> Step {
         let (cause, at) = match fault {
             Fetch::Page(at) => (12, at),

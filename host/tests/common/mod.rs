@@ -503,8 +503,7 @@ fn model_waiting(words: &Record) -> model::Waiting {
     let (a, b) = (words[55], words[56]);
     match words[54] {
         1 => Waiting::Load {
-            // a register that isn't there: the completion writes none, as for x0
-            rd: if a < 32 { a as u8 } else { 0 },
+            rd: a,
             width: match b {
                 1 => Width::One,
                 2 => Width::Two,
@@ -532,7 +531,7 @@ fn waiting_words(waiting: model::Waiting) -> [u64; 4] {
     use model::{EmitFor, FetchFor, Waiting};
     match waiting {
         Waiting::Nothing => [0; 4],
-        Waiting::Load { rd, width, signed } => [1, rd as u64, width.bytes(), signed as u64],
+        Waiting::Load { rd, width, signed } => [1, rd, width.bytes(), signed as u64],
         Waiting::Fetch(FetchFor::VirtualInstruction) => [2, 0, 0, 0],
         Waiting::Fetch(FetchFor::GuestPageFault { addr, write }) => [3, addr.0, 1 + write as u64, 0],
         Waiting::Mask => [4, 0, 0, 0],
