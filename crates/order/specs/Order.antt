@@ -7,7 +7,7 @@ use Rattle.regs.specs.declared.Vcpu.{Vcpu}
 use Rattle.regs.specs.Record.{timed}
 use Rattle.lines.specs.declared.Got.{Got}
 use Rattle.lines.specs.declared.Got.the-variants as got
-use Rattle.vcpu.specs.Calls.{newOf, setEntryOf, setGprOf, setupOf}
+use Rattle.calls.specs.Calls.{newOf, setEntryOf, setGprOf, setupOf}
 use Rattle.steps.specs.declared.Gives.{Gives}
 use Rattle.steps.specs.declared.Gives.the-variants as gives
 use Rattle.steps.specs.declared.State.{State}

@@ -13,7 +13,7 @@ use types::GuestPhysAddr;
 pub fn begin() -> State
     ensures { λ r. ⌜ r ≡ begun ⌝ }
 {
-    let o = vcpu::setup(vcpu::new(0, 0));
+    let o = setup::setup(setup::new(0, 0));
     let v = o.vcpu;
     State {
         vcpu: v,
@@ -129,7 +129,7 @@ fn headed(v: Vcpu, k: usize, n: u64) -> Vcpu
     ensures { λ r. ⌜ r ≡ headedOf v k n ⌝ }
 {
     if k == 0 {
-        let o = vcpu::set_entry(v, GuestPhysAddr(n));
+        let o = setup::set_entry(v, GuestPhysAddr(n));
         return o.vcpu;
     }
     if k == 1 {
@@ -138,6 +138,6 @@ fn headed(v: Vcpu, k: usize, n: u64) -> Vcpu
         w.csrs = c;
         return w;
     }
-    let o = vcpu::set_gpr(v, k - 1, n);
+    let o = gprs::set_gpr(v, k - 1, n);
     o.vcpu
 }

@@ -10,7 +10,7 @@ use Rattle.types.specs.declared.Reply.the-variants as reply
 use Rattle.regs.specs.declared.Outcome.{Outcome}
 use Rattle.regs.specs.declared.Vcpu.{Vcpu}
 use Rattle.regs.specs.Record.{isIdle, waitingAsk}
-use Rattle.vcpu.specs.Calls.{answerOf, completeLoadOf, startOf}
+use Rattle.calls.specs.Calls.{answerOf, completeLoadOf, startOf}
 use Rattle.steps.specs.declared.Gives.{Gives}
 use Rattle.steps.specs.declared.Gives.the-variants as gives
 use Rattle.steps.specs.declared.State.{State}

@@ -207,11 +207,11 @@ fn code(before: u64, r: Reply) -> u64
     ensures { λ n. ⌜ n ≡ codeOf before r ⌝ }
 {
     match r {
-        Reply::Exit(e) => types::exit_number(e),
+        Reply::Exit(e) => numbers::exit_number(e),
         Reply::Ask(_) => before,
         Reply::Done => before,
         Reply::Value(_) => before,
-        Reply::Error(e) => failed(types::error_number(e)),
+        Reply::Error(e) => failed(numbers::error_number(e)),
     }
 }
 
