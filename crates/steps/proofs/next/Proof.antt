@@ -1,8 +1,8 @@
--- `order::next` meets its contract.
-use Rattle.order.specs.Order.{nextOf}
+-- `steps::next` meets its contract.
+use Rattle.steps.specs.Steps.{nextOf}
 use borrow.Author.Needs.{needs}
-use Rattle.order.proofs.next.Statement.{statement}
-use Rattle.order.proofs.next.Tie as tie
+use Rattle.steps.proofs.next.Statement.{statement}
+use Rattle.steps.proofs.next.Tie as tie
 
 wrapping-add-u64-requires : tie.Need-wrapping-add-u64-requires
 wrapping-add-u64-requires c κs = search needs

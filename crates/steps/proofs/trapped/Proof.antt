@@ -1,8 +1,8 @@
--- `order::trapped` meets its contract.
-use Rattle.order.specs.Order.{trappedOf, calledOf, nextOf}
+-- `steps::trapped` meets its contract.
+use Rattle.steps.specs.Steps.{trappedOf, calledOf, nextOf}
 use borrow.Author.Needs.{needs}
-use Rattle.order.proofs.trapped.Statement.{statement}
-use Rattle.order.proofs.trapped.Tie as tie
+use Rattle.steps.proofs.trapped.Statement.{statement}
+use Rattle.steps.proofs.trapped.Tie as tie
 
 next-requires : tie.Need-next-requires
 next-requires c κs = search needs

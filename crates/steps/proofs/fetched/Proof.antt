@@ -1,9 +1,9 @@
--- `order::fetched` meets its contract.
+-- `steps::fetched` meets its contract.
 use borrow.Author.Tests.{ne-eqb}
-use Rattle.order.specs.Pairs.{fetchFor}
+use Rattle.steps.specs.Pairs.{fetchFor}
 use borrow.Author.Needs.{needs}
-use Rattle.order.proofs.fetched.Statement.{statement}
-use Rattle.order.proofs.fetched.Tie as tie
+use Rattle.steps.proofs.fetched.Statement.{statement}
+use Rattle.steps.proofs.fetched.Tie as tie
 
 cast-t5 : tie.Need-cast-t5
 cast-t5 c = search needs

@@ -1,8 +1,8 @@
--- `order::more` meets its contract.
-use Rattle.order.specs.Order.{moreOf}
+-- `steps::more` meets its contract.
+use Rattle.steps.specs.Steps.{moreOf}
 use borrow.Author.Needs.{needs}
-use Rattle.order.proofs.more.Statement.{statement}
-use Rattle.order.proofs.more.Tie as tie
+use Rattle.steps.proofs.more.Statement.{statement}
+use Rattle.steps.proofs.more.Tie as tie
 
 ask-of-requires : tie.Need-ask-of-requires
 ask-of-requires c κs = search needs

@@ -1,8 +1,8 @@
--- `order::settled` meets its contract.
-use Rattle.order.specs.Order.{settledOf}
+-- `steps::settled` meets its contract.
+use Rattle.steps.specs.Steps.{settledOf}
 use borrow.Author.Needs.{needs}
-use Rattle.order.proofs.settled.Statement.{statement}
-use Rattle.order.proofs.settled.Tie as tie
+use Rattle.steps.proofs.settled.Statement.{statement}
+use Rattle.steps.proofs.settled.Tie as tie
 
 code-requires : tie.Need-code-requires
 code-requires c κs = search needs

@@ -1,9 +1,9 @@
--- `order::code` meets its contract.
-use Rattle.order.specs.Order.{codeOf}
-use Rattle.order.specs.Laws.{error-small}
+-- `steps::code` meets its contract.
+use Rattle.steps.specs.Steps.{codeOf}
+use Rattle.steps.specs.Laws.{error-small}
 use borrow.Author.Needs.{needs}
-use Rattle.order.proofs.code.Statement.{statement}
-use Rattle.order.proofs.code.Tie as tie
+use Rattle.steps.proofs.code.Statement.{statement}
+use Rattle.steps.proofs.code.Tie as tie
 
 enum-known-r : tie.Need-enum-known-r
 enum-known-r c = search needs

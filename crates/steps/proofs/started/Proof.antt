@@ -1,8 +1,8 @@
--- `order::started` meets its contract.
-use Rattle.order.specs.Order.{startedOf}
+-- `steps::started` meets its contract.
+use Rattle.steps.specs.Steps.{startedOf}
 use borrow.Author.Needs.{needs}
-use Rattle.order.proofs.started.Statement.{statement}
-use Rattle.order.proofs.started.Tie as tie
+use Rattle.steps.proofs.started.Statement.{statement}
+use Rattle.steps.proofs.started.Tie as tie
 
 start-requires : tie.Need-start-requires
 start-requires c κs = search needs

@@ -1,9 +1,9 @@
--- `order::paired` meets its contract.
+-- `steps::paired` meets its contract.
 use borrow.Author.Tests.{eq-eqb, ne-eqb, lt-ltb, lt-leb, le-ltb, le-leb}
-use Rattle.order.specs.Order.{pairedOf}
+use Rattle.steps.specs.Steps.{pairedOf}
 use borrow.Author.Needs.{needs}
-use Rattle.order.proofs.paired.Statement.{statement}
-use Rattle.order.proofs.paired.Tie as tie
+use Rattle.steps.proofs.paired.Statement.{statement}
+use Rattle.steps.proofs.paired.Tie as tie
 use Rattle.vcpu.proofs.answer.Reads as answer-reads′
 
 complete-load-requires : tie.Need-complete-load-requires

@@ -1,9 +1,9 @@
--- `order::answer` meets its contract.
+-- `steps::answer` meets its contract.
 use borrow.Author.Tests.{ne-eqb}
-use Rattle.order.specs.Pairs.{answerFor}
+use Rattle.steps.specs.Pairs.{answerFor}
 use borrow.Author.Needs.{needs}
-use Rattle.order.proofs.answer.Statement.{statement}
-use Rattle.order.proofs.answer.Tie as tie
+use Rattle.steps.proofs.answer.Statement.{statement}
+use Rattle.steps.proofs.answer.Tie as tie
 
 fetched-requires : tie.Need-fetched-requires
 fetched-requires c κs = search needs
