@@ -393,7 +393,7 @@ pub fn reply_values(p: Reply) -> [u64; 8]
 }
 
 // A word as a test: 0 is no.
-fn test(n: u64) -> bool
+pub fn test(n: u64) -> bool
     ensures { λ r. ⌜ r ≡ tested n ⌝ }
 {
     if n == 0 {

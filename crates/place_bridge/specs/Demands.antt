@@ -4,10 +4,11 @@ use native.Mathlib.Omega.{arith}
 use mathlib.Core.Bool.{Bool, true, false}
 use mathlib.Core.List.{List, [], _∷_}
 use mathlib.Core.Path.{_≡_, refl, ap, ap₂, sym, subst, _∙_}
-use lib.ListN.{getD}
+use lib.ListN.{getD, take}
 use lib.Seq.{sets}
 use Rattle.types.specs.Pick.{wrapped}
 use Rattle.types.specs.Numbers.{askNumber, errorNumber, exitNumber}
+use Rattle.types.specs.Values.{askValues, exitValues}
 use Rattle.types.specs.declared.Ask.{Ask}
 use Rattle.types.specs.declared.Ask.the-variants as ask
 use Rattle.types.specs.declared.Error.{Error}
@@ -30,7 +31,7 @@ use Rattle.total.specs.Demand1.{Pending, ask-waits, refusal-keeps-the-record, r
 use Rattle.bridge.specs.Entries as entries
 use Rattle.bridge.specs.Entries.{Entries, callsFor}
 use Rattle.bridge.specs.Demands.{EntryThird, called-honest, entry-counts, entry-third}
-use Rattle.place.specs.View.{Done, Made, outOf, replyWord, viewOf}
+use Rattle.place.specs.View.{Done, Made, askCount, besideOf, exitCount, outOf, replyWord, viewOf}
 use Rattle.place_bridge.specs.Places.{Places, Shown, lent, next, none, refusalWord, tellsOf}
 
 -- a call that takes no words for its reply is one that takes an empty list of them
@@ -41,8 +42,8 @@ sets-none i (v ∷ vs) = sets-none (suc i) vs
 
 none-out : (p : Reply) (args : List ℕ) → outOf [] p args ≡ []
 unfolding outOf
-none-out (reply.Exit e) args = ap (λ (l : List ℕ). sets l 2 _) (sets-none 0 _) ∙ sets-none 2 _
-none-out (reply.Ask a) args = sets-none 0 _
+none-out (reply.Exit e) args = ap (λ (l : List ℕ). sets l 2 (besideOf e args)) (sets-none 0 (take (exitCount e) (exitValues e))) ∙ sets-none 2 (besideOf e args)
+none-out (reply.Ask a) args = sets-none 0 (take (askCount a) (askValues a))
 none-out reply.Done args = refl
 none-out (reply.Value n) args = refl
 none-out (reply.Error e) args = refl

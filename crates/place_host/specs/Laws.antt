@@ -109,7 +109,7 @@ unfolding unlessAsking
 guarded-by r s n l e k h =
     let g : Effect = guardedOf (waitingAsk (viewOf r .waiting)) (viewOf r .csrs) (viewOf r .waiting) e in
     let d : Done (applied (viewOf r) g) (hostWords r g) (replyWord (g .reply)) =
-        host-done r l g (guarded-keeps (waitingAsk (viewOf r .waiting)) (viewOf r .csrs) (viewOf r .waiting) e k) in
+    host-done r l g (guarded-keeps (waitingAsk (viewOf r .waiting)) (viewOf r .csrs) (viewOf r .waiting) e k) in
     record { shows = ap viewOf (h .0) ∙ d .shows; says = h .1 ∙ d .says }
 
 pub write-keeps : (c : Csrs) (w : Waiting) (i n : ℕ) → Keeps (writeEffect c w i n) w

@@ -201,9 +201,7 @@ fn resumed(r: &mut [u64; 58], out: &mut [u64; 8], w: Waiting, word: u32) -> u64
             signed: _,
         } => 0x107,
         Waiting::FetchCsr => stimecmp_word(r, out, word as u64),
-        Waiting::FetchFault { at, access } => {
-            mmio_word(r, out, at, access, word)
-        }
+        Waiting::FetchFault { at, access } => { mmio_word(r, out, at, access, word) }
         Waiting::CopyMask => 0x107,
         Waiting::CopyIn { count: _ } => 0x107,
         Waiting::Print { count: _ } => 0x107,
@@ -217,7 +215,13 @@ fn resumed(r: &mut [u64; 58], out: &mut [u64; 8], w: Waiting, word: u32) -> u64
 }
 
 // A load or store whose instruction was fetched.
-fn mmio_word(r: &mut [u64; 58], out: &mut [u64; 8], at: GuestPhysAddr, access: Access, word: u32) -> u64
+fn mmio_word(
+    r: &mut [u64; 58],
+    out: &mut [u64; 8],
+    at: GuestPhysAddr,
+    access: Access,
+    word: u32,
+) -> u64
     ensures { λ w. ⌜ Made (now (out .entry)) (applied (viewOf (now (r .entry))) (mmioOf (viewOf (now (r .entry)) .x) (viewOf (now (r .entry)) .csrs) at access (fetchedWord word))) (now (r .exit)) (now (out .exit)) w ⌝ }
 {
     place::sized(r);

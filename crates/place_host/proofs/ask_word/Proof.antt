@@ -1,7 +1,6 @@
 -- `place_host::ask_word` meets its contract.
 use borrow.Author.Needs.{needs}
 use Rattle.types.specs.Numbers.{askNumber}
-
 use Rattle.place_host.proofs.ask_word.Statement.{statement}
 use Rattle.place_host.proofs.ask_word.Tie as tie
 

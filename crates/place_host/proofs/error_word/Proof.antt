@@ -1,7 +1,6 @@
 -- `place_host::error_word` meets its contract.
 use borrow.Author.Needs.{needs}
 use Rattle.types.specs.Numbers.{errorNumber}
-
 use Rattle.place_host.proofs.error_word.Statement.{statement}
 use Rattle.place_host.proofs.error_word.Tie as tie
 

@@ -2,7 +2,6 @@
 use borrow.Author.Needs.{needs}
 use Rattle.calls.specs.Calls.{latchOf}
 use Rattle.place_host.specs.Laws.{done-keeps, guarded-by}
-
 use Rattle.place_host.proofs.latch_hvip.Statement.{statement}
 use Rattle.place_host.proofs.latch_hvip.Tie as tie
 

@@ -2,7 +2,6 @@
 use borrow.Author.Needs.{needs}
 use Rattle.calls.specs.Calls.{setEntryOf}
 use Rattle.place_host.specs.Laws.{done-keeps, guarded-by}
-
 use Rattle.place_host.proofs.set_entry.Statement.{statement}
 use Rattle.place_host.proofs.set_entry.Tie as tie
 

@@ -2,7 +2,6 @@
 use borrow.Author.Needs.{needs}
 use Rattle.calls.specs.Calls.{setGprOf}
 use Rattle.place_host.specs.Laws.{guarded-by, write-keeps}
-
 use Rattle.place_host.proofs.set_gpr.Statement.{statement}
 use Rattle.place_host.proofs.set_gpr.Tie as tie
 

@@ -2,7 +2,6 @@
 use borrow.Author.Needs.{needs}
 use Rattle.calls.specs.Calls.{pendingOf}
 use Rattle.place_host.specs.Laws.{guarded-by, pending-keeps}
-
 use Rattle.place_host.proofs.set_pending.Statement.{statement}
 use Rattle.place_host.proofs.set_pending.Tie as tie
 

@@ -1,10 +1,9 @@
 -- `place_trap::resumed` meets its contract.
-use borrow.Author.Needs.{needs}
-use mathlib.Core.Path.{sym, _∙_}
 use Rattle.place.specs.View.{viewOf}
 use Rattle.resume.specs.Resume.{resumedOf}
 use Rattle.place_trap.specs.Laws.{refused-made}
 use mathlib.Core.Path.{sym, _∙_}
+use borrow.Author.Needs.{needs}
 use Rattle.place_trap.proofs.resumed.Statement.{statement}
 use Rattle.place_trap.proofs.resumed.Tie as tie
 
@@ -23,11 +22,8 @@ stimecmp-word-requires c κs = search needs
 enum-known-w : tie.Need-enum-known-w
 enum-known-w c = search needs
 
-from-fetched-requires : tie.Need-from-fetched-requires
-from-fetched-requires c κs = search needs
-
-mmio-requires : tie.Need-mmio-requires
-mmio-requires c κs = search needs
+mmio-word-requires : tie.Need-mmio-word-requires
+mmio-word-requires c κs = search needs
 
 enum-told-4 : tie.Need-enum-told-4
 enum-told-4 c = search needs
@@ -70,7 +66,7 @@ returns-3 c = λ e. rw (c .before .before .before .enum-told3 .given .1) (c .sti
 
 returns-4 : tie.Need-returns-4
 unfolding viewOf resumedOf
-returns-4 c = λ e. rw (c .before .before .before .before .before .w .given .1) (rw (c .before .from-fetched .ensures) at (c .mmio .ensures))
+returns-4 c = λ e. rw (c .before .before .before .before .w .given .1) (c .mmio-word .ensures)
 
 returns-5 : tie.Need-returns-5
 unfolding viewOf resumedOf
@@ -117,8 +113,7 @@ resumed-spec =
     enum-told-3
     stimecmp-word-requires
     enum-known-w
-    from-fetched-requires
-    mmio-requires
+    mmio-word-requires
     enum-told-4
     enum-told-5
     enum-told-6
