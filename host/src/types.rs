@@ -175,6 +175,7 @@ pub struct NestedPagingConfig {
 /// let ecall = Trap { scause: 10, ..Trap::default() };
 /// assert_eq!(ecall.htinst, 0);
 /// ```
+#[repr(C)]
 #[derive(Clone, Copy, Debug, Default, Eq, Hash, PartialEq)]
 pub struct Trap {
     /// Why the guest was left.

@@ -52,7 +52,7 @@ pub struct Vcpu {
     waiting: [u64; 4],
 }
 
-const _: () = assert!(core::mem::size_of::<Vcpu>() == RECORD * 8);
+const _: () = assert!(core::mem::size_of::<Vcpu>() == RECORD * 8 && core::mem::size_of::<Trap>() == 5 * 8);
 
 impl Vcpu {
     /// A record of zeros but for what a guest finds at its start: a0 is its hart, a1 where its device tree lies.
@@ -96,6 +96,7 @@ impl Vcpu {
         unsafe { *(self as *const Vcpu as *const Record) }
     }
 
+    #[inline]
     fn words(&mut self) -> *mut Record {
         self as *mut Vcpu as *mut Record
     }
@@ -109,6 +110,7 @@ impl Vcpu {
     /// assert_eq!((vcpu.hie, vcpu.vstimecmp), (0x444, u64::MAX));
     /// # Ok::<(), curbizzolu::Refusal>(())
     /// ```
+    #[inline]
     pub fn setup(&mut self) -> Result<(), Refusal> {
         done(unsafe { library::vcpu_setup(self.words()) })
     }
@@ -122,6 +124,7 @@ impl Vcpu {
     /// assert_eq!(vcpu.sepc, 0x8000_0000);
     /// # Ok::<(), curbizzolu::Refusal>(())
     /// ```
+    #[inline]
     pub fn set_entry(&mut self, entry: GuestPhysAddr) -> Result<(), Refusal> {
         done(unsafe { library::vcpu_set_entry(self.words(), entry.0) })
     }
@@ -132,6 +135,7 @@ impl Vcpu {
     /// # use curbizzolu::Vcpu;
     /// assert_eq!(Vcpu::new(5, 0).get_gpr(10), Ok(5));
     /// ```
+    #[inline]
     pub fn get_gpr(&self, index: usize) -> Result<u64, Refusal> {
         let mut out: Out = [0; 8];
         let code = unsafe { library::vcpu_get_gpr(self as *const Vcpu as *const Record, index as u64, &mut out) };
@@ -149,6 +153,7 @@ impl Vcpu {
     /// assert_eq!(vcpu.set_gpr(7, 9), Ok(()));
     /// assert_eq!(vcpu.set_gpr(32, 9), Err(Refusal::InvalidInput));
     /// ```
+    #[inline]
     pub fn set_gpr(&mut self, index: usize, value: u64) -> Result<(), Refusal> {
         done(unsafe { library::vcpu_set_gpr(self.words(), index as u64, value) })
     }
@@ -162,6 +167,7 @@ impl Vcpu {
     /// assert_eq!(vcpu.get_gpr(10), Ok(1));
     /// # Ok::<(), curbizzolu::Refusal>(())
     /// ```
+    #[inline]
     pub fn set_return_value(&mut self, value: u64) -> Result<(), Refusal> {
         done(unsafe { library::vcpu_set_return_value(self.words(), value) })
     }
@@ -175,6 +181,7 @@ impl Vcpu {
     /// assert_eq!(vcpu.hgatp, 0x8000_0000_0008_0004);
     /// # Ok::<(), curbizzolu::Refusal>(())
     /// ```
+    #[inline]
     pub fn set_nested_page_table(&mut self, config: NestedPagingConfig) -> Result<(), Refusal> {
         let NestedPagingConfig { root_paddr, levels, mode } = config;
         done(unsafe { library::vcpu_set_nested_page_table(self.words(), levels, mode, root_paddr.0) })
@@ -191,6 +198,7 @@ impl Vcpu {
     /// assert_eq!(vcpu.set_virtual_interrupt_pending(5, true), Err(Refusal::InvalidInput));
     /// # Ok::<(), Refusal>(())
     /// ```
+    #[inline]
     pub fn set_virtual_interrupt_pending(&mut self, vector: u64, pending: bool) -> Result<(), Refusal> {
         done(unsafe { library::vcpu_set_pending(self.words(), vector, pending as u64) })
     }
@@ -204,6 +212,7 @@ impl Vcpu {
     /// assert_eq!(vcpu.hvip, 1 << 2);
     /// # Ok::<(), curbizzolu::Refusal>(())
     /// ```
+    #[inline]
     pub fn inject_interrupt(&mut self, vector: u64) -> Result<(), Refusal> {
         self.set_virtual_interrupt_pending(vector, true)
     }
@@ -219,6 +228,7 @@ impl Vcpu {
     /// assert_eq!(vcpu.hvip, 0);
     /// # Ok::<(), curbizzolu::Refusal>(())
     /// ```
+    #[inline]
     pub fn set_vseip_level(&mut self, asserted: bool) -> Result<(), Refusal> {
         self.set_virtual_interrupt_pending(9, asserted)
     }
@@ -233,6 +243,7 @@ impl Vcpu {
     /// assert_eq!(vcpu.hvip, 1 << 6 | 1 << 2);
     /// # Ok::<(), curbizzolu::Refusal>(())
     /// ```
+    #[inline]
     pub fn latch_hvip(&mut self, bits: u64) -> Result<(), Refusal> {
         done(unsafe { library::vcpu_latch_hvip(self.words(), bits) })
     }
@@ -247,6 +258,7 @@ impl Vcpu {
     /// assert_eq!(vcpu.get_gpr(10), Ok(-3_i64 as u64));
     /// # Ok::<(), curbizzolu::Refusal>(())
     /// ```
+    #[inline]
     pub fn complete_ipi(&mut self, request: IpiRequest, completion: IpiCompletion) -> Result<(), Refusal> {
         let abi = match request.abi {
             IpiAbi::Legacy => 0,
@@ -272,10 +284,12 @@ impl Vcpu {
     /// assert_eq!((vcpu.vstimecmp, vcpu.sepc, vcpu.counts[0]), (1000, 4, 1));
     /// # Ok::<(), curbizzolu::Error>(())
     /// ```
+    #[inline]
     pub fn start(&mut self, trap: &Trap) -> Result<Step, Error> {
         let mut out: Out = [0; 8];
-        let trap = [trap.scause, trap.stval, trap.htval, trap.htinst, trap.room];
-        let code = unsafe { library::vcpu_start(self.words(), &trap, &mut out) };
+        // the five words in the library's order
+        let trap = trap as *const Trap as *const [u64; 5];
+        let code = unsafe { library::vcpu_start(self.words(), trap, &mut out) };
         step(code, &out)
     }
 
@@ -291,6 +305,7 @@ impl Vcpu {
     /// assert_eq!(vcpu.answer(&Answer::Emitted)?, Step::Exit(Exit::Nothing));
     /// # Ok::<(), curbizzolu::Error>(())
     /// ```
+    #[inline]
     pub fn answer(&mut self, answer: &Answer) -> Result<Step, Error> {
         let mut out: Out = [0; 8];
         let answer = answer_words(answer);
@@ -311,6 +326,7 @@ impl Vcpu {
     /// assert_eq!(vcpu.get_gpr(7), Ok(0xFFFF_FFFF_8000_0000));
     /// # Ok::<(), curbizzolu::Error>(())
     /// ```
+    #[inline]
     pub fn complete_load(&mut self, number: u64) -> Result<(), Refusal> {
         done(unsafe { library::vcpu_complete_load(self.words(), number) })
     }
@@ -321,6 +337,7 @@ impl Vcpu {
     /// # use curbizzolu::Vcpu;
     /// assert_eq!(Vcpu::new(0, 0).to_print(b"nothing waits"), b"");
     /// ```
+    #[inline]
     pub fn to_print<'a>(&self, buffer: &'a [u8]) -> &'a [u8] {
         let count = unsafe { library::vcpu_to_print(self as *const Vcpu as *const Record) };
         match usize::try_from(count) {
@@ -330,6 +347,7 @@ impl Vcpu {
     }
 }
 
+#[inline]
 fn answer_words(answer: &Answer) -> [u64; 3] {
     let (a, b) = match *answer {
         Answer::Fetched(Fetch::Word(word)) => (word as u64, 0),
@@ -359,6 +377,7 @@ fn done(code: u64) -> Result<(), Refusal> {
     }
 }
 
+#[inline]
 fn refusal(code: u64) -> Refusal {
     match code.wrapping_sub(ERROR) {
         1 => Refusal::InvalidInput,
@@ -392,6 +411,7 @@ fn step(code: u64, out: &Out) -> Result<Step, Error> {
     Ok(Step::Exit(exit))
 }
 
+#[inline]
 fn ask(code: u64, out: &Out) -> Ask {
     match code.wrapping_sub(ASK) {
         1 => Ask::Fetch { at: GuestVirtAddr(out[0]), supervisor: out[1] != 0 },
@@ -407,6 +427,7 @@ fn ask(code: u64, out: &Out) -> Ask {
     }
 }
 
+#[inline]
 fn error(code: u64) -> Error {
     match code.wrapping_sub(ERROR) {
         3 => Error::Trap(TrapError::Unsupported),
@@ -417,10 +438,12 @@ fn error(code: u64) -> Error {
     }
 }
 
+#[inline]
 fn six(out: &Out) -> [u64; 6] {
     [out[2], out[3], out[4], out[5], out[6], out[7]]
 }
 
+#[inline]
 fn width(bytes: u64) -> Width {
     match bytes {
         1 => Width::Byte,
@@ -431,6 +454,7 @@ fn width(bytes: u64) -> Width {
     }
 }
 
+#[inline]
 fn access(flag: u64) -> AccessFlags {
     match flag {
         1 => AccessFlags::Read,
