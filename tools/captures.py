@@ -2,14 +2,19 @@
 """Writes the captures that the program `replays` runs, and the output that each must give.
 
     tools/captures.py
+    tools/captures.py --try [COUNT] [SEED]      runs replay on COUNT captures that are not stored (1,000 if not given)
 
 crates/replays/data/published/   a capture for each class of traps, with the output of the published Rust
 crates/replays/data/damaged/     captures cut or changed in one place, with the output of the plain Rust model
 
 docs/CAPTURES.md says what they are. It needs cargo, and RISCV_VCPU_SRC for the first folder: without it that folder is
 left as it is. The seed is fixed, so a run writes the same bytes again. A test needs only what is stored.
+
+With --try each capture is one of the stored ones, half of them cut to some of their first lines, seven of eight damaged in one
+random place; what target/bin/replay writes is compared with what the plain Rust model writes.
 """
 import os
+import random
 import shutil
 import subprocess
 import sys
@@ -134,8 +139,55 @@ def captures():
         yield f"line-{n + 1:02}-unfit", WHOLE[:n] + [WHOLE[n].upper()] + WHOLE[n + 1:]
 
 
+def damaged(r, text):
+    """The capture or some of its first lines, as they are or damaged in one place."""
+    lines = text.splitlines(keepends=True)
+    if r.randrange(2):
+        lines = lines[:r.randrange(len(lines) + 1)]
+    kind, n = r.randrange(8), len(lines)
+    if kind == 1 and n:
+        del lines[r.randrange(n)]
+    if kind == 2 and n:
+        i, k = r.randrange(n), r.randrange(n)
+        lines[i], lines[k] = lines[k], lines[i]
+    text = bytearray(b"".join(lines))
+    at = r.randrange(len(text) + 1)
+    if kind == 3:
+        del text[at:]
+    elif kind == 4:
+        del text[at:at + 1]
+    elif kind == 5:
+        text[at:at] = bytes([r.randrange(256)])
+    elif kind == 6:
+        text[at:at + 1] = bytes([r.randrange(256)])
+    elif kind == 7 and at < len(text):
+        text[at] ^= 1 << r.randrange(8)
+    return bytes(text)
+
+
+def compare(count, seed):
+    """Replay beside the model on captures that are not stored."""
+    r = random.Random(seed)
+    build("model")
+    stored = [open(f"{DATA}/{name.strip()}.capture", "rb").read() for name in open(f"{CRATE}/args")]
+    different, bad = 0, 0
+    for number in range(1, count + 1):
+        capture = damaged(r, r.choice(stored))
+        expected = subprocess.run([f"{RELEASE}/model-replay"], input=capture, capture_output=True, check=True).stdout
+        output = subprocess.run(["tools/run", "replay"], input=capture, capture_output=True, check=True).stdout
+        bad += b"bad=" in expected
+        if output != expected:
+            different += 1
+            open(f"target/different-{seed}-{number}.capture", "wb").write(capture)
+            print(f"target/different-{seed}-{number}.capture: another output than the model's")
+    print(f"{count} captures of seed {seed}, {bad} of them with bad=, {different} different")
+    sys.exit(different > 0)
+
+
 def main():
     os.chdir(os.path.join(os.path.dirname(os.path.abspath(__file__)), ".."))
+    if sys.argv[1:2] == ["--try"]:
+        compare(*[int(word) for word in sys.argv[2:]] + [1000, 1][len(sys.argv) - 2:])
     names = []
     if os.environ.get("RISCV_VCPU_SRC"):
         build("diff")

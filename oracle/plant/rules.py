@@ -126,6 +126,9 @@ def faults(text):
     for at in range(len(row)):
         for kind, start, end, new in at_token(row, at, text):
             counts[kind] = counts.get(kind, 0) + 1
+            # Two equal arguments exchanged are no fault.
+            if new == text[start:end]:
+                continue
             all_faults.append(Fault(kind, counts[kind], row[at].function, start, end, new))
     return all_faults
 

@@ -169,7 +169,7 @@ pub fn waiting_of(w: [u64; 4]) -> Waiting
 }
 
 // By its kind, so that the match is on a parameter.
-fn waiting_by(kind: u64, a: u64, b: u64, c: u64) -> Waiting
+pub fn waiting_by(kind: u64, a: u64, b: u64, c: u64) -> Waiting
     ensures { λ r. ⌜ r ≡ waitingBy kind a b c ⌝ }
 {
     match kind {
@@ -393,7 +393,7 @@ pub fn reply_values(p: Reply) -> [u64; 8]
 }
 
 // A word as a test: 0 is no.
-fn test(n: u64) -> bool
+pub fn test(n: u64) -> bool
     ensures { λ r. ⌜ r ≡ tested n ⌝ }
 {
     if n == 0 {
@@ -403,7 +403,7 @@ fn test(n: u64) -> bool
 }
 
 // A test as a word.
-fn flag(b: bool) -> u64
+pub fn flag(b: bool) -> u64
     ensures { λ r. ⌜ r ≡ flagOf b ⌝ }
 {
     if b {

@@ -3,7 +3,7 @@ use Prim.Native.Nat.{ℕ, _≤_, _<_}
 use mathlib.Core.List.{List, _++_}
 use mathlib.Core.Path.{_≡_}
 use lib.ListN.{drop, length, take}
-use Rattle.order.specs.declared.State.{State}
+use Rattle.steps.specs.declared.State.{State}
 use Rattle.capture.specs.declared.Fed.{Fed}
 use Rattle.capture.specs.declared.Filled.{Filled}
 use Rattle.capture.specs.Replay.{afterOf, outOf, textOf}

@@ -16,11 +16,12 @@ use Rattle.lines.specs.Keys.{bytes, keyOf}
 use Rattle.lines.specs.Lines.{Read, Taken, after, lineOf, lineText, takenOf}
 use Rattle.lines.specs.Put.{Put, PutLine}
 use Rattle.lines.specs.PutLaws.{line-length, put-both, put-front, put-none, put-same}
-use Rattle.order.specs.declared.Gives.{Gives}
-use Rattle.order.specs.declared.Gives.the-variants as gives
-use Rattle.order.specs.declared.State.{State}
-use Rattle.order.specs.declared.Step.{Step}
-use Rattle.order.specs.Order.{badOf, calledOf, gaveOf, headerOf, keptOf, moreOf, nextOf, pairedOf, quiet, settledOf, startedOf, tookOf, trappedOf, withOf}
+use Rattle.steps.specs.declared.Gives.{Gives}
+use Rattle.steps.specs.declared.Gives.the-variants as gives
+use Rattle.steps.specs.declared.State.{State}
+use Rattle.steps.specs.declared.Step.{Step}
+use Rattle.steps.specs.Steps.{badOf, calledOf, moreOf, nextOf, pairedOf, quiet, settledOf, startedOf, trappedOf}
+use Rattle.order.specs.Order.{gaveOf, headerOf, keptOf, tookOf, withOf}
 use Rattle.capture.specs.declared.Fed.{Fed}
 use Rattle.capture.specs.declared.Filled.{Filled}
 use Rattle.capture.specs.Feeds.{Feeds, Fills}

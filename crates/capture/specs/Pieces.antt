@@ -2,7 +2,7 @@
 use Prim.Native.Nat.{ℕ}
 use mathlib.Core.List.{List, [], _∷_, _++_, append-assoc}
 use mathlib.Core.Path.{_≡_, refl, sym, ap, _∙_}
-use Rattle.order.specs.declared.State.{State}
+use Rattle.steps.specs.declared.State.{State}
 use Rattle.order.specs.Order.{begun, endOf}
 use Rattle.capture.specs.Replay.{afterOf, fedOf, outOf, replayOf, textOf}
 

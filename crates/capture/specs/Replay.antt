@@ -4,11 +4,12 @@ use mathlib.Core.List.{List, [], _∷_, _++_}
 use Rattle.types.specs.Pick.{pick}
 use Rattle.lines.specs.Keys.{bytes, keyOf}
 use Rattle.lines.specs.Lines.{lineOf, lineText}
-use Rattle.order.specs.declared.Gives.{Gives}
-use Rattle.order.specs.declared.Gives.the-variants as gives
-use Rattle.order.specs.declared.State.{State}
-use Rattle.order.specs.declared.Step.{Step}
-use Rattle.order.specs.Order.{begun, endOf, gaveOf, quiet}
+use Rattle.steps.specs.declared.Gives.{Gives}
+use Rattle.steps.specs.declared.Gives.the-variants as gives
+use Rattle.steps.specs.declared.State.{State}
+use Rattle.steps.specs.declared.Step.{Step}
+use Rattle.steps.specs.Steps.{quiet}
+use Rattle.order.specs.Order.{begun, endOf, gaveOf}
 
 -- one byte; after an unfit line, nothing
 unfoldable pub fedOf : State → ℕ → Step

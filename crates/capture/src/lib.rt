@@ -6,9 +6,9 @@ ghost use lib.ListN.{length};
 ghost use Rattle.lines.specs.Put.{Put};
 ghost use Rattle.capture.specs.Replay.{textOf};
 ghost use Rattle.capture.specs.Feeds.{Feeds, Fills};
-use order::Gives;
-use order::State;
-use order::Step;
+use steps::Gives;
+use steps::State;
+use steps::Step;
 
 // A step over the first bytes of a slice, and where the bytes after them begin.
 pub struct Fed {

@@ -2,7 +2,7 @@
 // (01, Replay program). It only reads, feeds and writes: crate capture says what comes out.
 use libc::STDIN_FILENO;
 use libc::STDOUT_FILENO;
-use order::State;
+use steps::State;
 
 // How a part of the work went, and the state after it.
 struct Went {

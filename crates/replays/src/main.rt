@@ -4,6 +4,7 @@ ghost use Prim.Native.Nat.{_≤_};
 ghost use mathlib.Core.Path.{_≡_};
 ghost use lib.ListN.{length, take};
 ghost use Rattle.io.specs.Counts.{Counts};
+ghost use Rattle.replays.specs.Judged.{Judged};
 use libc::STDOUT_FILENO;
 
 // What came of one capture.
@@ -74,7 +75,10 @@ fn is_told_same(name: &[u8], v: Verdict) -> bool {
     }
 }
 
-fn judge(capture: &[u8], expected: &[u8]) -> Verdict {
+// Same only where the replay of the capture is the expected output.
+fn judge(capture: &[u8], expected: &[u8]) -> Verdict
+    ensures { λ r. ⌜ Judged (now (capture .entry)) (now (expected .entry)) r ⌝ }
+{
     let mut out = io::large_buffer();
     let f = capture::fill(order::begin(), capture, &mut out);
     let e = f.end;

@@ -1,5 +1,6 @@
 -- `order::header` meets its contract.
-use Rattle.order.specs.Order.{headerOf, nextOf}
+use Rattle.order.specs.Order.{headerOf}
+use Rattle.steps.specs.Steps.{nextOf}
 use borrow.Author.Needs.{needs}
 use Rattle.order.proofs.header.Statement.{statement}
 use Rattle.order.proofs.header.Tie as tie

@@ -1,6 +1,7 @@
 -- `order::took` meets its contract.
 use borrow.Author.Tests.{ne-eqb}
-use Rattle.order.specs.Order.{tookOf, keptOf, nextOf}
+use Rattle.order.specs.Order.{tookOf, keptOf}
+use Rattle.steps.specs.Steps.{nextOf}
 use borrow.Author.Needs.{needs}
 use Rattle.order.proofs.took.Statement.{statement}
 use Rattle.order.proofs.took.Tie as tie

@@ -3,6 +3,7 @@ use Rattle.capture.specs.Laws.{written-end}
 use mathlib.Core.Path.{sym}
 use lib.Seq.{length-take-le}
 use borrow.Author.Needs.{needs}
+use Rattle.replays.proofs.Judging.{judged}
 use Rattle.replays.proofs.judge.Statement.{statement}
 use Rattle.replays.proofs.judge.Tie as tie
 
@@ -19,7 +20,7 @@ fill-requires : tie.Need-fill-requires
 fill-requires c κs = search needs
 
 returns : tie.Need-returns
-returns c = search needs
+returns c = tt
 
 array-share-prefix-out : tie.Need-array-share-prefix-out
 array-share-prefix-out c = search needs
@@ -31,7 +32,7 @@ agree-requires : tie.Need-agree-requires
 agree-requires c κs = search needs
 
 returns-2 : tie.Need-returns-2
-returns-2 c = search needs
+returns-2 c = tt
 
 end-requires : tie.Need-end-requires
 end-requires c κs = search needs
@@ -61,7 +62,7 @@ wrapping-add-usize-requires : tie.Need-wrapping-add-usize-requires
 wrapping-add-usize-requires c κs = search needs
 
 returns-3 : tie.Need-returns-3
-returns-3 c = search needs
+returns-3 c = tt
 
 sub-if4 : tie.Need-sub-if4
 sub-if4 c = search needs
@@ -70,10 +71,11 @@ wrapping-add-usize-requires-2 : tie.Need-wrapping-add-usize-requires-2
 wrapping-add-usize-requires-2 c κs = search needs
 
 returns-4 : tie.Need-returns-4
-returns-4 c = search needs
+returns-4 c = tt
 
 returns-5 : tie.Need-returns-5
-returns-5 c = search needs
+returns-5 c =
+    judged _ (c .before .before .before .before .before .before .before .before .before .before .before .before .before .before .before .before .before .before .before .before .before .args .capture .now) (c .before .before .before .before .before .before .before .before .before .before .before .before .before .before .before .before .before .before .before .before .before .args .expected .now) _ _ _ _ _ _ _ (c .before .before .before .before .before .before .before .before .before .before .before .before .before .before .before .fill .result) _ (c .before .before .before .before .before .before .before .before .before .before .before .before .before .before .before .before .before .begin .ensures) (c .before .before .before .before .before .before .before .before .before .before .before .before .before .before .before .fill .ensures) (c .before .before .before .before .before .before .before .before .before .before .before .before .if1 .left) (c .before .before .before .before .before .before .before .before .before .before .agree .ensures) (c .before .before .before .before .before .before .before .before .before .if2 .left) (c .before .before .before .before .before .before .before .end .ensures) (search needs) (c .before .before .before .before .before .write .ensures) (c .before .before .agree2 .ensures) (c .before .if3 .left) (c .if4 .left)
 
 pub judge-spec : {M : Type 1} → statement M
 judge-spec =

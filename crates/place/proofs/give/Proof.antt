@@ -1,0 +1,21 @@
+-- `place::give` meets its contract.
+use Rattle.place.specs.Deeds.{giveWords}
+use borrow.Author.Needs.{needs}
+use Rattle.place.proofs.give.Statement.{statement}
+use Rattle.place.proofs.give.Tie as tie
+
+element-write-r : tie.Need-element-write-r
+element-write-r c = search needs
+
+element-write-r-2 : tie.Need-element-write-r-2
+element-write-r-2 c = search needs
+
+advance-requires : tie.Need-advance-requires
+advance-requires c κs = search needs
+
+returns : tie.Need-returns
+unfolding giveWords
+returns c = simp (c .advance .ensures)
+
+pub give-spec : {M : Type 1} → statement M
+give-spec = tie.close (tie.spec element-write-r element-write-r-2 advance-requires returns)

@@ -1,0 +1,236 @@
+-- Through the view, what each class does to words is the effect of the same decision.
+use Prim.Native.Nat.{ℕ, _<_}
+use native.Mathlib.Omega.{arith}
+use borrow.Author.Tests.{ltb-true}
+use lib.Dec.{eqb, ltb}
+use lib.Seq.{drop-set-lt, getD-take, take-set-lt}
+use mathlib.Core.Bool.{Bool, true, false}
+use mathlib.Core.List.{List}
+use mathlib.Core.Path.{_≡_, refl, ap, sym, subst, _∙_}
+use lib.ListN.{getD, length, set, take, drop}
+use Rattle.types.specs.Pick.{pick, wrapped}
+use Rattle.types.specs.Numbers.{abiNumber, accessNumber, askNumber, errorNumber, exitNumber, flagOf, widthBytes}
+use Rattle.types.specs.Values.{askValues, exitValues}
+use Rattle.types.specs.declared.Access.{Access}
+use Rattle.types.specs.declared.GuestPhysAddr.{GuestPhysAddr}
+use Rattle.regs.specs.declared.Waiting.{Waiting}
+use Rattle.regs.specs.declared.Waiting.the-variants as waiting
+use Rattle.regs.specs.declared.Writes.the-variants as writes
+use Rattle.regs.specs.declared.Csrs.{Csrs}
+use Rattle.regs.specs.declared.Effect.{Effect}
+use Rattle.regs.specs.declared.Event.the-variants as event
+use Rattle.regs.specs.declared.Outcome.{Outcome}
+use Rattle.regs.specs.declared.Vcpu.{Vcpu}
+use Rattle.regs.specs.Record.{bumped, counted, eventNumber, listed, moved, pended, stored, timed, valueOf}
+use Rattle.regs.specs.Effects.{applied, askingOf, doneOf, failedOf, finishedOf, noArgs, refusedOf}
+use Rattle.ecall.specs.declared.Call.{Call}
+use Rattle.ecall.specs.declared.Call.the-variants as call
+use Rattle.ecall_effect.specs.Doing.{callEffect}
+use Rattle.deeds.specs.Deeds.{asksOf, clearIpiOf, hypercallOf, movesOf, returnsOf, setTimerOf, staysOf}
+use Rattle.fetch.specs.Faults.{askFetchOf, injectedOf, missedEffect}
+use Rattle.fetch.specs.declared.Missed.{Missed}
+use Rattle.fetch.specs.declared.Missed.the-variants as missed
+use Rattle.virtual_inst.specs.Stimecmp.{csrEffect}
+use Rattle.virtual_inst.specs.declared.Csr.{Csr}
+use Rattle.virtual_inst.specs.declared.Csr.the-variants as csr
+use Rattle.page_fault.specs.Mmio.{faultEffect}
+use Rattle.page_fault.specs.declared.Fault.{Fault}
+use Rattle.page_fault.specs.declared.Fault.the-variants as fault
+use Rattle.answers.specs.Answers.{answeredEffect, completedOf}
+use Rattle.answers.specs.declared.Answered.{Answered}
+use Rattle.answers.specs.declared.Answered.the-variants as answered
+use Rattle.abi.specs.Words.{csrsOf, unpackOf, waitingBy, waitingOf}
+use Rattle.abi.specs.Laws.{access-back, flag-back, width-back}
+use Rattle.place.specs.View.{Done, Made, askCount, besideOf, exitCount, outOf, recordOf, replyWord, viewOf}
+use Rattle.place.specs.Deeds.{Leaves, Left, answeredLeft, argsWords, bumpWords, callLeft, completeWord, completeWords, csrLeft, faultLeft, fetchOut, giveWords, injectWords, missedLeft, putWord, readWord, movedWords, pairWords, sixWords, stepWords, timerWords}
+use Rattle.place.specs.Spelled.{spelled, spelled-out}
+
+-- a function that leaves words which show an outcome shows it
+pub made-by : {o : List ℕ} {outcome : Outcome} {l : Left} {r out : List ℕ} {word : ℕ} → Made o outcome (l .rec) (l .out) (l .word) → Leaves l r out word → Made o outcome r out word
+made-by m l = record { shows = ap viewOf (l .rec) ∙ m .shows; says = l .word ∙ m .says; gives = l .out ∙ m .gives }
+
+-- an effect on a record of words
+abbrev pub On : List ℕ → List ℕ → Effect → Left → Type 0
+On r o e l = Made o (applied (viewOf r) e) (l .rec) (l .out) (l .word)
+
+-- what holds of every record that is written out holds of all 58 words
+pub over : (P : List ℕ → Type 0) → ((k : List ℕ) → P (spelled 58 0 k)) → (r : List ℕ) → length r ≡ 58 → P r
+over P f r e = subst P (spelled-out r e) (f r)
+
+-- two records are equal by their parts
+pub same : {a b : Vcpu} → a .x ≡ b .x → a .csrs ≡ b .csrs → a .counts ≡ b .counts → a .waiting ≡ b .waiting → a ≡ b
+same p q s t = λ i. record { x = p i; csrs = q i; counts = s i; waiting = t i }
+
+-- a register that is written shows as one
+
+set-shows : (s : List ℕ) (i n : ℕ) → i < 32
+    → viewOf (set s i n) ≡ record { x = set (viewOf s .x) i n; csrs = viewOf s .csrs; counts = viewOf s .counts; waiting = viewOf s .waiting }
+unfolding viewOf recordOf unpackOf
+set-shows s i n h =
+    same (take-set-lt 32 s i n h) (ap (λ (l : List ℕ). csrsOf (take 13 l)) (drop-set-lt 32 s i n h))
+    (ap (λ (l : List ℕ). take 9 l) (drop-set-lt 45 s i n (omega arith)))
+    (ap (λ (l : List ℕ). waitingOf (take 4 l)) (drop-set-lt 54 s i n (omega arith)))
+
+put-by : (s : List ℕ) (i n : ℕ) (b c : Bool) → ltb i 32 ≡ c
+    → viewOf (pick b s (pick c (set s i n) s))
+    ≡ record { x = pick b (viewOf s .x) (pick c (set (viewOf s .x) i n) (viewOf s .x)); csrs = viewOf s .csrs; counts = viewOf s .counts; waiting = viewOf s .waiting }
+put-by s i n true c e = refl
+put-by s i n false true e = set-shows s i n (ltb-true i 32 e)
+put-by s i n false false e = refl
+
+pub put-shows : (s : List ℕ) (i n : ℕ)
+    → viewOf (putWord s i n)
+    ≡ record { x = stored (viewOf s .x) (writes.One i n); csrs = viewOf s .csrs; counts = viewOf s .counts; waiting = viewOf s .waiting }
+unfolding putWord stored
+put-shows s i n = put-by s i n (eqb i 0) (ltb i 32) refl
+
+call-spelled : (k o : List ℕ) (d : Call) → let r : List ℕ = spelled 58 0 k in On r o (callEffect (viewOf r .csrs) (getD r 17 0) (getD r 16 0) (argsWords r) d) (callLeft r o d)
+unfolding viewOf recordOf unpackOf csrsOf waitingOf waitingBy applied callEffect returnsOf movesOf setTimerOf finishedOf askingOf noArgs stored counted bumped eventNumber listed moved timed pended replyWord outOf exitCount askCount besideOf exitNumber askNumber exitValues askValues callLeft pairWords giveWords stepWords movedWords timerWords bumpWords argsWords sixWords clearIpiOf asksOf staysOf hypercallOf abiNumber
+call-spelled k o (call.Returns e v) = record { shows = refl; says = refl; gives = refl }
+call-spelled k o call.Moves = record { shows = refl; says = refl; gives = refl }
+call-spelled k o (call.LegacyTimer d) = record { shows = refl; says = refl; gives = refl }
+call-spelled k o (call.SetTimer d) = record { shows = refl; says = refl; gives = refl }
+call-spelled k o call.ClearIpi = record { shows = refl; says = refl; gives = refl }
+call-spelled k o (call.PutChar n) = record { shows = refl; says = refl; gives = refl }
+call-spelled k o call.GetChar = record { shows = refl; says = refl; gives = refl }
+call-spelled k o (call.CopyMask at) = record { shows = refl; says = refl; gives = refl }
+call-spelled k o (call.SendIpi q) = record { shows = refl; says = refl; gives = refl }
+call-spelled k o (call.CpuUp target entry arg) = record { shows = refl; says = refl; gives = refl }
+call-spelled k o call.CpuDown = record { shows = refl; says = refl; gives = refl }
+call-spelled k o call.Halt = record { shows = refl; says = refl; gives = refl }
+call-spelled k o call.SystemDown = record { shows = refl; says = refl; gives = refl }
+call-spelled k o call.Hypercall = record { shows = refl; says = refl; gives = refl }
+call-spelled k o (call.CopyIn at n) = record { shows = refl; says = refl; gives = refl }
+call-spelled k o (call.ReadConsole at n) = record { shows = refl; says = refl; gives = refl }
+call-spelled k o (call.PutByte n) = record { shows = refl; says = refl; gives = refl }
+call-spelled k o (call.Forward event.Quiet) = record { shows = refl; says = refl; gives = refl }
+call-spelled k o (call.Forward event.SetTimer) = record { shows = refl; says = refl; gives = refl }
+call-spelled k o (call.Forward event.IllegalInsn) = record { shows = refl; says = refl; gives = refl }
+call-spelled k o (call.Forward event.FenceI) = record { shows = refl; says = refl; gives = refl }
+call-spelled k o (call.Forward event.SfenceVma) = record { shows = refl; says = refl; gives = refl }
+call-spelled k o (call.Forward event.SfenceVmaAsid) = record { shows = refl; says = refl; gives = refl }
+call-spelled k o (call.Forward event.HfenceGvmaVmid) = record { shows = refl; says = refl; gives = refl }
+call-spelled k o (call.Forward event.HfenceGvma) = record { shows = refl; says = refl; gives = refl }
+call-spelled k o (call.Forward event.HfenceVvmaAsid) = record { shows = refl; says = refl; gives = refl }
+call-spelled k o (call.Forward event.HfenceVvma) = record { shows = refl; says = refl; gives = refl }
+
+-- an SBI call
+pub call-made : (r o : List ℕ) → length r ≡ 58 → (d : Call) → On r o (callEffect (viewOf r .csrs) (getD r 17 0) (getD r 16 0) (argsWords r) d) (callLeft r o d)
+call-made r o e d =
+    over (λ r. On r o (callEffect (viewOf r .csrs) (getD r 17 0) (getD r 16 0) (argsWords r) d) (callLeft r o d)) (λ k. call-spelled k o d) r e
+
+csr-spelled : (k o : List ℕ) (d : Csr) → let r : List ℕ = spelled 58 0 k in On r o (csrEffect (viewOf r .csrs) d) (csrLeft r o d)
+unfolding viewOf recordOf unpackOf csrsOf waitingOf waitingBy applied csrEffect askFetchOf finishedOf askingOf failedOf noArgs stored counted bumped eventNumber listed moved timed replyWord outOf exitCount askCount besideOf exitNumber askNumber errorNumber exitValues askValues csrLeft stepWords movedWords bumpWords fetchOut
+csr-spelled k o csr.Illegal = record { shows = refl; says = refl; gives = refl }
+csr-spelled k o csr.Fetch = record { shows = refl; says = refl; gives = refl }
+csr-spelled k o (csr.Write rd timer) =
+    record { shows = put-shows (stepWords (set (spelled 58 0 k) 40 timer) 4) rd (getD k 40 0); says = refl; gives = refl }
+
+-- a virtual instruction
+pub csr-made : (r o : List ℕ) → length r ≡ 58 → (d : Csr) → On r o (csrEffect (viewOf r .csrs) d) (csrLeft r o d)
+csr-made r o e d = over (λ r. On r o (csrEffect (viewOf r .csrs) d) (csrLeft r o d)) (λ k. csr-spelled k o d) r e
+
+fault-spelled : (k o : List ℕ) (at : GuestPhysAddr) (a : Access) (d : Fault) → let r : List ℕ = spelled 58 0 k in On r o (faultEffect (viewOf r .csrs) at a d) (faultLeft r o at a d)
+unfolding viewOf recordOf unpackOf csrsOf waitingOf waitingBy applied faultEffect askFetchOf finishedOf askingOf failedOf noArgs stored counted bumped eventNumber listed moved replyWord outOf exitCount askCount besideOf exitNumber askNumber errorNumber exitValues askValues faultLeft stepWords movedWords fetchOut
+fault-spelled k o at a fault.Fetch =
+    record { shows = same refl refl refl (λ i. waiting.FetchFault at (access-back a i)); says = refl; gives = refl }
+fault-spelled k o at a fault.Walk = record { shows = refl; says = refl; gives = refl }
+fault-spelled k o at a fault.Unfit = record { shows = refl; says = refl; gives = refl }
+fault-spelled k o at a fault.Nested = record { shows = refl; says = refl; gives = refl }
+fault-spelled k o at a (fault.Load w s rd n) =
+    record { shows = same refl refl refl (λ i. waiting.Load rd (width-back w i) (flag-back s i)); says = refl; gives = refl }
+fault-spelled k o at a (fault.Store w d n) = record { shows = refl; says = refl; gives = refl }
+
+-- a guest page fault
+pub fault-made : (r o : List ℕ) → length r ≡ 58 → (at : GuestPhysAddr) (a : Access) (d : Fault) → On r o (faultEffect (viewOf r .csrs) at a d) (faultLeft r o at a d)
+fault-made r o e at a d = over (λ r. On r o (faultEffect (viewOf r .csrs) at a d) (faultLeft r o at a d)) (λ k. fault-spelled k o at a d) r e
+
+missed-spelled : (k o : List ℕ) (d : Missed) → let r : List ℕ = spelled 58 0 k in On r o (missedEffect (viewOf r .csrs) d) (missedLeft r o d)
+unfolding viewOf recordOf unpackOf csrsOf waitingOf waitingBy applied missedEffect injectedOf finishedOf failedOf noArgs stored counted bumped eventNumber listed replyWord outOf exitCount besideOf exitNumber errorNumber exitValues accessNumber missedLeft injectWords
+missed-spelled k o (missed.Inject cause addr) = record { shows = refl; says = refl; gives = refl }
+missed-spelled k o (missed.Nested addr) = record { shows = refl; says = refl; gives = refl }
+missed-spelled k o missed.Unhandled = record { shows = refl; says = refl; gives = refl }
+
+-- a failed fetch
+pub missed-made : (r o : List ℕ) → length r ≡ 58 → (d : Missed) → On r o (missedEffect (viewOf r .csrs) d) (missedLeft r o d)
+missed-made r o e d = over (λ r. On r o (missedEffect (viewOf r .csrs) d) (missedLeft r o d)) (λ k. missed-spelled k o d) r e
+
+answered-spelled : (k o : List ℕ) (d : Answered) → let r : List ℕ = spelled 58 0 k in On r o (answeredEffect (viewOf r .csrs) (viewOf r .waiting) d) (answeredLeft r o d)
+unfolding viewOf recordOf unpackOf csrsOf waitingOf waitingBy applied answeredEffect finishedOf askingOf refusedOf noArgs stored counted bumped eventNumber listed moved replyWord outOf exitCount askCount besideOf exitNumber askNumber errorNumber exitValues askValues answeredLeft pairWords giveWords stepWords movedWords
+answered-spelled k o answered.Wrong = record { shows = refl; says = refl; gives = refl }
+answered-spelled k o answered.Moves = record { shows = refl; says = refl; gives = refl }
+answered-spelled k o (answered.Gives v) = record { shows = refl; says = refl; gives = refl }
+answered-spelled k o (answered.Returns e v) = record { shows = refl; says = refl; gives = refl }
+answered-spelled k o (answered.SendIpi q) = record { shows = refl; says = refl; gives = refl }
+answered-spelled k o (answered.Print n) = record { shows = refl; says = refl; gives = refl }
+answered-spelled k o (answered.CopyOut at n) = record { shows = refl; says = refl; gives = refl }
+
+-- an answer to asks 2 to 9
+pub answered-made : (r o : List ℕ) → length r ≡ 58 → (d : Answered) → On r o (answeredEffect (viewOf r .csrs) (viewOf r .waiting) d) (answeredLeft r o d)
+answered-made r o e d = over (λ r. On r o (answeredEffect (viewOf r .csrs) (viewOf r .waiting) d) (answeredLeft r o d)) (λ k. answered-spelled k o d) r e
+
+-- a load's completion
+
+complete-spelled : (k : List ℕ) (w : Waiting) (n : ℕ) → let r : List ℕ = spelled 58 0 k in viewOf r .waiting ≡ w → Done (applied (viewOf r) (completedOf (viewOf r .csrs) w n)) (completeWords r w n) (completeWord w)
+unfolding viewOf recordOf unpackOf csrsOf waitingOf waitingBy applied completedOf refusedOf doneOf noArgs stored counted bumped eventNumber listed replyWord errorNumber completeWords completeWord
+complete-spelled k waiting.Idle n e = record { shows = same refl refl refl e; says = refl }
+complete-spelled k (waiting.Load rd w s) n e = record { shows = put-shows (set (spelled 58 0 k) 54 0) rd _; says = refl }
+complete-spelled k waiting.FetchCsr n e = record { shows = same refl refl refl e; says = refl }
+complete-spelled k (waiting.FetchFault at a) n e = record { shows = same refl refl refl e; says = refl }
+complete-spelled k waiting.CopyMask n e = record { shows = same refl refl refl e; says = refl }
+complete-spelled k (waiting.CopyIn m) n e = record { shows = same refl refl refl e; says = refl }
+complete-spelled k (waiting.Print m) n e = record { shows = same refl refl refl e; says = refl }
+complete-spelled k (waiting.ReadConsole m at) n e = record { shows = same refl refl refl e; says = refl }
+complete-spelled k (waiting.CopyOut m) n e = record { shows = same refl refl refl e; says = refl }
+complete-spelled k waiting.PutChar n e = record { shows = same refl refl refl e; says = refl }
+complete-spelled k waiting.PutByte n e = record { shows = same refl refl refl e; says = refl }
+complete-spelled k waiting.GetChar n e = record { shows = same refl refl refl e; says = refl }
+complete-spelled k waiting.Forward n e = record { shows = same refl refl refl e; says = refl }
+
+pub complete-done : (r : List ℕ) → length r ≡ 58 → (w : Waiting) (n : ℕ) → viewOf r .waiting ≡ w → Done (applied (viewOf r) (completedOf (viewOf r .csrs) w n)) (completeWords r w n) (completeWord w)
+complete-done r e w n =
+    over (λ r. viewOf r .waiting ≡ w → Done (applied (viewOf r) (completedOf (viewOf r .csrs) w n)) (completeWords r w n) (completeWord w)) (λ k. complete-spelled k w n) r e
+
+-- what waits and the CSRs, word by word
+
+waiting-spelled : (k : List ℕ) → let r : List ℕ = spelled 58 0 k in viewOf r .waiting ≡ waitingBy (getD r 54 0) (getD r 55 0) (getD r 56 0) (getD r 57 0)
+unfolding viewOf recordOf unpackOf waitingOf
+waiting-spelled k = refl
+
+pub waiting-words : (r : List ℕ) → length r ≡ 58 → waitingBy (getD r 54 0) (getD r 55 0) (getD r 56 0) (getD r 57 0) ≡ viewOf r .waiting
+waiting-words r e = over (λ r. waitingBy (getD r 54 0) (getD r 55 0) (getD r 56 0) (getD r 57 0) ≡ viewOf r .waiting) (λ k. sym (waiting-spelled k)) r e
+
+abbrev pub csrsAt : List ℕ → Csrs
+csrsAt r =
+    record {
+      guest = record { sepc = getD r 32 0; sstatus = getD r 33 0; hstatus = getD r 34 0 };
+      vs =
+          record {
+            vsstatus = getD r 35 0;
+            vstvec = getD r 36 0;
+            vsepc = getD r 37 0;
+            vscause = getD r 38 0;
+            vstval = getD r 39 0;
+            vstimecmp = getD r 40 0;
+          };
+      hs = record { hie = getD r 41 0; hvip = getD r 42 0; hgeie = getD r 43 0; hgatp = getD r 44 0 };
+    }
+
+csrs-spelled : (k : List ℕ) → let r : List ℕ = spelled 58 0 k in csrsAt r ≡ viewOf r .csrs
+unfolding viewOf recordOf unpackOf csrsOf
+csrs-spelled k = refl
+
+pub csrs-words : (r : List ℕ) → length r ≡ 58 → csrsAt r ≡ viewOf r .csrs
+csrs-words r e = over (λ r. csrsAt r ≡ viewOf r .csrs) csrs-spelled r e
+
+-- a register, read of the words or of the record
+
+read-by : (r : List ℕ) (i : ℕ) (b c : Bool) → ltb i 32 ≡ c → pick b 0 (pick c (getD r i 0) 0) ≡ pick b 0 (pick c (getD (viewOf r .x) i 0) 0)
+unfolding viewOf recordOf unpackOf
+read-by r i true c e = refl
+read-by r i false true e = sym (getD-take 32 r i 0 (ltb-true i 32 e))
+read-by r i false false e = refl
+
+pub read-shows : (r : List ℕ) (i : ℕ) → readWord r i ≡ valueOf (viewOf r .x) i
+unfolding readWord valueOf
+read-shows r i = read-by r i (eqb i 0) (ltb i 32) refl

@@ -1,0 +1,4 @@
+pub mod View
+pub mod Deeds
+pub mod Spelled
+pub mod Laws

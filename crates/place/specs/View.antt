@@ -1,0 +1,88 @@
+-- The lent record as 58 words, and what words are left when a call is done on it in place. The record that words stand
+-- for is the one that crate abi reads off its four arrays, which lie in this order.
+use Prim.Native.Nat.{ℕ, _+_}
+use mathlib.Core.List.{List, []}
+use mathlib.Core.Path.{_≡_}
+use lib.ListN.{drop, set, take}
+use lib.Dec.{eqb}
+use lib.Seq.{sets}
+use Rattle.types.specs.Pick.{pick}
+use Rattle.types.specs.Numbers.{askNumber, errorNumber, exitNumber}
+use Rattle.types.specs.Values.{askValues, exitValues}
+use Rattle.types.specs.declared.Ask.{Ask}
+use Rattle.types.specs.declared.Ask.the-variants as ask
+use Rattle.types.specs.declared.Exit.{Exit}
+use Rattle.types.specs.declared.Exit.the-variants as exit
+use Rattle.types.specs.declared.Reply.{Reply}
+use Rattle.types.specs.declared.Reply.the-variants as reply
+use Rattle.regs.specs.declared.Outcome.{Outcome}
+use Rattle.regs.specs.declared.Vcpu.{Vcpu}
+use Rattle.abi.specs.declared.Record.{Record}
+use Rattle.abi.specs.Words.{unpackOf}
+
+-- x0 to x31, 13 CSRs, nine counts, the waiting part's kind and three numbers
+unfoldable pub recordOf : List ℕ → Record
+recordOf r =
+    record { x = take 32 r; csrs = take 13 (drop 32 r); counts = take 9 (drop 45 r); waiting = take 4 (drop 54 r) }
+
+-- the one view: the record that 58 words stand for
+unfoldable pub viewOf : List ℕ → Vcpu
+viewOf r = unpackOf (recordOf r)
+
+-- exit n: n; ask n: 0x20 + n; done 0x40; value 0x41; error or refusal n: 0x100 + n
+unfoldable pub replyWord : Reply → ℕ
+replyWord (reply.Exit e) = exitNumber e
+replyWord (reply.Ask a) = 32 + askNumber a
+replyWord reply.Done = 64
+replyWord (reply.Value n) = 65
+replyWord (reply.Error e) = 256 + errorNumber e
+
+-- how many of its values an exit carries
+unfoldable pub exitCount : Exit → ℕ
+exitCount exit.Nothing = 0
+exitCount (exit.ExternalInterrupt v) = 1
+exitCount (exit.SendIpi r) = 3
+exitCount (exit.CpuUp t e a) = 3
+exitCount (exit.CpuDown s) = 1
+exitCount exit.Halt = 0
+exitCount (exit.Hypercall n) = 1
+exitCount exit.SystemDown = 0
+exitCount (exit.NestedPageFault a k) = 2
+exitCount (exit.MmioRead a w) = 2
+exitCount (exit.MmioWrite a w d) = 3
+
+-- how many of its values an ask carries
+unfoldable pub askCount : Ask → ℕ
+askCount (ask.Fetch a s) = 2
+askCount (ask.CopyMask a) = 1
+askCount (ask.CopyIn a n) = 2
+askCount (ask.Print n) = 1
+askCount (ask.ReadConsole n) = 1
+askCount (ask.CopyOut a n) = 2
+askCount (ask.Emit n) = 1
+askCount ask.GetChar = 0
+askCount (ask.Forward e f a) = 8
+
+-- a hypercall's arguments stand beside it
+unfoldable pub besideOf : Exit → List ℕ → List ℕ
+besideOf e args = pick (eqb (exitNumber e) 6) args []
+
+-- the values that the reply carries, from word 0 on; a hypercall's arguments from word 2 on; every other word stays
+unfoldable pub outOf : List ℕ → Reply → List ℕ → List ℕ
+outOf out (reply.Exit e) args = sets (sets out 0 (take (exitCount e) (exitValues e))) 2 (besideOf e args)
+outOf out (reply.Ask a) args = sets out 0 (take (askCount a) (askValues a))
+outOf out reply.Done args = out
+outOf out (reply.Value n) args = set out 0 n
+outOf out (reply.Error e) args = out
+
+-- the promise of a call done in place: the words r that it leaves show the outcome's record, the word that it returns is
+-- the reply's, and of out, which held o, exactly the reply's words are set
+pub record Made (o : List ℕ) (outcome : Outcome) (r out : List ℕ) (word : ℕ) : Type 0 where
+  pub shows : viewOf r ≡ outcome .vcpu
+  pub says : word ≡ replyWord (outcome .reply)
+  pub gives : out ≡ outOf o (outcome .reply) (outcome .args)
+
+-- the same of a call whose reply carries nothing
+pub record Done (outcome : Outcome) (r : List ℕ) (word : ℕ) : Type 0 where
+  pub shows : viewOf r ≡ outcome .vcpu
+  pub says : word ≡ replyWord (outcome .reply)

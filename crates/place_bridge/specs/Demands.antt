@@ -1,0 +1,150 @@
+-- Demands 1 and 3, and the counts, of the entry for cost, through the view.
+use Prim.Native.Nat.{ℕ, suc, _+_, _<_}
+use native.Mathlib.Omega.{arith}
+use mathlib.Core.Bool.{Bool, true, false}
+use mathlib.Core.List.{List, [], _∷_}
+use mathlib.Core.Path.{_≡_, refl, ap, ap₂, sym, subst, _∙_}
+use lib.ListN.{getD, take}
+use lib.Seq.{sets}
+use Rattle.types.specs.Pick.{wrapped}
+use Rattle.types.specs.Numbers.{askNumber, errorNumber, exitNumber}
+use Rattle.types.specs.Values.{askValues, exitValues}
+use Rattle.types.specs.declared.Ask.{Ask}
+use Rattle.types.specs.declared.Ask.the-variants as ask
+use Rattle.types.specs.declared.Error.{Error}
+use Rattle.types.specs.declared.Error.the-variants as error
+use Rattle.types.specs.declared.Exit.{Exit}
+use Rattle.types.specs.declared.Exit.the-variants as exit
+use Rattle.types.specs.declared.Reply.{Reply}
+use Rattle.types.specs.declared.Reply.the-variants as reply
+use Rattle.regs.specs.declared.Outcome.{Outcome}
+use Rattle.regs.specs.declared.Vcpu.{Vcpu}
+use Rattle.thin.specs.declared.Given.{Given}
+use Rattle.entry.specs.declared.HostCall.{HostCall}
+use Rattle.entry.specs.Entry.{calledOf}
+use Rattle.thin.specs.Thin.{restOf}
+use Rattle.reading.specs.Alike.{Alike}
+use Rattle.reading.specs.Runs.{Untouched, written}
+use Rattle.third.specs.Kinds.{traps}
+use Rattle.third.specs.Counting.{Counted}
+use Rattle.total.specs.Demand1.{Pending, ask-waits, refusal-keeps-the-record, refuses}
+use Rattle.bridge.specs.Entries as entries
+use Rattle.bridge.specs.Entries.{Entries, callsFor}
+use Rattle.bridge.specs.Demands.{EntryThird, called-honest, entry-counts, entry-third}
+use Rattle.place.specs.View.{Done, Made, askCount, besideOf, exitCount, outOf, replyWord, viewOf}
+use Rattle.place_bridge.specs.Places.{Places, Shown, lent, next, none, refusalWord, tellsOf}
+
+-- a call that takes no words for its reply is one that takes an empty list of them
+
+sets-none : (i : ℕ) (vs : List ℕ) → sets [] i vs ≡ []
+sets-none i [] = refl
+sets-none i (v ∷ vs) = sets-none (suc i) vs
+
+none-out : (p : Reply) (args : List ℕ) → outOf [] p args ≡ []
+unfolding outOf
+none-out (reply.Exit e) args = ap (λ (l : List ℕ). sets l 2 (besideOf e args)) (sets-none 0 (take (exitCount e) (exitValues e))) ∙ sets-none 2 (besideOf e args)
+none-out (reply.Ask a) args = sets-none 0 (take (askCount a) (askValues a))
+none-out reply.Done args = refl
+none-out (reply.Value n) args = refl
+none-out (reply.Error e) args = refl
+
+pub done-made : (o : Outcome) (r : List ℕ) (w : ℕ) → Done o r w → Made [] o r [] w
+done-made o r w d = record { shows = d .shows; says = d .says; gives = sym (none-out (o .reply) (o .args)) }
+
+-- the thin entry, called the same, leaves the record that the words show, and gives what they tell
+
+gives : {r u : List ℕ} {cs : List HostCall} {ws : List Shown} → Places r cs ws u → List Given
+gives none = []
+gives (next {r} {c = c} m p) = restOf (calledOf (viewOf r) c) ∷ gives p
+
+entered : {r u : List ℕ} {cs : List HostCall} {ws : List Shown} (p : Places r cs ws u) → Entries (viewOf r) cs (gives p) (viewOf u)
+unfolding gives
+entered none = entries.none
+entered (next m p) = entries.next (m .shows, refl) (entered p)
+
+told : {r u : List ℕ} {cs : List HostCall} {ws : List Shown} (p : Places r cs ws u) → ws ≡ tellsOf (lent ws) (gives p)
+unfolding gives tellsOf lent
+told none = refl
+told (next {o = o} m p) = ap₂ _∷_ (λ i. record { before = o; after = m .gives i; word = m .says i }) (told p)
+
+-- demand 1: a refusal leaves the record as it was, and the reply's words too
+
+refusal-word : (p : Reply) → refusalWord (replyWord p) ≡ refuses p
+unfolding refusalWord replyWord refuses exitNumber askNumber errorNumber
+refusal-word (reply.Exit exit.Nothing) = refl
+refusal-word (reply.Exit (exit.ExternalInterrupt v)) = refl
+refusal-word (reply.Exit (exit.SendIpi r)) = refl
+refusal-word (reply.Exit (exit.CpuUp t e a)) = refl
+refusal-word (reply.Exit (exit.CpuDown s)) = refl
+refusal-word (reply.Exit exit.Halt) = refl
+refusal-word (reply.Exit (exit.Hypercall n)) = refl
+refusal-word (reply.Exit exit.SystemDown) = refl
+refusal-word (reply.Exit (exit.NestedPageFault a k)) = refl
+refusal-word (reply.Exit (exit.MmioRead a w)) = refl
+refusal-word (reply.Exit (exit.MmioWrite a w d)) = refl
+refusal-word (reply.Ask (ask.Fetch a s)) = refl
+refusal-word (reply.Ask (ask.CopyMask a)) = refl
+refusal-word (reply.Ask (ask.CopyIn a n)) = refl
+refusal-word (reply.Ask (ask.Print n)) = refl
+refusal-word (reply.Ask (ask.ReadConsole n)) = refl
+refusal-word (reply.Ask (ask.CopyOut a n)) = refl
+refusal-word (reply.Ask (ask.Emit n)) = refl
+refusal-word (reply.Ask ask.GetChar) = refl
+refusal-word (reply.Ask (ask.Forward e f a)) = refl
+refusal-word reply.Done = refl
+refusal-word (reply.Value n) = refl
+refusal-word (reply.Error error.InvalidInput) = refl
+refusal-word (reply.Error error.BadState) = refl
+refusal-word (reply.Error error.Unsupported) = refl
+refusal-word (reply.Error error.InvalidTrap) = refl
+refusal-word (reply.Error error.DecodeFailed) = refl
+refusal-word (reply.Error error.GuestMemoryFault) = refl
+refusal-word (reply.Error error.WrongAnswer) = refl
+
+never : {A : Type 0} → false ≡ true → A
+never h = let z : _≡_ {A = ℕ} 0 1 = cc in absurd (omega arith)
+
+refused-out : (o : List ℕ) (p : Reply) (args : List ℕ) → refuses p ≡ true → outOf o p args ≡ o
+unfolding outOf refuses
+refused-out o (reply.Exit e) args h = never h
+refused-out o (reply.Ask a) args h = never h
+refused-out o reply.Done args h = refl
+refused-out o (reply.Value n) args h = never h
+refused-out o (reply.Error e) args h = refl
+
+pub place-refusal-keeps-the-record : (r o s p : List ℕ) (c : HostCall) (w : ℕ) → Made o (calledOf (viewOf r) c) s p w → refusalWord w ≡ true → (viewOf s ≡ viewOf r) × (p ≡ o)
+place-refusal-keeps-the-record r o s p c w m h =
+    let q : refuses (calledOf (viewOf r) c .reply) ≡ true = sym (refusal-word (calledOf (viewOf r) c .reply)) ∙ ap refusalWord (sym (m .says)) ∙ h in (
+      m .shows ∙ refusal-keeps-the-record (viewOf r) (calledOf (viewOf r) c) (called-honest (viewOf r) c) q,
+      m .gives ∙ refused-out o (calledOf (viewOf r) c .reply) (calledOf (viewOf r) c .args) q,
+    )
+
+-- demand 1: an ask leaves exactly that ask waiting
+pub place-ask-waits : (r o s p : List ℕ) (c : HostCall) (w : ℕ) → Made o (calledOf (viewOf r) c) s p w → (a : Ask) → calledOf (viewOf r) c .reply ≡ reply.Ask a → Pending (viewOf r) a (viewOf s)
+place-ask-waits r o s p c w m a e =
+    subst (λ (v : Vcpu). Pending (viewOf r) a v) (sym (m .shows)) (ask-waits (viewOf r) (calledOf (viewOf r) c) (called-honest (viewOf r) c) a e)
+
+-- demand 3: two records of words that are alike except in register k, and the same calls and reply words on both, none of
+-- which names k or reads it out
+pub record PlaceThird (k : ℕ) (r q u t : List ℕ) (cs : List HostCall) (ws xs : List Shown) : Type 0 where
+  pub shown : ws ≡ xs
+  pub alike : Alike k (viewOf u) (viewOf t)
+  pub keeps : written k (viewOf r) (callsFor cs) ≡ false
+      → (getD (viewOf u .x) k 0 ≡ getD (viewOf r .x) k 0) × (getD (viewOf t .x) k 0 ≡ getD (viewOf q .x) k 0)
+  pub joins : written k (viewOf r) (callsFor cs) ≡ true → viewOf u ≡ viewOf t
+
+pub place-third : (k : ℕ) {r q u t : List ℕ} {cs : List HostCall} {ws xs : List Shown} → Alike k (viewOf r) (viewOf q) → Untouched k (viewOf r) (callsFor cs)
+    → lent ws ≡ lent xs → Places r cs ws u → Places q cs xs t → PlaceThird k r q u t cs ws xs
+place-third k {r} {q} {u} {t} {cs} {ws} {xs} a n l e f =
+    let both : EntryThird k (viewOf r) (viewOf q) (viewOf u) (viewOf t) cs (gives e) (gives f) = entry-third k a n (entered e) (entered f) in
+    record {
+      shown = told e ∙ ap₂ tellsOf l (both .given) ∙ sym (told f);
+      alike = both .alike;
+      keeps = both .keeps;
+      joins = both .joins;
+    }
+
+-- the counts
+pub place-counts : {r u : List ℕ} {cs : List HostCall} {ws : List Shown} → Places r cs ws u → (i : ℕ) → Counted (viewOf r .counts) → i < 9
+    → getD (viewOf u .counts) i 0 ≡ wrapped (getD (viewOf r .counts) i 0 + traps (suc i) (viewOf r) (callsFor cs))
+place-counts p i k h = entry-counts (entered p) i k h

@@ -1,0 +1,180 @@
+-- Through the view, the host's calls on words are those on the record.
+use Prim.Native.Nat.{ℕ, _%_, _^_}
+use mathlib.Core.Bool.{Bool, true, false}
+use mathlib.Core.List.{List}
+use mathlib.Core.Path.{_≡_, refl, ap, sym, subst, _∙_}
+use lib.ListN.{getD, length, replicate, set}
+use lib.Seq.{sets}
+use lib.Dec.{eqb, ltb}
+use borrow.Author.Tests.{eqb-true}
+use Rattle.types.specs.Numbers.{errorNumber}
+use Rattle.types.specs.Pick.{pick}
+use Rattle.types.specs.declared.Error.{Error}
+use Rattle.types.specs.declared.Error.the-variants as error
+use Rattle.consts.specs.Csr.{vseip, vssip, vstip}
+use Rattle.consts.specs.Traps.{supervisorExternal, supervisorSoft, supervisorTimer}
+use Rattle.regs.specs.declared.Csrs.{Csrs}
+use Rattle.regs.specs.declared.Effect.{Effect}
+use Rattle.regs.specs.declared.Event.the-variants as event
+use Rattle.regs.specs.declared.Outcome.{Outcome}
+use Rattle.regs.specs.declared.Vcpu.{Vcpu}
+use Rattle.regs.specs.declared.Waiting.{Waiting}
+use Rattle.regs.specs.declared.Waiting.the-variants as waiting
+use Rattle.regs.specs.declared.Writes.{Writes}
+use Rattle.regs.specs.declared.Writes.the-variants as writes
+use Rattle.regs.specs.Record.{bumped, counted, eventNumber, pended, stored, waitingAsk}
+use Rattle.regs.specs.Effects.{applied, doneOf, guardedOf, refusedOf}
+use Rattle.host_calls.specs.HostCalls.{pagingBy, pagingEffect, pendingBy, pendingEffect, tableCsrs, writeEffect}
+use Rattle.registers.specs.Bits.{withBits}
+use Rattle.calls.specs.Calls.{getGprOf, newOf, printCount}
+use Rattle.regs.specs.Effects.{unlessAsking}
+use Rattle.abi.specs.Words.{csrsOf, csrsWords, unpackOf, waitingBy, waitingOf}
+use Rattle.entry.specs.Entry.{readOf}
+use Rattle.place.specs.View.{Done, Made, outOf, recordOf, replyWord, viewOf}
+use Rattle.place.specs.Deeds.{readWord}
+use Rattle.place.specs.Laws.{over, put-shows, read-shows, same, waiting-words}
+use Rattle.place.specs.Spelled.{spelled}
+use Rattle.place_host.specs.Host.{Keeps, hostWords, printedBy, writeWords}
+
+-- the CSRs written show as written
+csrs-spelled : (k : List ℕ) (c : Csrs) → let r : List ℕ = spelled 58 0 k in
+    viewOf (sets r 32 (csrsWords c)) ≡ record { x = viewOf r .x; csrs = c; counts = viewOf r .counts; waiting = viewOf r .waiting }
+unfolding viewOf recordOf unpackOf csrsOf csrsWords waitingOf
+csrs-spelled k c = refl
+
+csrs-show : (r : List ℕ) → length r ≡ 58 → (c : Csrs)
+    → viewOf (sets r 32 (csrsWords c)) ≡ record { x = viewOf r .x; csrs = c; counts = viewOf r .counts; waiting = viewOf r .waiting }
+csrs-show r e c =
+    over (λ r. viewOf (sets r 32 (csrsWords c)) ≡ record { x = viewOf r .x; csrs = c; counts = viewOf r .counts; waiting = viewOf r .waiting })
+    (λ k. csrs-spelled k c) r e
+
+pair-spelled : (k : List ℕ) (c : Csrs) (a b : ℕ) → let r : List ℕ = spelled 58 0 k in
+    viewOf (set (set (sets r 32 (csrsWords c)) 10 a) 11 b) ≡ record { x = set (set (viewOf r .x) 10 a) 11 b; csrs = c; counts = viewOf r .counts; waiting = viewOf r .waiting }
+unfolding viewOf recordOf unpackOf csrsOf csrsWords waitingOf
+pair-spelled k c a b = refl
+
+pair-show : (r : List ℕ) → length r ≡ 58 → (c : Csrs) (a b : ℕ)
+    → viewOf (set (set (sets r 32 (csrsWords c)) 10 a) 11 b) ≡ record { x = set (set (viewOf r .x) 10 a) 11 b; csrs = c; counts = viewOf r .counts; waiting = viewOf r .waiting }
+pair-show r e c a b =
+    over (λ r. viewOf (set (set (sets r 32 (csrsWords c)) 10 a) 11 b) ≡ record { x = set (set (viewOf r .x) 10 a) 11 b; csrs = c; counts = viewOf r .counts; waiting = viewOf r .waiting })
+    (λ k. pair-spelled k c a b) r e
+
+write-show : (r : List ℕ) → length r ≡ 58 → (c : Csrs) (w : Writes)
+    → viewOf (writeWords (sets r 32 (csrsWords c)) w) ≡ record { x = stored (viewOf r .x) w; csrs = c; counts = viewOf r .counts; waiting = viewOf r .waiting }
+unfolding writeWords stored
+write-show r e c writes.Keep = csrs-show r e c
+write-show r e c (writes.One i n) =
+    put-shows (sets r 32 (csrsWords c)) i n
+    ∙ ap (λ (v : Vcpu). record { x = stored (v .x) (writes.One i n); csrs = v .csrs; counts = v .counts; waiting = v .waiting }) (csrs-show r e c)
+write-show r e c (writes.Pair a b) = pair-show r e c a b
+
+quiet-counts : (k : List ℕ) → counted k event.Quiet ≡ k
+unfolding counted bumped eventNumber
+quiet-counts k = refl
+
+-- an effect that counts nothing and leaves what waits, written to the words, shows as applied
+pub host-done : (r : List ℕ) → length r ≡ 58 → (e : Effect) → Keeps e (viewOf r .waiting) → Done (applied (viewOf r) e) (hostWords r e) (replyWord (e .reply))
+unfolding hostWords applied
+host-done r n e k =
+    record {
+      shows =
+          write-show r n (e .csrs) (e .writes)
+          ∙ same refl refl (sym (ap (λ v. counted (viewOf r .counts) v) (k .quiet) ∙ quiet-counts (viewOf r .counts))) (sym (k .waits));
+      says = refl;
+    }
+
+-- the effects of the host's calls are such
+
+pub done-keeps : (c : Csrs) (n : Writes) (w : Waiting) → Keeps (doneOf c n w) w
+unfolding doneOf
+done-keeps c n w = record { waits = refl; quiet = refl }
+
+refused-keeps : (c : Csrs) (w : Waiting) (x : Error) → Keeps (refusedOf c w x) w
+unfolding refusedOf
+refused-keeps c w x = record { waits = refl; quiet = refl }
+
+pick-keeps : (b : Bool) {e f : Effect} {w : Waiting} → Keeps e w → Keeps f w → Keeps (pick b e f) w
+pick-keeps true k l = k
+pick-keeps false k l = l
+
+guarded-keeps : (ask : ℕ) (c : Csrs) (w : Waiting) (e : Effect) → Keeps e w → Keeps (guardedOf ask c w e) w
+unfolding guardedOf
+guarded-keeps ask c w e k = pick-keeps (eqb ask 0) k (refused-keeps c w error.BadState)
+
+-- a call that is refused while an ask waits
+pub guarded-by : (r s : List ℕ) (n : ℕ) → length r ≡ 58 → (e : Effect) → Keeps e (viewOf r .waiting)
+    → let g : Effect = guardedOf (waitingAsk (viewOf r .waiting)) (viewOf r .csrs) (viewOf r .waiting) e in
+    (s ≡ hostWords r g) × (n ≡ replyWord (g .reply)) → Done (unlessAsking (viewOf r) e) s n
+unfolding unlessAsking
+guarded-by r s n l e k h =
+    let g : Effect = guardedOf (waitingAsk (viewOf r .waiting)) (viewOf r .csrs) (viewOf r .waiting) e in
+    let d : Done (applied (viewOf r) g) (hostWords r g) (replyWord (g .reply)) =
+    host-done r l g (guarded-keeps (waitingAsk (viewOf r .waiting)) (viewOf r .csrs) (viewOf r .waiting) e k) in
+    record { shows = ap viewOf (h .0) ∙ d .shows; says = h .1 ∙ d .says }
+
+pub write-keeps : (c : Csrs) (w : Waiting) (i n : ℕ) → Keeps (writeEffect c w i n) w
+unfolding writeEffect
+write-keeps c w i n = pick-keeps (ltb i 32) (done-keeps c (writes.One i n) w) (refused-keeps c w error.InvalidInput)
+
+by-keeps : (c : Csrs) (w : Waiting) (wanted mode root : ℕ) → Keeps (pagingBy c w wanted mode root) w
+unfolding pagingBy
+by-keeps c w wanted mode root =
+    pick-keeps (eqb mode wanted) (pick-keeps (eqb (root % 2 ^ 14) 0) (done-keeps (tableCsrs c mode root) writes.Keep w) (refused-keeps c w error.InvalidInput)) (refused-keeps c w error.InvalidInput)
+
+pub paging-keeps : (c : Csrs) (w : Waiting) (levels mode root : ℕ) → Keeps (pagingEffect c w levels mode root) w
+unfolding pagingEffect
+paging-keeps c w levels mode root =
+    pick-keeps (eqb levels 3) (by-keeps c w 8 mode root) (pick-keeps (eqb levels 4) (by-keeps c w 9 mode root) (refused-keeps c w error.InvalidInput))
+
+pub pending-keeps : (c : Csrs) (w : Waiting) (vector : ℕ) (on : Bool) → Keeps (pendingEffect c w vector on) w
+unfolding pendingEffect pendingBy
+pending-keeps c w vector on =
+    pick-keeps (eqb vector supervisorSoft) (done-keeps (pended c (withBits (c .hs .hvip) vssip on)) writes.Keep w)
+    (pick-keeps (eqb vector supervisorTimer) (done-keeps (pended c (withBits (c .hs .hvip) vstip on)) writes.Keep w)
+    (pick-keeps (supervisorExternal vector) (done-keeps (pended c (withBits (c .hs .hvip) vseip on)) writes.Keep w) (refused-keeps c w error.InvalidInput)))
+
+-- zeros but for a0 and a1 show as the record that a guest starts with
+pub new-shows : (hart tree : ℕ) → viewOf (set (set (replicate 58 0) 10 hart) 11 tree) ≡ newOf hart tree
+unfolding viewOf recordOf unpackOf csrsOf waitingOf waitingBy newOf
+new-shows hart tree = refl
+
+-- a register read: the value in word 0
+pub get-made : (r o : List ℕ) (i : ℕ) → ltb i 32 ≡ true → Made o (readOf (viewOf r) i) r (set o 0 (readWord r i)) 0x41
+unfolding readOf getGprOf replyWord outOf
+get-made r o i e = rw e (record { shows = refl; says = refl; gives = ap (λ (n : ℕ). set o 0 n) (read-shows r i) })
+
+pub get-refused : (r o : List ℕ) (i : ℕ) → ltb i 32 ≡ false → Made o (readOf (viewOf r) i) r o 0x101
+unfolding readOf getGprOf replyWord outOf errorNumber
+get-refused r o i e = rw e (record { shows = refl; says = refl; gives = refl })
+
+-- the n of ask 4, where it waits
+
+rest-by : (n : ℕ) (b₂ b₃ b₄ b₅ b₇ b₈ b₉ b₁₀ b₁₁ b₁₂ : Bool) (f m x : Waiting) → printCount f ≡ 0 → printCount m ≡ 0 → printCount x ≡ 0
+    → printCount (pick b₂ waiting.FetchCsr (pick b₃ f (pick b₄ waiting.CopyMask (pick b₅ m (pick b₇ x (pick b₈ (waiting.CopyOut n) (pick b₉ waiting.PutChar (pick b₁₀ waiting.PutByte (pick b₁₁ waiting.GetChar (pick b₁₂ waiting.Forward waiting.Idle)))))))))) ≡ 0
+unfolding printCount
+rest-by n true b₃ b₄ b₅ b₇ b₈ b₉ b₁₀ b₁₁ b₁₂ f m x p q s = refl
+rest-by n false true b₄ b₅ b₇ b₈ b₉ b₁₀ b₁₁ b₁₂ f m x p q s = p
+rest-by n false false true b₅ b₇ b₈ b₉ b₁₀ b₁₁ b₁₂ f m x p q s = refl
+rest-by n false false false true b₇ b₈ b₉ b₁₀ b₁₁ b₁₂ f m x p q s = q
+rest-by n false false false false true b₈ b₉ b₁₀ b₁₁ b₁₂ f m x p q s = s
+rest-by n false false false false false true b₉ b₁₀ b₁₁ b₁₂ f m x p q s = refl
+rest-by n false false false false false false true b₁₀ b₁₁ b₁₂ f m x p q s = refl
+rest-by n false false false false false false false true b₁₁ b₁₂ f m x p q s = refl
+rest-by n false false false false false false false false true b₁₂ f m x p q s = refl
+rest-by n false false false false false false false false false true f m x p q s = refl
+rest-by n false false false false false false false false false false f m x p q s = refl
+
+first-by : (b : Bool) (l w : Waiting) → printCount l ≡ 0 → printCount w ≡ 0 → printCount (pick b l w) ≡ 0
+first-by true l w p q = p
+first-by false l w p q = q
+
+print-by : (k a b c : ℕ) (t : Bool) → eqb k 6 ≡ t → pick t a 0 ≡ printCount (waitingBy k a b c)
+unfolding waitingBy printCount
+print-by k a b c true e = rw (eqb-true k 6 e)
+print-by k a b c false e =
+    sym (rw e (first-by (eqb k 1) _ _ refl (rest-by a (eqb k 2) (eqb k 3) (eqb k 4) (eqb k 5) (eqb k 7) (eqb k 8) (eqb k 9) (eqb k 10) (eqb k 11) (eqb k 12) _ _ _ refl refl refl)))
+
+pub print-words : (r : List ℕ) → length r ≡ 58 → printedBy (getD r 54 0) (getD r 55 0) ≡ printCount (viewOf r .waiting)
+unfolding printedBy
+print-words r e =
+    print-by (getD r 54 0) (getD r 55 0) (getD r 56 0) (getD r 57 0) (eqb (getD r 54 0) 6) refl ∙ ap printCount (waiting-words r e)

@@ -1,0 +1,22 @@
+-- `place_trap::page_fault_trap` meets its contract.
+use borrow.Author.Needs.{needs}
+use Rattle.trap.specs.Traps.{pageFaultOf}
+use Rattle.place_trap.proofs.page_fault_trap.Statement.{statement}
+use Rattle.place_trap.proofs.page_fault_trap.Tie as tie
+
+guest-page-fault-addr-requires : tie.Need-guest-page-fault-addr-requires
+guest-page-fault-addr-requires c κs = search needs
+
+from-htinst-requires : tie.Need-from-htinst-requires
+from-htinst-requires c κs = search needs
+
+mmio-requires : tie.Need-mmio-requires
+mmio-requires c κs = search needs
+
+returns : tie.Need-returns
+unfolding pageFaultOf
+returns c = simp (c .before .from-htinst .ensures, c .before .before .before .before .guest-page-fault-addr .ensures) at (c .mmio .ensures)
+
+pub page-fault-trap-spec : {M : Type 1} → statement M
+page-fault-trap-spec =
+    tie.close (tie.spec guest-page-fault-addr-requires from-htinst-requires mmio-requires returns)

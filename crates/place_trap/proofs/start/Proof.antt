@@ -1,0 +1,22 @@
+-- `place_trap::start` meets its contract.
+use borrow.Author.Needs.{needs}
+use Rattle.calls.specs.Calls.{startOf}
+use Rattle.trap.specs.Traps.{startEffect}
+use Rattle.place_trap.proofs.start.Statement.{statement}
+use Rattle.place_trap.proofs.start.Tie as tie
+
+waiting-requires : tie.Need-waiting-requires
+waiting-requires c κs = search needs
+
+is-idle-requires : tie.Need-is-idle-requires
+is-idle-requires c κs = search needs
+
+started-requires : tie.Need-started-requires
+started-requires c κs = search needs
+
+returns : tie.Need-returns
+unfolding startOf startEffect
+returns c = simp (c .before .before .before .is-idle .ensures, c .before .before .before .before .waiting .ensures) at (c .started .ensures)
+
+pub start-spec : {M : Type 1} → statement M
+start-spec = tie.close (tie.spec waiting-requires is-idle-requires started-requires returns)

@@ -1,0 +1,97 @@
+-- `place_trap::trapped` meets its contract.
+use borrow.Author.Needs.{needs}
+use Rattle.place_trap.specs.Classes.{classEffect}
+use Rattle.place_trap.specs.Laws.{external-made, known-made, unknown-made}
+use Rattle.place_trap.proofs.trapped.Statement.{statement}
+use Rattle.place_trap.proofs.trapped.Tie as tie
+
+sized-requires : tie.Need-sized-requires
+sized-requires c κs = search needs
+
+enum-told : tie.Need-enum-told
+enum-told c = search needs
+
+sbi-requires : tie.Need-sbi-requires
+sbi-requires c κs = search needs
+
+enum-told-2 : tie.Need-enum-told-2
+enum-told-2 c = search needs
+
+stimecmp-requires : tie.Need-stimecmp-requires
+stimecmp-requires c κs = search needs
+
+enum-known-class : tie.Need-enum-known-class
+enum-known-class c = search needs
+
+page-fault-trap-requires : tie.Need-page-fault-trap-requires
+page-fault-trap-requires c κs = search needs
+
+enum-told-3 : tie.Need-enum-told-3
+enum-told-3 c = search needs
+
+element-write-out : tie.Need-element-write-out
+element-write-out c = search needs
+
+element-write-r : tie.Need-element-write-r
+element-write-r c = search needs
+
+enum-told-4 : tie.Need-enum-told-4
+enum-told-4 c = search needs
+
+element-write-r-2 : tie.Need-element-write-r-2
+element-write-r-2 c = search needs
+
+enum-told-5 : tie.Need-enum-told-5
+enum-told-5 c = search needs
+
+element-write-r-3 : tie.Need-element-write-r-3
+element-write-r-3 c = search needs
+
+returns : tie.Need-returns
+unfolding classEffect
+returns c = rw (c .before .before .before .enum-told .given .1) (c .sbi .ensures)
+
+returns-2 : tie.Need-returns-2
+unfolding classEffect
+returns-2 c = rw (c .before .before .before .enum-told2 .given .1) (c .stimecmp .ensures)
+
+returns-3 : tie.Need-returns-3
+unfolding classEffect
+returns-3 c = rw (c .before .before .before .before .class .given .1) (c .page-fault-trap .ensures)
+
+returns-4 : tie.Need-returns-4
+unfolding classEffect
+returns-4 c = rw (c .enum-told3 .given .1) (external-made _ _ (c .before .before .sized .ensures) _)
+
+returns-5 : tie.Need-returns-5
+unfolding classEffect
+returns-5 c = rw (c .enum-told4 .given .1) (known-made _ _ (c .before .before .sized .ensures))
+
+returns-6 : tie.Need-returns-6
+unfolding classEffect
+returns-6 c = rw (c .enum-told5 .given .1) (unknown-made _ _ (c .before .before .sized .ensures))
+
+pub trapped-spec : {M : Type 1} → statement M
+trapped-spec =
+    tie.close
+    (tie.spec
+    sized-requires
+    enum-told
+    sbi-requires
+    enum-told-2
+    stimecmp-requires
+    enum-known-class
+    page-fault-trap-requires
+    enum-told-3
+    element-write-out
+    element-write-r
+    enum-told-4
+    element-write-r-2
+    enum-told-5
+    element-write-r-3
+    returns
+    returns-2
+    returns-3
+    returns-4
+    returns-5
+    returns-6)
