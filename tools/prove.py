@@ -65,7 +65,8 @@ def definitions(crate):
 
 def promised(crate):
     """The definition that each function's promise names."""
-    source = open(f"crates/{crate}/src/lib.rt").read()
+    root = next(f for f in ("lib.rt", "main.rt") if os.path.exists(f"crates/{crate}/src/{f}"))
+    source = open(f"crates/{crate}/src/{root}").read()
     found = {}
     for m in re.finditer(r"\bfn (\w+)(?:<[^>]*>)?\(", source):
         head = source[m.end(): source.find("\n{", m.end())]

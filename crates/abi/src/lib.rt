@@ -208,11 +208,11 @@ pub fn waiting_words(w: Waiting) -> [u64; 4]
         Waiting::Load { rd, width, signed } => [
             1,
             rd as u64,
-            types::width_bytes(width),
+            numbers::width_bytes(width),
             flag(signed),
         ],
         Waiting::FetchCsr => [2, 0, 0, 0],
-        Waiting::FetchFault { at, access } => [3, at.0, types::access_number(access), 0],
+        Waiting::FetchFault { at, access } => [3, at.0, numbers::access_number(access), 0],
         Waiting::CopyMask => [4, 0, 0, 0],
         Waiting::CopyIn { count } => [5, count, 0, 0],
         Waiting::Print { count } => [6, count, 0, 0],
@@ -368,11 +368,11 @@ pub fn reply_number(p: Reply) -> u64
     ensures { λ r. ⌜ r ≡ replyNumber p ⌝ }
 {
     match p {
-        Reply::Exit(e) => types::exit_number(e),
-        Reply::Ask(a) => types::ask_number(a),
+        Reply::Exit(e) => numbers::exit_number(e),
+        Reply::Ask(a) => numbers::ask_number(a),
         Reply::Done => 0,
         Reply::Value(_) => 0,
-        Reply::Error(e) => types::error_number(e),
+        Reply::Error(e) => numbers::error_number(e),
     }
 }
 
@@ -382,10 +382,10 @@ pub fn reply_values(p: Reply) -> [u64; 8]
 {
     match p {
         Reply::Exit(e) => {
-            let n = types::exit_values(e);
+            let n = values::exit_values(e);
             [n[0], n[1], n[2], 0, 0, 0, 0, 0]
         }
-        Reply::Ask(a) => types::ask_values(a),
+        Reply::Ask(a) => values::ask_values(a),
         Reply::Done => [0, 0, 0, 0, 0, 0, 0, 0],
         Reply::Value(n) => [n, 0, 0, 0, 0, 0, 0, 0],
         Reply::Error(_) => [0, 0, 0, 0, 0, 0, 0, 0],

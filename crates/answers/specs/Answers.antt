@@ -10,7 +10,7 @@ use Rattle.consts.specs.Sbi.{success, failed}
 use Rattle.sbi_ipi.specs.declared.LegacyRequest.{LegacyRequest}
 use Rattle.sbi_ipi.specs.declared.LegacyRequest.the-variants as legacy
 use Rattle.sbi_ipi.specs.Ipi.{legacyRequest}
-use Rattle.decoder.specs.Extend.{extendOf}
+use Rattle.extension.specs.Extend.{extendOf}
 use Rattle.regs.specs.declared.Csrs.{Csrs}
 use Rattle.regs.specs.declared.Effect.{Effect}
 use Rattle.regs.specs.declared.Event.the-variants as event

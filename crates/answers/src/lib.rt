@@ -1,15 +1,8 @@
 // The host's answers to asks 2 to 9, and the completion of a load.
 ghost use mathlib.Core.Path.{_≡_};
-ghost use Rattle.answers.specs.Answers.{answeredEffect, answeredOf, completedOf, copiedOf, copiedOutOf, maskOf, readOf};
-use regs::Csrs;
-use regs::Effect;
-use regs::Event;
+ghost use Rattle.answers.specs.Answers.{answeredOf, copiedOf, copiedOutOf, maskOf, readOf};
 use regs::Waiting;
-use regs::Writes;
 use sbi_ipi::LegacyRequest;
-use types::Ask;
-use types::Error;
-use types::Exit;
 use types::GuestPhysAddr;
 use types::IpiRequest;
 
@@ -50,77 +43,6 @@ pub fn decide(w: Waiting, word: u64, more: u64) -> Answered
         Waiting::PutByte => Answered::Returns(consts::RET_SUCCESS, 0),
         Waiting::GetChar => Answered::Gives(word),
         Waiting::Forward => Answered::Returns(word, more),
-    }
-}
-
-pub fn effect(c: Csrs, w: Waiting, d: Answered) -> Effect
-    ensures { λ r. ⌜ r ≡ answeredEffect c w d ⌝ }
-{
-    match d {
-        Answered::Wrong => regs::refused(c, w, Error::WrongAnswer),
-        Answered::Moves => regs::finished(
-            regs::advance(c, 4),
-            Event::Quiet,
-            Writes::Keep,
-            Exit::Nothing,
-        ),
-        Answered::Gives(n) => regs::finished(
-            regs::advance(c, 4),
-            Event::Quiet,
-            Writes::One(10, n),
-            Exit::Nothing,
-        ),
-        Answered::Returns(e, v) => regs::finished(
-            regs::advance(c, 4),
-            Event::Quiet,
-            Writes::Pair(e, v),
-            Exit::Nothing,
-        ),
-        Answered::SendIpi(request) => regs::finished(
-            regs::advance(c, 4),
-            Event::Quiet,
-            Writes::Keep,
-            Exit::SendIpi(request),
-        ),
-        Answered::Print(count) => {
-            regs::asking(
-                c,
-                Event::Quiet,
-                Waiting::Print { count },
-                Ask::Print { count },
-            )
-        }
-        Answered::CopyOut(at, count) => regs::asking(
-            c,
-            Event::Quiet,
-            Waiting::CopyOut { count },
-            Ask::CopyOut { at, count },
-        ),
-    }
-}
-
-// A load's number arrives: cut, extended, written.
-pub fn complete(c: Csrs, w: Waiting, n: u64) -> Effect
-    ensures { λ r. ⌜ r ≡ completedOf c w n ⌝ }
-{
-    match w {
-        Waiting::Idle => regs::refused(c, w, Error::BadState),
-        Waiting::Load { rd, width, signed } => regs::done(
-            c,
-            Writes::One(rd, decoder::extend(width, signed, n)),
-            Waiting::Idle,
-        ),
-        Waiting::FetchCsr => regs::refused(c, w, Error::BadState),
-        Waiting::FetchFault { at: _, access: _ } => regs::refused(c, w, Error::BadState),
-        Waiting::CopyMask => regs::refused(c, w, Error::BadState),
-        Waiting::CopyIn { count: _ } => regs::refused(c, w, Error::BadState),
-        Waiting::Print { count: _ } => regs::refused(c, w, Error::BadState),
-        Waiting::ReadConsole { count: _, at: _ } => regs::refused(c, w, Error::BadState),
-        Waiting::CopyOut { count: _ } => regs::refused(c, w, Error::BadState),
-        Waiting::PutChar => regs::refused(c, w, Error::BadState),
-        Waiting::PutByte => regs::refused(c, w, Error::BadState),
-        Waiting::GetChar => regs::refused(c, w, Error::BadState),
-        Waiting::Forward => regs::refused(c, w, Error::BadState),
     }
 }
 

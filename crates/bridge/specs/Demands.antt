@@ -16,14 +16,15 @@ use Rattle.regs.specs.declared.Vcpu.{Vcpu}
 use Rattle.regs.specs.declared.Writes.the-variants as writes
 use Rattle.regs.specs.Record.{bumped, counted, eventNumber, listed, stored, valueOf}
 use Rattle.regs.specs.Effects.{applied, noArgs}
-use Rattle.vcpu.specs.Calls.{getGprOf}
-use Rattle.entry.specs.declared.Given.{Given}
+use Rattle.calls.specs.Calls.{getGprOf}
+use Rattle.thin.specs.declared.Given.{Given}
 use Rattle.entry.specs.declared.HostCall.{HostCall}
 use Rattle.entry.specs.declared.HostCall.the-variants as hostCall
-use Rattle.entry.specs.Entry.{Stored, calledOf, readOf}
-use Rattle.third.specs.Alike.{Alike}
-use Rattle.third.specs.Calls.{Call}
-use Rattle.third.specs.Runs.{outcomeOf, runOf, seenOf, sightOf, stepOf, unchanged, Untouched, written}
+use Rattle.entry.specs.Entry.{calledOf, readOf}
+use Rattle.thin.specs.Thin.{Stored}
+use Rattle.reading.specs.Alike.{Alike}
+use Rattle.reading.specs.Calls.{Call}
+use Rattle.reading.specs.Runs.{outcomeOf, runOf, seenOf, sightOf, stepOf, unchanged, Untouched, written}
 use Rattle.third.specs.Sequences as sequences
 use Rattle.third.specs.Kinds.{traps}
 use Rattle.third.specs.Counting.{Counted, counts}

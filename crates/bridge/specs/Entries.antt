@@ -2,12 +2,12 @@
 use Prim.Native.Nat.{ℕ}
 use mathlib.Core.List.{List, [], _∷_}
 use Rattle.regs.specs.declared.Vcpu.{Vcpu}
-use Rattle.entry.specs.declared.Given.{Given}
+use Rattle.thin.specs.declared.Given.{Given}
 use Rattle.entry.specs.declared.HostCall.{HostCall}
 use Rattle.entry.specs.declared.HostCall.the-variants as hostCall
-use Rattle.entry.specs.Entry.{Stored}
-use Rattle.third.specs.Calls.{Call, setup, setEntry, getGpr, setGpr, setReturn, paging, pending, latch, completeIpi, start, answer, completeLoad}
-use Rattle.third.specs.Runs.{Sight}
+use Rattle.thin.specs.Thin.{Stored}
+use Rattle.reading.specs.Calls.{Call, setup, setEntry, getGpr, setGpr, setReturn, paging, pending, latch, completeIpi, start, answer, completeLoad}
+use Rattle.reading.specs.Runs.{Sight}
 
 -- the record v after these calls through the entry is u, and these were given back: each step meets the entry's promise
 pub data Entries : Vcpu → List HostCall → List Given → Vcpu → Type 0 where

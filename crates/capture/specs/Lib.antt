@@ -1,4 +1,3 @@
-pub mod Pairs
 pub mod Replay
 pub mod Feeds
 pub mod Laws

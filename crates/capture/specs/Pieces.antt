@@ -2,8 +2,9 @@
 use Prim.Native.Nat.{ℕ}
 use mathlib.Core.List.{List, [], _∷_, _++_, append-assoc}
 use mathlib.Core.Path.{_≡_, refl, sym, ap, _∙_}
-use Rattle.capture.specs.declared.State.{State}
-use Rattle.capture.specs.Replay.{afterOf, begun, endOf, fedOf, outOf, replayOf, textOf}
+use Rattle.order.specs.declared.State.{State}
+use Rattle.order.specs.Order.{begun, endOf}
+use Rattle.capture.specs.Replay.{afterOf, fedOf, outOf, replayOf, textOf}
 
 -- pieces one after the other
 unfoldable pub joined : List (List ℕ) → List ℕ

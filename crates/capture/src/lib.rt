@@ -1,105 +1,36 @@
-// A capture replayed: a state that takes the capture's bytes in order and says what each gives to the output
+// A capture replayed: its bytes are fed to a state in pieces, and what they give is written to a buffer
 // (01, Replay program). Its meaning is one definition, replayOf in specs/Replay.antt, from all bytes to all output.
 ghost use mathlib.Core.Path.{_≡_};
 ghost use Prim.Native.Nat.{_+_, _≤_};
 ghost use lib.ListN.{length};
 ghost use Rattle.lines.specs.Put.{Put};
-ghost use Rattle.capture.specs.Pairs.{answerFor, fetchFor};
-ghost use Rattle.capture.specs.Replay.{badOf, begun, codeOf, endOf, gaveOf, headedOf, headerOf, moreOf, nextOf, pairedOf, settledOf, startedOf, textOf, tookOf, trappedOf};
+ghost use Rattle.capture.specs.Replay.{textOf};
 ghost use Rattle.capture.specs.Feeds.{Feeds, Fills};
-use lines::Got;
-use regs::Outcome;
-use regs::Vcpu;
-use types::Answer;
-use types::Fetch;
-use types::GuestPhysAddr;
-use types::GuestVirtAddr;
-use types::Reply;
-use types::Trap;
+use order::Gives;
+use order::State;
+use order::Step;
 
-// The replay between two bytes of its capture.
-pub struct State {
-    pub vcpu: Vcpu,
-    // The line that is being read: 0 to 32 of the header, 33 to 36 of a trap, 37 and 38 of an answer.
-    pub key: usize,
-    // How many of its bytes were read, and the number that its digits make so far.
-    pub at: usize,
-    pub value: u64,
-    // Its number, from 1.
-    pub line: u64,
-    // The numbers of earlier lines that a later one needs.
-    pub scause: u64,
-    pub stval: u64,
-    pub htval: u64,
-    pub word: u64,
-    // What the trap's `exit` line will say.
-    pub exit: u64,
-    // Whether a bad line was found.
-    pub over: bool,
-}
-
-// What the output gets.
-pub enum Gives {
-    Nothing,
-    Trap {
-        exit: u64,
-        sepc: u64,
-        a0: u64,
-        a1: u64,
-    },
-    Bad {
-        line: u64,
-    },
-}
-
-// The later state, and what the output gets.
-pub struct Step {
-    pub state: State,
-    pub gives: Gives,
-}
-
-// A step over bytes of a slice, and where the bytes after them begin.
+// A step over the first bytes of a slice, and where the bytes after them begin.
 pub struct Fed {
     pub step: Step,
     pub next: usize,
 }
 
-// The later state after bytes of a slice, where the bytes after them begin, and how much of the buffer is output.
+// The later state after the first bytes of a slice, where the bytes after them begin, and how much of the buffer is
+// output.
 pub struct Filled {
     pub state: State,
     pub next: usize,
     pub end: usize,
 }
 
-// Before the first byte: a zero record after setup.
-pub fn begin() -> State
-    ensures { λ r. ⌜ r ≡ begun ⌝ }
-{
-    let o = vcpu::setup(vcpu::new(0, 0));
-    let v = o.vcpu;
-    State {
-        vcpu: v,
-        key: 0,
-        at: 0,
-        value: 0,
-        line: 1,
-        scause: 0,
-        stval: 0,
-        htval: 0,
-        word: 0,
-        exit: 0,
-        over: false,
-    }
-}
-
-// Feeds bytes from a place on, and writes what they give to the buffer, until the bytes are over or the buffer has no
-// room for another trap.
-pub fn fill(s: State, bytes: &[u8], from: usize, out: &mut [u8]) -> Filled
-    requires { ⌜ from ≤ length (now bytes) ⌝ }
-    ensures { λ r. ⌜ Fills s (now (bytes .entry)) from (length (now (out .entry))) (now (out .exit)) r ⌝ }
+// Feeds bytes, and writes what they give to the buffer, until the bytes are over or the buffer has no room for another
+// trap. A buffer of 84 bytes or more takes some of them.
+pub fn fill(s: State, bytes: &[u8], out: &mut [u8]) -> Filled
+    ensures { λ r. ⌜ Fills s (now (bytes .entry)) (length (now (out .entry))) (now (out .exit)) r ⌝ }
 {
     let mut t = s;
-    let mut i = from;
+    let mut i: usize = 0;
     let mut e: usize = 0;
     while i < bytes.len() {
         if out.len() < 84 {
@@ -108,11 +39,11 @@ pub fn fill(s: State, bytes: &[u8], from: usize, out: &mut [u8]) -> Filled
         if out.len() - 84 < e {
             break;
         }
-        let f = feed(t, bytes, i);
-        i = f.next;
+        let f = feed(t, &bytes[i..]);
+        i += f.next;
         let step = f.step;
         let g = step.gives;
-        e = write(g, out, e);
+        e = put(g, out, e);
         t = step.state;
     }
     Filled {
@@ -122,10 +53,9 @@ pub fn fill(s: State, bytes: &[u8], from: usize, out: &mut [u8]) -> Filled
     }
 }
 
-// Feeds bytes from a place on, to the end of a line or of the bytes.
-pub fn feed(s: State, bytes: &[u8], from: usize) -> Fed
-    requires { ⌜ from ≤ length (now bytes) ⌝ }
-    ensures { λ r. ⌜ Feeds s (now (bytes .entry)) from r ⌝ }
+// Feeds bytes to the end of a line or of the bytes.
+pub fn feed(s: State, bytes: &[u8]) -> Fed
+    ensures { λ r. ⌜ Feeds s (now (bytes .entry)) r ⌝ }
 {
     if s.over {
         let step = Step {
@@ -137,30 +67,21 @@ pub fn feed(s: State, bytes: &[u8], from: usize) -> Fed
             next: bytes.len(),
         };
     }
-    let p = lines::read(s.key, s.at, s.value, bytes, from);
+    let p = lines::read(s.key, s.at, s.value, bytes);
     let g = p.got;
-    let step = gave(s, g);
+    let step = order::gave(s, g);
     Fed { step, next: p.next }
 }
 
-// What the end of the capture gives: nothing where a trap may start, else the missing line.
-pub fn end(s: State) -> Gives
-    ensures { λ r. ⌜ r ≡ endOf s ⌝ }
+// Writes what was given at the buffer's start, and says where it ends: a trap's four lines are 84 bytes.
+pub fn write(g: Gives, out: &mut [u8; 84]) -> usize
+    ensures { λ r. ⌜ Put (now (out .entry)) 0 (textOf g) r (now (out .exit)) ⌝ }
 {
-    if s.over {
-        return Gives::Nothing;
-    }
-    if s.key == 33 {
-        if s.at == 0 {
-            return Gives::Nothing;
-        }
-        return Gives::Bad { line: s.line };
-    }
-    Gives::Bad { line: s.line }
+    put(g, out, 0)
 }
 
-// Writes what was given at a place of the buffer, and says where it ends.
-pub fn write(g: Gives, out: &mut [u8], at: usize) -> usize
+// The same at a place where there is room.
+fn put(g: Gives, out: &mut [u8], at: usize) -> usize
     requires { ⌜ at + 84 ≤ length (now out) ⌝ }
     ensures { λ r. ⌜ Put (now (out .entry)) at (textOf g) r (now (out .exit)) ⌝ }
 {
@@ -174,269 +95,4 @@ pub fn write(g: Gives, out: &mut [u8], at: usize) -> usize
         }
         Gives::Bad { line } => lines::put(b"bad=", line, out, at),
     }
-}
-
-// What a reading of the line gave.
-fn gave(s: State, g: Got) -> Step
-    ensures { λ r. ⌜ r ≡ gaveOf s g ⌝ }
-{
-    match g {
-        Got::More(at, value) => {
-            let mut t = s;
-            t.at = at;
-            t.value = value;
-            Step {
-                state: t,
-                gives: Gives::Nothing,
-            }
-        }
-        Got::Whole(n) => took(s, n),
-        Got::Unfit => bad(s),
-    }
-}
-
-// The line is unfit.
-fn bad(s: State) -> Step
-    ensures { λ r. ⌜ r ≡ badOf s ⌝ }
-{
-    let line = s.line;
-    let mut t = s;
-    t.at = 0;
-    t.value = 0;
-    t.over = true;
-    Step {
-        state: t,
-        gives: Gives::Bad { line },
-    }
-}
-
-// The line's number is n.
-fn took(s: State, n: u64) -> Step
-    ensures { λ r. ⌜ r ≡ tookOf s n ⌝ }
-{
-    let k = s.key;
-    match k {
-        33 => {
-            let mut t = next(s, 34);
-            t.scause = n;
-            Step {
-                state: t,
-                gives: Gives::Nothing,
-            }
-        }
-        34 => {
-            let mut t = next(s, 35);
-            t.stval = n;
-            Step {
-                state: t,
-                gives: Gives::Nothing,
-            }
-        }
-        35 => {
-            let mut t = next(s, 36);
-            t.htval = n;
-            Step {
-                state: t,
-                gives: Gives::Nothing,
-            }
-        }
-        36 => started(s, n),
-        37 => {
-            let mut t = next(s, 38);
-            t.word = n;
-            Step {
-                state: t,
-                gives: Gives::Nothing,
-            }
-        }
-        38 => more(s, n),
-        _ => header(s, n),
-    }
-}
-
-// The next line is that of the key.
-fn next(s: State, key: usize) -> State
-    ensures { λ r. ⌜ r ≡ nextOf s key ⌝ }
-{
-    let line = std::num::wrapping_add_u64(s.line, 1);
-    let mut t = s;
-    t.key = key;
-    t.at = 0;
-    t.value = 0;
-    t.line = line;
-    t
-}
-
-// A header line's number goes into the record.
-fn header(s: State, n: u64) -> Step
-    ensures { λ r. ⌜ r ≡ headerOf s n ⌝ }
-{
-    let v = s.vcpu;
-    let k = s.key;
-    let w = headed(v, k, n);
-    let mut t = next(s, std::num::wrapping_add_usize(k, 1));
-    t.vcpu = w;
-    Step {
-        state: t,
-        gives: Gives::Nothing,
-    }
-}
-
-// The record with a header line's number: sepc, vstimecmp, or the register of that line.
-fn headed(v: Vcpu, k: usize, n: u64) -> Vcpu
-    ensures { λ r. ⌜ r ≡ headedOf v k n ⌝ }
-{
-    if k == 0 {
-        let o = vcpu::set_entry(v, GuestPhysAddr(n));
-        return o.vcpu;
-    }
-    if k == 1 {
-        let c = regs::with_timer(v.csrs, n);
-        let mut w = v;
-        w.csrs = c;
-        return w;
-    }
-    let o = vcpu::set_gpr(v, k - 1, n);
-    o.vcpu
-}
-
-// The trap's last number starts it.
-fn started(s: State, htinst: u64) -> Step
-    ensures { λ r. ⌜ r ≡ startedOf s htinst ⌝ }
-{
-    let v = s.vcpu;
-    let t = Trap {
-        scause: s.scause,
-        stval: s.stval,
-        htval: s.htval,
-        htinst,
-        room: 4096,
-    };
-    settled(s, vcpu::start(v, t))
-}
-
-// An answer's or load completion's second number.
-fn more(s: State, n: u64) -> Step
-    ensures { λ r. ⌜ r ≡ moreOf s n ⌝ }
-{
-    let v = s.vcpu;
-    let w = v.waiting;
-    paired(s, n, regs::ask_of(w))
-}
-
-// The same, by the number of the ask that waits; 0 is a load.
-fn paired(s: State, n: u64, ask: u64) -> Step
-    ensures { λ r. ⌜ r ≡ pairedOf s n ask ⌝ }
-{
-    let v = s.vcpu;
-    if ask == 0 {
-        return settled(s, vcpu::complete_load(v, s.word));
-    }
-    if ask == 1 {
-        if 5 < n {
-            return bad(s);
-        }
-        return settled(s, vcpu::answer(v, answer(ask, s.word, n)));
-    }
-    settled(s, vcpu::answer(v, answer(ask, s.word, n)))
-}
-
-// The answer that a pair is, by the number of the ask that waits.
-fn answer(ask: u64, word: u64, more: u64) -> Answer
-    ensures { λ r. ⌜ r ≡ answerFor ask word more ⌝ }
-{
-    match ask {
-        1 => Answer::Fetched(fetched(word, more)),
-        2 => Answer::MaskCopied {
-            count: word,
-            bytes: more,
-        },
-        3 => Answer::CopiedIn { count: word },
-        4 => Answer::Printed {
-            error: word,
-            value: more,
-        },
-        5 => Answer::ConsoleRead {
-            error: word,
-            value: more,
-        },
-        6 => Answer::CopiedOut { count: word },
-        7 => Answer::Emitted,
-        8 => Answer::Char { number: word },
-        _ => Answer::Forwarded {
-            error: word,
-            value: more,
-        },
-    }
-}
-
-// What a fetch gave: the word's low 32 bits, or a fault.
-fn fetched(word: u64, more: u64) -> Fetch
-    ensures { λ r. ⌜ r ≡ fetchFor word more ⌝ }
-{
-    match more {
-        0 => Fetch::Word((word % 0x100000000) as u32),
-        1 => Fetch::Page(GuestVirtAddr(word)),
-        2 => Fetch::Access(GuestVirtAddr(word)),
-        3 => Fetch::Misaligned(GuestVirtAddr(word)),
-        4 => Fetch::GuestPage(GuestPhysAddr(word)),
-        _ => Fetch::Unhandled,
-    }
-}
-
-// After a call on the vCPU.
-fn settled(s: State, o: Outcome) -> Step
-    ensures { λ r. ⌜ r ≡ settledOf s o ⌝ }
-{
-    let v = o.vcpu;
-    let w = v.waiting;
-    let reply = o.reply;
-    trapped(s, v, code(s.exit, reply), regs::is_idle(w))
-}
-
-// Where nothing waits the trap is over, otherwise `word` is next.
-fn trapped(s: State, v: Vcpu, exit: u64, idle: bool) -> Step
-    ensures { λ r. ⌜ r ≡ trappedOf s v exit idle ⌝ }
-{
-    let mut t = s;
-    t.vcpu = v;
-    t.exit = exit;
-    if idle {
-        let sepc = v.csrs.guest.sepc;
-        let x = v.x;
-        return Step {
-            state: next(t, 33),
-            gives: Gives::Trap {
-                exit,
-                sepc,
-                a0: x[10],
-                a1: x[11],
-            },
-        };
-    }
-    Step {
-        state: next(t, 37),
-        gives: Gives::Nothing,
-    }
-}
-
-// What the `exit` line says after a reply.
-fn code(before: u64, r: Reply) -> u64
-    ensures { λ n. ⌜ n ≡ codeOf before r ⌝ }
-{
-    match r {
-        Reply::Exit(e) => types::exit_number(e),
-        Reply::Ask(_) => before,
-        Reply::Done => before,
-        Reply::Value(_) => before,
-        Reply::Error(e) => failed(types::error_number(e)),
-    }
-}
-
-// Errors are 0x100 plus their number.
-fn failed(number: u64) -> u64
-    requires { ⌜ number ≤ 7 ⌝ }
-    ensures { λ r. ⌜ r ≡ 256 + number ⌝ }
-{
-    256 + number
 }

@@ -19,21 +19,22 @@ use Rattle.registers.specs.Values.{guestPageFaultAddr, hgatpOf}
 use Rattle.fields.specs.Fields.{csrField, funct3Field, opcodeField, rdField, rs1Field, rs2Field}
 use Rattle.decoder.specs.Decode as decode
 use Rattle.decoder.specs.Length as length
-use Rattle.decoder.specs.Extend.{cutOf, extendBy, extendOf, signedBy, widthBits}
+use Rattle.extension.specs.Extend.{cutOf, extendBy, extendOf, signedBy, widthBits}
 use Rattle.regs.specs.declared.Outcome.{Outcome}
 use Rattle.regs.specs.declared.Vcpu.{Vcpu}
 use Rattle.regs.specs.Record.{bumped, counted, eventNumber, isIdle, listed, moved, pended, stored, timed, valueOf, waitingAsk}
-use Rattle.regs.specs.Effects.{applied, askingOf, doneOf, failedOf, finishedOf, guardedOf, noArgs, refusedOf}
+use Rattle.regs.specs.Effects.{applied, askingOf, doneOf, failedOf, finishedOf, guardedOf, noArgs, refusedOf, unlessAsking}
 use Rattle.ecall.specs.Calls.{callOf, timeOf}
-use Rattle.ecall_effect.specs.Doing.{callEffect, movesOf, setTimerOf, staysOf}
+use Rattle.ecall_effect.specs.Doing.{callEffect}
+use Rattle.deeds.specs.Deeds.{movesOf, setTimerOf, staysOf}
 use Rattle.fetch.specs.Faults.{askFetchOf, injectedOf, missedEffect, missedOf, trapStatusOf}
 use Rattle.virtual_inst.specs.Stimecmp as virt
 use Rattle.page_fault.specs.Mmio.{faultEffect, faultOf, loadOf, storeOf}
 use Rattle.answers.specs.Answers.{completedOf}
 use Rattle.host_calls.specs.HostCalls.{pagingBy, pagingEffect, setupCsrs, tableCsrs}
 use Rattle.trap.specs.Traps.{argumentsOf, causeOf, mmioOf, pageFaultOf, sbiOf, startEffect, startedOf, stimecmpOf, trapOf}
-use Rattle.trap.specs.Resume.{answerEffect, continuedOf, fetchedOf, matchedOf, resumedOf}
-use Rattle.vcpu.specs.Calls.{answerOf, completeLoadOf, newOf, pagingOf, setupOf, startOf, unlessAsking}
+use Rattle.resume.specs.Resume.{answerEffect, continuedOf, fetchedOf, matchedOf, resumedOf}
+use Rattle.calls.specs.Calls.{answerOf, completeLoadOf, newOf, pagingOf, setupOf, startOf}
 
 -- a record as new and setup leave it, but for sepc, the timer and the registers given
 unfoldable base : ℕ → ℕ → List ℕ → Vcpu

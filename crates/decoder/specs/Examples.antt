@@ -7,7 +7,7 @@ use Rattle.decoder.specs.declared.Trapped.the-variants as trapped
 use Rattle.fields.specs.Fields.{opcodeField, rdField, funct3Field, rs1Field, rs2Field, csrField}
 use Rattle.decoder.specs.Decode.{loadOf, storeOf, decodeBy, decodeOf}
 use Rattle.decoder.specs.Length.{transformedOf, htinstOf}
-use Rattle.decoder.specs.Extend.{widthBits, cutOf}
+use Rattle.extension.specs.Extend.{widthBits, cutOf}
 
 -- lw x7, 4 bytes long
 pub lw-x7 : htinstOf 0x2383 ≡ trapped.Instruction (decoded.Load width.Word true 7) 4

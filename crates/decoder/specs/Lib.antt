@@ -1,7 +1,5 @@
 pub mod Decode
 pub mod Length
-pub mod Extend
 pub mod Laws
 pub mod Examples
 pub mod Errors
-pub mod Extended

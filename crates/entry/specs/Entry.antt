@@ -1,12 +1,9 @@
--- Every call behind one definition, by the definitions that the calls' own promises cite; and what the entry leaves in
--- the host's record and gives back.
+-- Every call behind one definition, by the definitions that the calls' own promises cite.
 use Prim.Native.Nat.{ℕ}
-use mathlib.Core.Path.{_≡_}
 use lib.ListN.{replicate}
 use Rattle.regs.specs.declared.Outcome.{Outcome}
 use Rattle.regs.specs.declared.Vcpu.{Vcpu}
-use Rattle.vcpu.specs.Calls.{answerOf, completeIpiOf, completeLoadOf, getGprOf, latchOf, pagingOf, pendingOf, setEntryOf, setGprOf, setReturnOf, setupOf, startOf}
-use Rattle.entry.specs.declared.Given.{Given}
+use Rattle.calls.specs.Calls.{answerOf, completeIpiOf, completeLoadOf, getGprOf, latchOf, pagingOf, pendingOf, setEntryOf, setGprOf, setReturnOf, setupOf, startOf}
 use Rattle.entry.specs.declared.HostCall.{HostCall}
 use Rattle.entry.specs.declared.HostCall.the-variants as hostCall
 
@@ -28,11 +25,3 @@ calledOf v (hostCall.CompleteIpi abi completion) = completeIpiOf v abi completio
 calledOf v (hostCall.Start t) = startOf v t
 calledOf v (hostCall.Answer a) = answerOf v a
 calledOf v (hostCall.CompleteLoad n) = completeLoadOf v n
-
--- an outcome less its record
-abbrev pub restOf : Outcome → Given
-restOf o = record { reply = o .reply; args = o .args }
-
--- the entry's promise: from record v, call c leaves record w and gives g
-abbrev pub Stored : Vcpu → HostCall → Vcpu → Given → Type 0
-Stored v c w g = (w ≡ calledOf v c .vcpu) × (g ≡ restOf (calledOf v c))

@@ -1,13 +1,12 @@
-// The thin entry: every call on a vCPU record behind one function, by value and where the host's record lies.
+// Every call on a vCPU record behind one function, by value.
 ghost use mathlib.Core.Path.{_≡_};
-ghost use Rattle.entry.specs.Entry.{Stored, calledOf, readOf};
+ghost use Rattle.entry.specs.Entry.{calledOf, readOf};
 use regs::Outcome;
 use regs::Vcpu;
 use sbi_ipi::IpiCompletion;
 use types::Answer;
 use types::GuestPhysAddr;
 use types::IpiAbi;
-use types::Reply;
 use types::Trap;
 
 // A call on a vCPU record, with what it is given.
@@ -47,50 +46,32 @@ pub enum HostCall {
     },
 }
 
-// What the host gets back when its record is changed where it lies: an outcome less the record.
-pub struct Given {
-    pub reply: Reply,
-    pub args: [u64; 6],
-}
-
 // Makes the call on a record that is handed over by value.
 pub fn call(v: Vcpu, c: HostCall) -> Outcome
     ensures { λ r. ⌜ r ≡ calledOf v c ⌝ }
 {
     match c {
-        HostCall::Setup => vcpu::setup(v),
-        HostCall::SetEntry(at) => vcpu::set_entry(v, at),
+        HostCall::Setup => setup::setup(v),
+        HostCall::SetEntry(at) => setup::set_entry(v, at),
         HostCall::GetGpr { index } => read(v, index),
-        HostCall::SetGpr { index, value } => vcpu::set_gpr(v, index, value),
-        HostCall::SetReturnValue { value } => vcpu::set_return_value(v, value),
-        HostCall::SetNestedPageTable { levels, mode, root } => vcpu::set_nested_page_table(
+        HostCall::SetGpr { index, value } => gprs::set_gpr(v, index, value),
+        HostCall::SetReturnValue { value } => gprs::set_return_value(v, value),
+        HostCall::SetNestedPageTable { levels, mode, root } => setup::set_nested_page_table(
             v,
             levels,
             mode,
             root,
         ),
-        HostCall::SetPending { vector, level } => vcpu::set_virtual_interrupt_pending(
+        HostCall::SetPending { vector, level } => interrupts::set_virtual_interrupt_pending(
             v,
             vector,
             level,
         ),
-        HostCall::LatchHvip { bits } => vcpu::latch_hvip(v, bits),
-        HostCall::CompleteIpi { abi, completion } => vcpu::complete_ipi(v, abi, completion),
+        HostCall::LatchHvip { bits } => interrupts::latch_hvip(v, bits),
+        HostCall::CompleteIpi { abi, completion } => interrupts::complete_ipi(v, abi, completion),
         HostCall::Start(t) => vcpu::start(v, t),
         HostCall::Answer(a) => vcpu::answer(v, a),
         HostCall::CompleteLoad { number } => vcpu::complete_load(v, number),
-    }
-}
-
-// Makes the call on the host's record where it lies.
-pub fn call_in_place(v: &mut Vcpu, c: HostCall) -> Given
-    ensures { λ r. ⌜ Stored (now (v .entry)) c (now (v .exit)) r ⌝ }
-{
-    let o = call(*v, c);
-    *v = o.vcpu;
-    Given {
-        reply: o.reply,
-        args: o.args,
     }
 }
 
@@ -98,7 +79,7 @@ pub fn call_in_place(v: &mut Vcpu, c: HostCall) -> Given
 fn read(v: Vcpu, index: usize) -> Outcome
     ensures { λ r. ⌜ r ≡ readOf v index ⌝ }
 {
-    let reply = vcpu::get_gpr(v, index);
+    let reply = gprs::get_gpr(v, index);
     Outcome {
         vcpu: v,
         reply,

@@ -32,7 +32,7 @@ pub fn ask(c: Csrs, waiting: Waiting) -> Effect
 {
     let at = GuestVirtAddr(c.guest.sepc);
     let supervisor = registers::spvp(c.guest.hstatus);
-    regs::asking(c, Event::Quiet, waiting, Ask::Fetch { at, supervisor })
+    effects::asking(c, Event::Quiet, waiting, Ask::Fetch { at, supervisor })
 }
 
 // What the fault in a fetch answer does. A word is no fault; callers take it out before.
@@ -64,16 +64,16 @@ pub fn effect(c: Csrs, m: Missed) -> Effect
     match m {
         Missed::Inject { cause, addr } => {
             let csrs = inject(c, cause, addr);
-            regs::finished(csrs, Event::Quiet, Writes::Keep, Exit::Nothing)
+            effects::finished(csrs, Event::Quiet, Writes::Keep, Exit::Nothing)
         }
         Missed::Nested(addr) => {
             let exit = Exit::NestedPageFault {
                 addr,
                 access: Access::Execute,
             };
-            regs::finished(c, Event::Quiet, Writes::Keep, exit)
+            effects::finished(c, Event::Quiet, Writes::Keep, exit)
         }
-        Missed::Unhandled => regs::failed(c, Event::Quiet, Error::GuestMemoryFault),
+        Missed::Unhandled => effects::failed(c, Event::Quiet, Error::GuestMemoryFault),
     }
 }
 

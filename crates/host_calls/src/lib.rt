@@ -45,9 +45,9 @@ pub fn write_effect(c: Csrs, w: Waiting, index: usize, value: u64) -> Effect
     ensures { λ r. ⌜ r ≡ writeEffect c w index value ⌝ }
 {
     if index < 32 {
-        return regs::done(c, Writes::One(index, value), w);
+        return effects::done(c, Writes::One(index, value), w);
     }
-    regs::refused(c, w, Error::InvalidInput)
+    effects::refused(c, w, Error::InvalidInput)
 }
 
 // Sets the guest-stage page table.
@@ -57,7 +57,7 @@ pub fn paging_effect(c: Csrs, w: Waiting, levels: u64, mode: u64, root: u64) -> 
     match levels {
         3 => paging_by(c, w, 8, mode, root),
         4 => paging_by(c, w, 9, mode, root),
-        _ => regs::refused(c, w, Error::InvalidInput),
+        _ => effects::refused(c, w, Error::InvalidInput),
     }
 }
 
@@ -83,11 +83,11 @@ fn paging_by(c: Csrs, w: Waiting, wanted: u64, mode: u64, root: u64) -> Effect
 {
     if mode == wanted {
         if root % 0x4000 == 0 {
-            return regs::done(table_csrs(c, mode, root), Writes::Keep, w);
+            return effects::done(table_csrs(c, mode, root), Writes::Keep, w);
         }
-        return regs::refused(c, w, Error::InvalidInput);
+        return effects::refused(c, w, Error::InvalidInput);
     }
-    regs::refused(c, w, Error::InvalidInput)
+    effects::refused(c, w, Error::InvalidInput)
 }
 
 fn table_csrs(c: Csrs, mode: u64, root: u64) -> Csrs
@@ -104,15 +104,15 @@ fn pending_by(c: Csrs, w: Waiting, vector: u64, external: bool, on: bool) -> Eff
 {
     if vector == consts::S_SOFT {
         let hvip = registers::with_bits(c.hs.hvip, consts::VSSIP, on);
-        return regs::done(regs::with_hvip(c, hvip), Writes::Keep, w);
+        return effects::done(regs::with_hvip(c, hvip), Writes::Keep, w);
     }
     if vector == consts::S_TIMER {
         let hvip = registers::with_bits(c.hs.hvip, consts::VSTIP, on);
-        return regs::done(regs::with_hvip(c, hvip), Writes::Keep, w);
+        return effects::done(regs::with_hvip(c, hvip), Writes::Keep, w);
     }
     if external {
         let hvip = registers::with_bits(c.hs.hvip, consts::VSEIP, on);
-        return regs::done(regs::with_hvip(c, hvip), Writes::Keep, w);
+        return effects::done(regs::with_hvip(c, hvip), Writes::Keep, w);
     }
-    regs::refused(c, w, Error::InvalidInput)
+    effects::refused(c, w, Error::InvalidInput)
 }

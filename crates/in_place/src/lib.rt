@@ -1,7 +1,7 @@
 // The entry for cost: every call on a vCPU record of 58 words, where it lies, exported. A host calls these. Each takes the
 // by-value step's decisions and is promised the by-value outcome: `place/specs/View.antt` has the meaning of the words.
 ghost use mathlib.Core.Path.{_≡_};
-ghost use Rattle.vcpu.specs.Calls.{newOf, printCount};
+ghost use Rattle.calls.specs.Calls.{newOf, printCount};
 ghost use Rattle.entry.specs.Entry.{calledOf};
 ghost use Rattle.abi.specs.Words.{callBy};
 ghost use Rattle.place.specs.View.{Done, Made, viewOf};

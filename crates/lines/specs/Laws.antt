@@ -27,16 +27,16 @@ unfolding takenOf
 taken-end key s a w i h = rw (drop-of-length-le s h)
 
 -- the four bytes from i * 4 up to i * 4 + 4
-pub read-four : (keys : List ℕ) (i at v : ℕ) (s : List ℕ) (from : ℕ) (r : Part) → Read (take (i * 4 + 4 - i * 4) (drop (i * 4) keys)) at v s from r → Read (fourAt keys i) at v s from r
-read-four keys i at v s from r h =
+pub read-four : (keys : List ℕ) (i at v : ℕ) (s : List ℕ) (r : Part) → Read (take (i * 4 + 4 - i * 4) (drop (i * 4) keys)) at v s r → Read (fourAt keys i) at v s r
+read-four keys i at v s r h =
     let n : i * 4 + 4 - i * 4 ≡ 4 = omega arith in
-    subst (λ (k : ℕ). Read (take k (drop (i * 4) keys)) at v s from r) n h
+    subst (λ (k : ℕ). Read (take k (drop (i * 4) keys)) at v s r) n h
 
 -- none are left past the last key
-pub read-none : (keys : List ℕ) (i at v : ℕ) (s : List ℕ) (from : ℕ) (r : Part) → length keys ≡ 124 → 31 ≤ i → Read [] at v s from r → Read (fourAt keys i) at v s from r
-read-none keys i at v s from r n h p =
+pub read-none : (keys : List ℕ) (i at v : ℕ) (s : List ℕ) (r : Part) → length keys ≡ 124 → 31 ≤ i → Read [] at v s r → Read (fourAt keys i) at v s r
+read-none keys i at v s r n h p =
     let m : length keys ≤ i * 4 = omega arith in
-    subst (λ (k : List ℕ). Read (take 4 k) at v s from r) (sym (drop-of-length-le keys m)) p
+    subst (λ (k : List ℕ). Read (take 4 k) at v s r) (sym (drop-of-length-le keys m)) p
 
 -- neither 0 nor 1 is 2 or more
 pub two-up : (k : ℕ) → (k ≡ 0 → ⊥) → (k ≡ 1 → ⊥) → 2 ≤ k

@@ -45,12 +45,11 @@ unfoldable pub takenOf : List ℕ → ℕ → ℕ → List ℕ → Taken
 takenOf key at v [] = record { got = got.More at v; left = [] }
 takenOf key at v (b ∷ l) = after (lineOf key at v b) (λ a w. takenOf key a w l) l
 
--- what reading on from a place of a slice gives
-pub record Read (key : List ℕ) (at v : ℕ) (s : List ℕ) (from : ℕ) (r : Part) : Type 0 where
-  pub low : from ≤ r .next
+-- what reading on in a slice gives
+pub record Read (key : List ℕ) (at v : ℕ) (s : List ℕ) (r : Part) : Type 0 where
   pub high : r .next ≤ length s
-  pub moves : from < length s → from < r .next
-  pub reads : takenOf key at v (drop from s) ≡ record { got = r .got; left = drop (r .next) s }
+  pub moves : 0 < length s → 0 < r .next
+  pub reads : takenOf key at v s ≡ record { got = r .got; left = drop (r .next) s }
 
 -- the bytes begin with the key
 abbrev pub begins : List ℕ → List ℕ → Bool

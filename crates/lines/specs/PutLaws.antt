@@ -9,7 +9,7 @@ use lib.ListN.{drop, getD, length, length-append, length-drop, length-set, set, 
 use lib.Seq.{append-snoc, drop-at, drop-cons, drop-drop, drop-set-lt, getD-set-same, length-take-le, lt-length-set, set-split, take-all, take-at, take-suc}
 use Rattle.lines.specs.Hex.{glyph, lastDigits, sixteen}
 use Rattle.lines.specs.Lines.{lineText}
-use Rattle.lines.specs.Put.{Put, putAt}
+use Rattle.lines.specs.Put.{Put, PutLine, putAt}
 
 module _ (out : List ℕ) (at : ℕ) (t : List ℕ) (fits : at + length t ≤ length out) where
   -- the bytes up to the text's end
@@ -163,3 +163,11 @@ unfolding putAt
 put-front out at t r later h p =
     ap (take r) (p .holds ∙ sym (append-assoc (take at out) t (drop (at + length t) out)))
     ∙ take-at (take at out ++ t) (drop (at + length t) out) r (head-length out at t h ∙ sym (p .ends))
+
+-- a line without room is not written
+pub no-room : (out : List ℕ) (at : ℕ) (key : List ℕ) (v : ℕ) → length out < at + length key + 17 → PutLine out at key v at out
+no-room out at key v h = record { room = λ k. absurd (omega arith); none = λ k. (refl, refl) }
+
+-- a line with room is
+pub has-room : (out : List ℕ) (at : ℕ) (key : List ℕ) (v r : ℕ) (later : List ℕ) → at + length key + 17 ≤ length out → Put out at (lineText key v) r later → PutLine out at key v r later
+has-room out at key v r later h p = record { room = λ k. p; none = λ k. absurd (omega arith) }

@@ -6,7 +6,7 @@ ghost use lib.ListN.{length};
 ghost use Rattle.lines.specs.Hex.{digitOf, glyph as glyphOf, nibbleOf, pushOf, pushedOf, readOf, sixteen};
 ghost use Rattle.lines.specs.Keys.{fourAt, keyOf};
 ghost use Rattle.lines.specs.Lines.{atEndOf, inDigitsOf, inKeyOf, lineOf, lineText, Read};
-ghost use Rattle.lines.specs.Put.{Put, putAt};
+ghost use Rattle.lines.specs.Put.{Put, PutLine, putAt};
 
 // What sixteen bytes are as hex digits.
 pub enum Digits {
@@ -30,53 +30,50 @@ pub struct Part {
     pub next: usize,
 }
 
-// Reads on in line k of a capture, of which `at` bytes gave the number v: from `from` to the line's end, to a byte
-// that does not fit, or to the end of the bytes.
-pub fn read(k: usize, at: usize, v: u64, s: &[u8], from: usize) -> Part
-    requires { ⌜ from ≤ length (now s) ⌝ }
-    ensures { λ r. ⌜ Read (keyOf k) at v (now (s .entry)) from r ⌝ }
+// Reads on in line k of a capture, of which `at` bytes gave the number v: to the line's end, to a byte that does not
+// fit, or to the end of the bytes.
+pub fn read(k: usize, at: usize, v: u64, s: &[u8]) -> Part
+    ensures { λ r. ⌜ Read (keyOf k) at v (now (s .entry)) r ⌝ }
 {
     match k {
-        0 => scan(b"sepc=", at, v, s, from),
-        1 => scan(b"vstimecmp=", at, v, s, from),
-        33 => scan(b"scause=", at, v, s, from),
-        34 => scan(b"stval=", at, v, s, from),
-        35 => scan(b"htval=", at, v, s, from),
-        36 => scan(b"htinst=", at, v, s, from),
-        37 => scan(b"word=", at, v, s, from),
-        38 => scan(b"more=", at, v, s, from),
+        0 => scan(b"sepc=", at, v, s),
+        1 => scan(b"vstimecmp=", at, v, s),
+        33 => scan(b"scause=", at, v, s),
+        34 => scan(b"stval=", at, v, s),
+        35 => scan(b"htval=", at, v, s),
+        36 => scan(b"htinst=", at, v, s),
+        37 => scan(b"word=", at, v, s),
+        38 => scan(b"more=", at, v, s),
         _ => read_register(
             b"x01=x02=x03=x04=x05=x06=x07=x08=x09=x10=x11=x12=x13=x14=x15=x16=x17=x18=x19=x20=x21=x22=x23=x24=x25=x26=x27=x28=x29=x30=x31=",
             k - 2,
             at,
             v,
             s,
-            from,
         ),
     }
 }
 
 // The same for the line of a general register, whose key is the four bytes at i * 4.
-fn read_register(keys: &[u8], i: usize, at: usize, v: u64, s: &[u8], from: usize) -> Part
-    requires { ⌜ (length (now keys) ≡ 124) × (from ≤ length (now s)) ⌝ }
-    ensures { λ r. ⌜ Read (fourAt (now (keys .entry)) i) at v (now (s .entry)) from r ⌝ }
+fn read_register(keys: &[u8], i: usize, at: usize, v: u64, s: &[u8]) -> Part
+    requires { ⌜ length (now keys) ≡ 124 ⌝ }
+    ensures { λ r. ⌜ Read (fourAt (now (keys .entry)) i) at v (now (s .entry)) r ⌝ }
 {
     if i < 31 {
         let a = i * 4;
         let e = a + 4;
-        return scan(&keys[a..e], at, v, s, from);
+        return scan(&keys[a..e], at, v, s);
     }
-    scan(&keys[..0], at, v, s, from)
+    scan(&keys[..0], at, v, s)
 }
 
 // Byte by byte.
-fn scan(key: &[u8], at: usize, v: u64, s: &[u8], from: usize) -> Part
-    requires { ⌜ from ≤ length (now s) ⌝ }
-    ensures { λ r. ⌜ Read (now (key .entry)) at v (now (s .entry)) from r ⌝ }
+fn scan(key: &[u8], at: usize, v: u64, s: &[u8]) -> Part
+    ensures { λ r. ⌜ Read (now (key .entry)) at v (now (s .entry)) r ⌝ }
 {
     let mut a = at;
     let mut w = v;
-    let mut i = from;
+    let mut i: usize = 0;
     while i < s.len() {
         let g = line(key, a, w, s[i]);
         i += 1;
@@ -211,8 +208,26 @@ pub fn read_digits(s: &[u8]) -> Digits
     Digits::Bad
 }
 
-// Writes a line's text at a place of the buffer, and says where it ends. The other bytes stay.
+// Writes a line's text at a place of the buffer, and says where it ends. The other bytes stay. Where the line has no
+// room nothing is written, and the place itself is given.
 pub fn put(key: &[u8], v: u64, out: &mut [u8], at: usize) -> usize
+    ensures { λ r. ⌜ PutLine (now (out .entry)) at (now (key .entry)) v r (now (out .exit)) ⌝ }
+{
+    let n = out.len();
+    if n < at {
+        return at;
+    }
+    if n - at < key.len() {
+        return at;
+    }
+    if n - at - key.len() < 17 {
+        return at;
+    }
+    put_line(key, v, out, at)
+}
+
+// The same where it has room.
+fn put_line(key: &[u8], v: u64, out: &mut [u8], at: usize) -> usize
     requires { ⌜ at + length (now key) + 17 ≤ length (now out) ⌝ }
     ensures { λ r. ⌜ Put (now (out .entry)) at (lineText (now (key .entry)) v) r (now (out .exit)) ⌝ }
 {

@@ -11,7 +11,7 @@ use Rattle.types.specs.declared.Width.{Width}
 use Rattle.decoder.specs.declared.Decoded.the-variants as decoded
 use Rattle.decoder.specs.declared.Trapped.{Trapped}
 use Rattle.decoder.specs.declared.Trapped.the-variants as trapped
-use Rattle.decoder.specs.Extend.{cutOf}
+use Rattle.extension.specs.Extend.{cutOf}
 use Rattle.regs.specs.declared.Csrs.{Csrs}
 use Rattle.regs.specs.declared.Effect.{Effect}
 use Rattle.regs.specs.declared.Event.the-variants as event

@@ -59,9 +59,9 @@ pub fn effect(c: Csrs, at: GuestPhysAddr, access: Access, d: Fault) -> Effect
 {
     match d {
         Fault::Fetch => fetch::ask(c, Waiting::FetchFault { at, access }),
-        Fault::Walk => regs::failed(c, Event::Quiet, Error::Unsupported),
-        Fault::Unfit => regs::failed(c, Event::Quiet, Error::DecodeFailed),
-        Fault::Nested => regs::finished(
+        Fault::Walk => effects::failed(c, Event::Quiet, Error::Unsupported),
+        Fault::Unfit => effects::failed(c, Event::Quiet, Error::DecodeFailed),
+        Fault::Nested => effects::finished(
             c,
             Event::Quiet,
             Writes::Keep,
@@ -78,13 +78,13 @@ pub fn effect(c: Csrs, at: GuestPhysAddr, access: Access, d: Fault) -> Effect
             writes: Writes::Keep,
             waiting: Waiting::Load { rd, width, signed },
             reply: Reply::Exit(Exit::MmioRead { addr: at, width }),
-            args: regs::no_args(),
+            args: effects::no_args(),
         },
         Fault::Store {
             width,
             data,
             length,
-        } => regs::finished(
+        } => effects::finished(
             regs::advance(c, length),
             Event::Quiet,
             Writes::Keep,
@@ -121,7 +121,7 @@ fn store(access: Access, width: Width, source: u64, length: u64) -> Fault
         Access::Read => Fault::Nested,
         Access::Write => Fault::Store {
             width,
-            data: decoder::cut(width, source),
+            data: extension::cut(width, source),
             length,
         },
         Access::Execute => Fault::Nested,

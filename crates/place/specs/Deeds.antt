@@ -28,7 +28,7 @@ use Rattle.page_fault.specs.declared.Fault.{Fault}
 use Rattle.page_fault.specs.declared.Fault.the-variants as fault
 use Rattle.answers.specs.declared.Answered.{Answered}
 use Rattle.answers.specs.declared.Answered.the-variants as answered
-use Rattle.decoder.specs.Extend.{extendOf}
+use Rattle.extension.specs.Extend.{extendOf}
 use Rattle.regs.specs.declared.Waiting.{Waiting}
 use Rattle.regs.specs.declared.Waiting.the-variants as waiting
 use Rattle.place.specs.View.{viewOf}

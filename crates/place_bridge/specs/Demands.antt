@@ -19,11 +19,12 @@ use Rattle.types.specs.declared.Reply.{Reply}
 use Rattle.types.specs.declared.Reply.the-variants as reply
 use Rattle.regs.specs.declared.Outcome.{Outcome}
 use Rattle.regs.specs.declared.Vcpu.{Vcpu}
-use Rattle.entry.specs.declared.Given.{Given}
+use Rattle.thin.specs.declared.Given.{Given}
 use Rattle.entry.specs.declared.HostCall.{HostCall}
-use Rattle.entry.specs.Entry.{calledOf, restOf}
-use Rattle.third.specs.Alike.{Alike}
-use Rattle.third.specs.Runs.{Untouched, written}
+use Rattle.entry.specs.Entry.{calledOf}
+use Rattle.thin.specs.Thin.{restOf}
+use Rattle.reading.specs.Alike.{Alike}
+use Rattle.reading.specs.Runs.{Untouched, written}
 use Rattle.third.specs.Kinds.{traps}
 use Rattle.third.specs.Counting.{Counted}
 use Rattle.total.specs.Demand1.{Pending, ask-waits, refusal-keeps-the-record, refuses}

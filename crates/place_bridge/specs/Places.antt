@@ -5,7 +5,7 @@ use mathlib.Core.List.{List, [], _∷_}
 use mathlib.Core.Path.{_≡_}
 use lib.Dec.{eqb}
 use Rattle.types.specs.Pick.{or}
-use Rattle.entry.specs.declared.Given.{Given}
+use Rattle.thin.specs.declared.Given.{Given}
 use Rattle.entry.specs.declared.HostCall.{HostCall}
 use Rattle.entry.specs.Entry.{calledOf}
 use Rattle.place.specs.View.{Made, outOf, replyWord, viewOf}

@@ -48,7 +48,7 @@ pub fn do_call(r: &mut [u64; 58], out: &mut [u64; 8], d: Call) -> u64
             let abi = request.abi;
             out[0] = request.mask;
             out[1] = request.base;
-            out[2] = types::abi_number(abi);
+            out[2] = numbers::abi_number(abi);
             place::step(r, 4);
             2
         }

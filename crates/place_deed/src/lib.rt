@@ -47,7 +47,7 @@ pub fn do_fault(
             place::ask_fetch(r, out);
             r[place::KIND] = 3;
             r[place::FIRST] = at.0;
-            r[place::SECOND] = types::access_number(access);
+            r[place::SECOND] = numbers::access_number(access);
             0x21
         }
         Fault::Walk => {
@@ -60,7 +60,7 @@ pub fn do_fault(
         }
         Fault::Nested => {
             out[0] = at.0;
-            out[1] = types::access_number(access);
+            out[1] = numbers::access_number(access);
             r[place::KIND] = 0;
             8
         }
@@ -70,7 +70,7 @@ pub fn do_fault(
             rd,
             length,
         } => {
-            let bytes = types::width_bytes(width);
+            let bytes = numbers::width_bytes(width);
             out[0] = at.0;
             out[1] = bytes;
             r[place::KIND] = 1;
@@ -86,7 +86,7 @@ pub fn do_fault(
             length,
         } => {
             out[0] = at.0;
-            out[1] = types::width_bytes(width);
+            out[1] = numbers::width_bytes(width);
             out[2] = data;
             place::step(r, length);
             10
@@ -139,7 +139,7 @@ pub fn do_answered(r: &mut [u64; 58], out: &mut [u64; 8], d: Answered) -> u64
             let abi = request.abi;
             out[0] = request.mask;
             out[1] = request.base;
-            out[2] = types::abi_number(abi);
+            out[2] = numbers::abi_number(abi);
             place::step(r, 4);
             2
         }

@@ -26,7 +26,7 @@ use Rattle.regs.specs.Record.{bumped, counted, eventNumber, pended, stored, wai
 use Rattle.regs.specs.Effects.{applied, doneOf, guardedOf, refusedOf}
 use Rattle.host_calls.specs.HostCalls.{pagingBy, pagingEffect, pendingBy, pendingEffect, tableCsrs, writeEffect}
 use Rattle.registers.specs.Bits.{withBits}
-use Rattle.vcpu.specs.Calls.{getGprOf, newOf, printCount, unlessAsking}
+use Rattle.calls.specs.Calls.{getGprOf, newOf, printCount, unlessAsking}
 use Rattle.abi.specs.Words.{csrsOf, csrsWords, unpackOf, waitingBy, waitingOf}
 use Rattle.entry.specs.Entry.{readOf}
 use Rattle.place.specs.View.{Done, Made, outOf, recordOf, replyWord, viewOf}

@@ -2,7 +2,7 @@
 ghost use mathlib.Core.Path.{_≡_};
 ghost use Prim.Native.Nat.{_+_};
 ghost use Rattle.types.specs.Numbers.{askNumber, errorNumber};
-ghost use Rattle.vcpu.specs.Calls.{completeIpiOf, latchOf, newOf, printCount, pagingOf, pendingOf, setEntryOf, setGprOf, setReturnOf, setupOf};
+ghost use Rattle.calls.specs.Calls.{completeIpiOf, latchOf, newOf, printCount, pagingOf, pendingOf, setEntryOf, setGprOf, setReturnOf, setupOf};
 ghost use Rattle.entry.specs.Entry.{readOf};
 ghost use Rattle.place.specs.View.{Done, Made, replyWord, viewOf};
 ghost use Rattle.place_host.specs.Host.{hostWords, printedBy, writeWords};
@@ -22,8 +22,8 @@ pub fn setup(r: &mut [u64; 58]) -> u64
     place::sized(r);
     let c = place::csrs(r);
     let w = place::waiting(r);
-    let e = regs::done(host_calls::setup_csrs(c), Writes::Keep, w);
-    host(r, regs::guarded(regs::ask_of(w), c, w, e))
+    let e = effects::done(host_calls::setup_csrs(c), Writes::Keep, w);
+    host(r, effects::guarded(regs::ask_of(w), c, w, e))
 }
 
 // Where the guest starts.
@@ -33,8 +33,8 @@ pub fn set_entry(r: &mut [u64; 58], entry: GuestPhysAddr) -> u64
     place::sized(r);
     let c = place::csrs(r);
     let w = place::waiting(r);
-    let e = regs::done(host_calls::entry_csrs(c, entry), Writes::Keep, w);
-    host(r, regs::guarded(regs::ask_of(w), c, w, e))
+    let e = effects::done(host_calls::entry_csrs(c, entry), Writes::Keep, w);
+    host(r, effects::guarded(regs::ask_of(w), c, w, e))
 }
 
 // Writes a general register; x0 stays.
@@ -45,7 +45,7 @@ pub fn set_gpr(r: &mut [u64; 58], index: usize, value: u64) -> u64
     let c = place::csrs(r);
     let w = place::waiting(r);
     let e = host_calls::write_effect(c, w, index, value);
-    host(r, regs::guarded(regs::ask_of(w), c, w, e))
+    host(r, effects::guarded(regs::ask_of(w), c, w, e))
 }
 
 // Writes a0.
@@ -55,8 +55,8 @@ pub fn set_return_value(r: &mut [u64; 58], value: u64) -> u64
     place::sized(r);
     let c = place::csrs(r);
     let w = place::waiting(r);
-    let e = regs::done(c, Writes::One(10, value), w);
-    host(r, regs::guarded(regs::ask_of(w), c, w, e))
+    let e = effects::done(c, Writes::One(10, value), w);
+    host(r, effects::guarded(regs::ask_of(w), c, w, e))
 }
 
 // Sets the guest-stage page table.
@@ -67,7 +67,7 @@ pub fn set_nested_page_table(r: &mut [u64; 58], levels: u64, mode: u64, root: u6
     let c = place::csrs(r);
     let w = place::waiting(r);
     let e = host_calls::paging_effect(c, w, levels, mode, root);
-    host(r, regs::guarded(regs::ask_of(w), c, w, e))
+    host(r, effects::guarded(regs::ask_of(w), c, w, e))
 }
 
 // Sets or clears a pending interrupt of the guest.
@@ -78,7 +78,7 @@ pub fn set_pending(r: &mut [u64; 58], vector: u64, level: bool) -> u64
     let c = place::csrs(r);
     let w = place::waiting(r);
     let e = host_calls::pending_effect(c, w, vector, level);
-    host(r, regs::guarded(regs::ask_of(w), c, w, e))
+    host(r, effects::guarded(regs::ask_of(w), c, w, e))
 }
 
 // Latches pending bits that the hardware raised.
@@ -88,8 +88,8 @@ pub fn latch_hvip(r: &mut [u64; 58], bits: u64) -> u64
     place::sized(r);
     let c = place::csrs(r);
     let w = place::waiting(r);
-    let e = regs::done(regs::with_hvip(c, c.hs.hvip | bits), Writes::Keep, w);
-    host(r, regs::guarded(regs::ask_of(w), c, w, e))
+    let e = effects::done(regs::with_hvip(c, c.hs.hvip | bits), Writes::Keep, w);
+    host(r, effects::guarded(regs::ask_of(w), c, w, e))
 }
 
 // Gives the guest the result of an IPI request.
@@ -99,12 +99,12 @@ pub fn complete_ipi(r: &mut [u64; 58], abi: IpiAbi, completion: IpiCompletion) -
     place::sized(r);
     let c = place::csrs(r);
     let w = place::waiting(r);
-    let e = regs::done(
+    let e = effects::done(
         c,
         host_calls::ipi_writes(abi, sbi_ipi::completion_number(completion)),
         w,
     );
-    host(r, regs::guarded(regs::ask_of(w), c, w, e))
+    host(r, effects::guarded(regs::ask_of(w), c, w, e))
 }
 
 // Reads a general register.
@@ -184,7 +184,7 @@ fn reply_word(p: Reply) -> u64
     ensures { λ n. ⌜ n ≡ replyWord p ⌝ }
 {
     match p {
-        Reply::Exit(e) => types::exit_number(e),
+        Reply::Exit(e) => numbers::exit_number(e),
         Reply::Ask(a) => ask_word(a),
         Reply::Done => 0x40,
         Reply::Value(_) => 0x41,

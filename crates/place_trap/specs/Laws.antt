@@ -35,9 +35,9 @@ use Rattle.virtual_inst.specs.Stimecmp.{csrEffect, csrOf, startOf}
 use Rattle.page_fault.specs.Mmio.{faultEffect, faultOf}
 use Rattle.answers.specs.Answers.{answeredEffect, answeredOf}
 use Rattle.trap.specs.Traps.{argumentsOf, externalOf, mmioOf, otherOf, sbiOf, stimecmpOf}
-use Rattle.trap.specs.Resume.{answerEffect, continuedOf, fetchedOf, matchedOf, plainOf, resumedOf}
-use Rattle.vcpu.specs.Calls as calls
-use Rattle.vcpu.specs.Calls.{getGprOf}
+use Rattle.resume.specs.Resume.{answerEffect, continuedOf, fetchedOf, matchedOf, plainOf, resumedOf}
+use Rattle.calls.specs.Calls as calls
+use Rattle.calls.specs.Calls.{getGprOf}
 use Rattle.entry.specs.declared.HostCall.{HostCall}
 use Rattle.entry.specs.declared.HostCall.the-variants as hostCall
 use Rattle.entry.specs.Entry.{calledOf, readOf}

@@ -18,7 +18,7 @@ use Rattle.regs.specs.declared.Event.{Event}
 use Rattle.regs.specs.declared.Event.the-variants as event
 use Rattle.regs.specs.declared.Effect.{Effect}
 use Rattle.regs.specs.declared.Outcome.{Outcome}
-use Rattle.regs.specs.Record.{stored, counted, listed}
+use Rattle.regs.specs.Record.{stored, counted, listed, waitingAsk}
 
 -- the whole later record, the reply, and the array beside it
 unfoldable pub applied : Vcpu → Effect → Outcome
@@ -66,3 +66,7 @@ doneOf c w n =
 -- 01, Refusals: any changing call but an answer while an ask waits is refusal 2
 unfoldable pub guardedOf : ℕ → Csrs → Waiting → Effect → Effect
 guardedOf ask c n e = pick (eqb ask 0) e (refusedOf c n error.BadState)
+
+-- a changing call other than an answer, a start or a load's completion: refused with 2 while an ask waits
+unfoldable pub unlessAsking : Vcpu → Effect → Outcome
+unlessAsking v e = applied v (guardedOf (waitingAsk (v .waiting)) (v .csrs) (v .waiting) e)

@@ -3,13 +3,10 @@
 ghost use mathlib.Core.Path.{_≡_};
 ghost use Prim.Native.Nat.{_+_};
 ghost use Rattle.types.specs.Pick.{wrapped};
-ghost use Rattle.regs.specs.Record.{bumped, counted, eventNumber, isIdle, listed, moved, pended, stored, timed, valueOf, waitingAsk};
-ghost use Rattle.regs.specs.Effects.{applied, askingOf, doneOf, failedOf, finishedOf, guardedOf, noArgs, refusedOf};
+ghost use Rattle.regs.specs.Record.{counted, isIdle, moved, pended, timed, valueOf, waitingAsk};
 use types::Access;
 use types::Args;
 use types::Ask;
-use types::Error;
-use types::Exit;
 use types::GuestPhysAddr;
 use types::Reply;
 use types::Width;
@@ -133,132 +130,6 @@ pub struct Outcome {
     pub args: [u64; 6],
 }
 
-// The outcome of an effect on a record.
-pub fn apply(v: Vcpu, e: Effect) -> Outcome
-    ensures { λ r. ⌜ r ≡ applied v e ⌝ }
-{
-    let old = v.x;
-    let writes = e.writes;
-    let x = store(old, writes);
-    let before = v.counts;
-    let event = e.event;
-    let counts = count(before, event);
-    let csrs = e.csrs;
-    let waiting = e.waiting;
-    let reply = e.reply;
-    let args = [
-        e.args.a0,
-        e.args.a1,
-        e.args.a2,
-        e.args.a3,
-        e.args.a4,
-        e.args.a5,
-    ];
-    Outcome {
-        vcpu: Vcpu {
-            x,
-            csrs,
-            counts,
-            waiting,
-        },
-        reply,
-        args,
-    }
-}
-
-// The trap is finished with an exit.
-pub fn finished(csrs: Csrs, event: Event, writes: Writes, exit: Exit) -> Effect
-    ensures { λ r. ⌜ r ≡ finishedOf csrs event writes exit ⌝ }
-{
-    Effect {
-        csrs,
-        event,
-        writes,
-        waiting: Waiting::Idle,
-        reply: Reply::Exit(exit),
-        args: no_args(),
-    }
-}
-
-// The trap waits for an answer. No register and no CSR changes.
-pub fn asking(csrs: Csrs, event: Event, waiting: Waiting, ask: Ask) -> Effect
-    ensures { λ r. ⌜ r ≡ askingOf csrs event waiting ask ⌝ }
-{
-    Effect {
-        csrs,
-        event,
-        writes: Writes::Keep,
-        waiting,
-        reply: Reply::Ask(ask),
-        args: no_args(),
-    }
-}
-
-// The trap ends in an error. No register and no CSR changes.
-pub fn failed(csrs: Csrs, event: Event, error: Error) -> Effect
-    ensures { λ r. ⌜ r ≡ failedOf csrs event error ⌝ }
-{
-    Effect {
-        csrs,
-        event,
-        writes: Writes::Keep,
-        waiting: Waiting::Idle,
-        reply: Reply::Error(error),
-        args: no_args(),
-    }
-}
-
-// The call is refused. Nothing changes.
-pub fn refused(csrs: Csrs, waiting: Waiting, error: Error) -> Effect
-    ensures { λ r. ⌜ r ≡ refusedOf csrs waiting error ⌝ }
-{
-    Effect {
-        csrs,
-        event: Event::Quiet,
-        writes: Writes::Keep,
-        waiting,
-        reply: Reply::Error(error),
-        args: no_args(),
-    }
-}
-
-// The call is done. What waits goes on waiting.
-pub fn done(csrs: Csrs, writes: Writes, waiting: Waiting) -> Effect
-    ensures { λ r. ⌜ r ≡ doneOf csrs writes waiting ⌝ }
-{
-    Effect {
-        csrs,
-        event: Event::Quiet,
-        writes,
-        waiting,
-        reply: Reply::Done,
-        args: no_args(),
-    }
-}
-
-// The effect, unless an ask waits: then refusal 2.
-pub fn guarded(ask: u64, csrs: Csrs, waiting: Waiting, e: Effect) -> Effect
-    ensures { λ r. ⌜ r ≡ guardedOf ask csrs waiting e ⌝ }
-{
-    if ask == 0 {
-        return e;
-    }
-    refused(csrs, waiting, Error::BadState)
-}
-
-pub fn no_args() -> Args
-    ensures { λ r. ⌜ r ≡ noArgs ⌝ }
-{
-    Args {
-        a0: 0,
-        a1: 0,
-        a2: 0,
-        a3: 0,
-        a4: 0,
-        a5: 0,
-    }
-}
-
 // sepc moves on.
 pub fn advance(csrs: Csrs, by: u64) -> Csrs
     ensures { λ r. ⌜ r ≡ moved csrs by ⌝ }
@@ -350,74 +221,8 @@ pub fn is_idle(w: Waiting) -> bool
     }
 }
 
-fn plus(a: u64, b: u64) -> u64
+pub fn plus(a: u64, b: u64) -> u64
     ensures { λ r. ⌜ r ≡ wrapped (a + b) ⌝ }
 {
     std::num::wrapping_add_u64(a, b)
-}
-
-// x0 is never written.
-fn store(x: [u64; 32], w: Writes) -> [u64; 32]
-    ensures { λ r. ⌜ r ≡ stored x w ⌝ }
-{
-    match w {
-        Writes::Keep => x,
-        Writes::One(i, n) => {
-            if i == 0 {
-                return x;
-            }
-            if i < 32 {
-                let mut y = x;
-                y[i] = n;
-                return y;
-            }
-            x
-        }
-        Writes::Pair(a0, a1) => {
-            let mut y = x;
-            y[10] = a0;
-            y[11] = a1;
-            y
-        }
-    }
-}
-
-fn count(counts: [u64; 9], e: Event) -> [u64; 9]
-    ensures { λ r. ⌜ r ≡ counted counts e ⌝ }
-{
-    bump(counts, event_number(e))
-}
-
-fn event_number(e: Event) -> usize
-    ensures { λ r. ⌜ r ≡ eventNumber e ⌝ }
-{
-    match e {
-        Event::Quiet => 0,
-        Event::SetTimer => 1,
-        Event::IllegalInsn => 2,
-        Event::FenceI => 3,
-        Event::SfenceVma => 4,
-        Event::SfenceVmaAsid => 5,
-        Event::HfenceGvmaVmid => 6,
-        Event::HfenceGvma => 7,
-        Event::HfenceVvmaAsid => 8,
-        Event::HfenceVvma => 9,
-    }
-}
-
-// One more in the count of an event's number; 0 is no event.
-fn bump(counts: [u64; 9], number: usize) -> [u64; 9]
-    ensures { λ r. ⌜ r ≡ bumped counts number ⌝ }
-{
-    if number == 0 {
-        return counts;
-    }
-    if number < 10 {
-        let at = number - 1;
-        let next = plus(counts[at], 1);
-        let mut k = counts;
-        k[at] = next;
-        return k;
-    }
-    counts
 }

@@ -10,10 +10,10 @@ use Rattle.types.specs.declared.Trap.{Trap}
 use Rattle.sbi_ipi.specs.declared.IpiCompletion.{IpiCompletion}
 use Rattle.regs.specs.declared.Vcpu.{Vcpu}
 use Rattle.regs.specs.Record.{stored, counted, bumped, eventNumber}
-use Rattle.regs.specs.Effects.{applied}
-use Rattle.vcpu.specs.Calls.{unlessAsking, setupOf, setEntryOf, getGprOf, setGprOf, setReturnOf, pagingOf, pendingOf, latchOf, completeIpiOf, startOf, answerOf, completeLoadOf, printedOf}
-use Rattle.third.specs.Calls.{Call, setup, setEntry, getGpr, setGpr, setReturn, paging, pending, latch, completeIpi, start, answer, completeLoad, print}
-use Rattle.third.specs.Runs.{unchanged, outcomeOf, bytesOf, stepOf, guarded, quiet, effectOf}
+use Rattle.regs.specs.Effects.{applied, unlessAsking}
+use Rattle.calls.specs.Calls.{setupOf, setEntryOf, getGprOf, setGprOf, setReturnOf, pagingOf, pendingOf, latchOf, completeIpiOf, startOf, answerOf, completeLoadOf, printedOf}
+use Rattle.reading.specs.Calls.{Call, setup, setEntry, getGpr, setGpr, setReturn, paging, pending, latch, completeIpi, start, answer, completeLoad, print}
+use Rattle.reading.specs.Runs.{unchanged, outcomeOf, bytesOf, stepOf, guarded, quiet, effectOf}
 
 pub is-setup : (v : Vcpu) → outcomeOf v setup ≡ setupOf v
 unfolding outcomeOf

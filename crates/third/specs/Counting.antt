@@ -14,8 +14,8 @@ use Rattle.regs.specs.declared.Outcome.{Outcome}
 use Rattle.regs.specs.declared.Vcpu.{Vcpu}
 use Rattle.regs.specs.Record.{bumped, counted}
 use Rattle.regs.specs.Effects.{applied}
-use Rattle.third.specs.Calls.{Call}
-use Rattle.third.specs.Runs.{stepOf, runOf}
+use Rattle.reading.specs.Calls.{Call}
+use Rattle.reading.specs.Runs.{stepOf, runOf}
 use Rattle.third.specs.Bridge.{outcome-applied}
 use Rattle.third.specs.Kinds.{kindOf, traps}
 use Rattle.third.specs.Events.{event-kind}

@@ -32,7 +32,8 @@ use Rattle.regs.specs.Record.{eventNumber, isIdle, waitingAsk}
 use Rattle.regs.specs.Effects.{finishedOf, askingOf, failedOf, refusedOf, doneOf, guardedOf}
 use Rattle.ecall.specs.declared.Call as ecalls
 use Rattle.ecall.specs.Calls.{timeOf, spiOf, hsmOf, srstOf, dbcnOf, spanOf, consoleOf, rfncOf, callOf, lesserOf, notSupportedOf}
-use Rattle.ecall_effect.specs.Doing.{callEffect, returnsOf, movesOf, staysOf, asksOf, setTimerOf, clearIpiOf, hypercallOf}
+use Rattle.ecall_effect.specs.Doing.{callEffect}
+use Rattle.deeds.specs.Deeds.{returnsOf, movesOf, staysOf, asksOf, setTimerOf, clearIpiOf, hypercallOf}
 use Rattle.fetch.specs.declared.Missed.{Missed}
 use Rattle.fetch.specs.declared.Missed.the-variants as missed
 use Rattle.fetch.specs.Faults.{askFetchOf, missedEffect}
@@ -47,10 +48,10 @@ use Rattle.answers.specs.declared.Answered.the-variants as answered
 use Rattle.answers.specs.Answers.{answeredEffect, completedOf}
 use Rattle.host_calls.specs.HostCalls.{writeEffect, pagingBy, pagingEffect, pendingBy, pendingEffect}
 use Rattle.trap.specs.Traps.{argumentsOf, sbiOf, stimecmpOf, mmioOf, pageFaultOf, externalOf, otherOf, causeOf, trapOf, startedOf, startEffect}
-use Rattle.trap.specs.Resume as resume
-use Rattle.third.specs.Calls.{Call, setup, setEntry, getGpr, setGpr, setReturn, paging, pending, latch, completeIpi, start, answer, completeLoad, print}
-use Rattle.third.specs.Table.{a6, a7}
-use Rattle.third.specs.Runs.{guarded, quiet, effectOf}
+use Rattle.resume.specs.Resume as resume
+use Rattle.reading.specs.Calls.{Call, setup, setEntry, getGpr, setGpr, setReturn, paging, pending, latch, completeIpi, start, answer, completeLoad, print}
+use Rattle.reading.specs.Table.{a6, a7}
+use Rattle.reading.specs.Runs.{guarded, quiet, effectOf}
 use Rattle.third.specs.Kinds.{fenceKind, ecallKind, csrFunct3, onStimecmp, wordKind, stvalKind, causeKind, waitingKind, fetchKind, answerKind, kindOf}
 
 -- both ways of a test give the same number

@@ -19,9 +19,9 @@ use Rattle.regs.specs.declared.Vcpu.{Vcpu}
 use Rattle.regs.specs.declared.Waiting.{Waiting}
 use Rattle.regs.specs.declared.Waiting.the-variants as waiting
 use Rattle.regs.specs.Record.{isIdle, waitingAsk}
-use Rattle.third.specs.Calls.{Call, setup, setEntry, getGpr, setGpr, setReturn, paging, pending, latch, completeIpi, start, answer, completeLoad, print}
-use Rattle.third.specs.Table.{a6, a7}
-use Rattle.third.specs.Runs.{stepOf}
+use Rattle.reading.specs.Calls.{Call, setup, setEntry, getGpr, setGpr, setReturn, paging, pending, latch, completeIpi, start, answer, completeLoad, print}
+use Rattle.reading.specs.Table.{a6, a7}
+use Rattle.reading.specs.Runs.{stepOf}
 
 -- SBI, 'RFENCE Extension': fids 0 to 6 are kinds 3 to 9 in order; any other fid is of no kind, 0
 unfoldable pub fenceKind : ℕ → ℕ

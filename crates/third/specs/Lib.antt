@@ -1,10 +1,4 @@
-pub mod Calls
-pub mod Table
-pub mod Runs
 pub mod Bridge
-pub mod Alike
-pub mod Agree
-pub mod Stored
 pub mod Sequences
 pub mod Third
 pub mod Symmetric

@@ -11,14 +11,14 @@ use Rattle.regs.specs.declared.Vcpu.{Vcpu}
 use Rattle.regs.specs.declared.Waiting.{Waiting}
 use Rattle.regs.specs.Record.{counted}
 use Rattle.regs.specs.Effects.{applied}
-use Rattle.vcpu.specs.Calls.{printedOf, printCount, firstOf}
-use Rattle.third.specs.Calls.{Call, setup, setEntry, getGpr, setGpr, setReturn, paging, pending, latch, completeIpi, start, answer, completeLoad, print}
-use Rattle.third.specs.Table.{namesOf, readsOf}
-use Rattle.third.specs.Runs.{bytesOf, sightOf, stepOf, runOf, seenOf, Apart, Untouched, effectOf, wrote, written}
+use Rattle.calls.specs.Calls.{printedOf, printCount, firstOf}
+use Rattle.reading.specs.Calls.{Call, setup, setEntry, getGpr, setGpr, setReturn, paging, pending, latch, completeIpi, start, answer, completeLoad, print}
+use Rattle.reading.specs.Table.{namesOf, readsOf}
+use Rattle.reading.specs.Runs.{bytesOf, sightOf, stepOf, runOf, seenOf, Apart, Untouched, effectOf, wrote, written}
 use Rattle.third.specs.Bridge.{outcome-applied}
-use Rattle.third.specs.Alike.{Alike}
-use Rattle.third.specs.Agree.{effect-alike}
-use Rattle.third.specs.Stored.{neither, same-files, stored-files, stored-kept, stored-joined}
+use Rattle.reading.specs.Alike.{Alike}
+use Rattle.reading.specs.Agree.{effect-alike}
+use Rattle.reading.specs.Stored.{neither, same-files, stored-files, stored-kept, stored-joined}
 
 -- a sequence that leaves r untouched does so in each of its beginnings
 pub beginning : (r : ℕ) (v : Vcpu) (front back : List Call) → Untouched r v (front ++ back) → Untouched r v front

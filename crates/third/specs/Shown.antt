@@ -18,10 +18,10 @@ use Rattle.consts.specs.Csr.{setupSstatus, setupHstatus, setupHie}
 use Rattle.regs.specs.declared.Vcpu.{Vcpu}
 use Rattle.regs.specs.declared.Waiting.the-variants as waiting
 use Rattle.regs.specs.Record.{listed}
-use Rattle.third.specs.Calls.{Call, start}
-use Rattle.third.specs.Table.{namesOf}
-use Rattle.third.specs.Runs.{Sight, runOf, seenOf, among, Untouched}
-use Rattle.third.specs.Alike.{Alike}
+use Rattle.reading.specs.Calls.{Call, start}
+use Rattle.reading.specs.Table.{namesOf}
+use Rattle.reading.specs.Runs.{Sight, runOf, seenOf, among, Untouched}
+use Rattle.reading.specs.Alike.{Alike}
 
 -- a zero record after setup, with vstimecmp 7 and these registers
 abbrev pub recordOf : List ℕ → Vcpu

@@ -10,11 +10,11 @@ use Rattle.consts.specs.Traps.{envCallFromVs}
 use Rattle.regs.specs.declared.Vcpu.{Vcpu}
 use Rattle.regs.specs.declared.Waiting.{Waiting}
 use Rattle.regs.specs.Record.{isIdle}
-use Rattle.third.specs.Calls.{Call, setup, setEntry, getGpr, setGpr, setReturn, paging, pending, latch, completeIpi, start, answer, completeLoad, print}
-use Rattle.third.specs.Table.{a6, a7, timeNames, srstNames, spiNames, hsmNames, dbcnNames, eidNames, ecallNames, causeNames, answerNames, namesOf}
-use Rattle.third.specs.Runs.{stepOf, Apart, Untouched}
-use Rattle.third.specs.Alike.{Files, Alike}
-use Rattle.third.specs.Agree.{first, rest, parted}
+use Rattle.reading.specs.Calls.{Call, setup, setEntry, getGpr, setGpr, setReturn, paging, pending, latch, completeIpi, start, answer, completeLoad, print}
+use Rattle.reading.specs.Table.{a6, a7, timeNames, srstNames, spiNames, hsmNames, dbcnNames, eidNames, ecallNames, causeNames, answerNames, namesOf}
+use Rattle.reading.specs.Runs.{stepOf, Apart, Untouched}
+use Rattle.reading.specs.Alike.{Files, Alike}
+use Rattle.reading.specs.Agree.{first, rest, parted}
 use Rattle.third.specs.Sequences.{next-alike}
 
 -- the names of a call that does not name r are the same on both records

@@ -6,9 +6,9 @@ use mathlib.Core.List.{List, _++_}
 use mathlib.Core.Path.{_≡_}
 use lib.ListN.{getD}
 use Rattle.regs.specs.declared.Vcpu.{Vcpu}
-use Rattle.third.specs.Calls.{Call}
-use Rattle.third.specs.Runs.{runOf, seenOf, Untouched, written}
-use Rattle.third.specs.Alike.{Alike}
+use Rattle.reading.specs.Calls.{Call}
+use Rattle.reading.specs.Runs.{runOf, seenOf, Untouched, written}
+use Rattle.reading.specs.Alike.{Alike}
 use Rattle.third.specs.Sequences as sequences
 
 pub record Third (r : ℕ) (v w : Vcpu) (cs : List Call) : Type 0 where

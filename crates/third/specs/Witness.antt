@@ -24,18 +24,19 @@ use Rattle.regs.specs.declared.Vcpu.{Vcpu}
 use Rattle.regs.specs.Record.{valueOf, stored, moved, timed, pended, eventNumber, bumped, counted, waitingAsk, isIdle, listed}
 use Rattle.regs.specs.Effects.{applied, noArgs, finishedOf, askingOf, failedOf, refusedOf, doneOf}
 use Rattle.ecall.specs.Calls.{notSupportedOf, lesserOf, timeOf, spiOf, hsmOf, srstOf, spanOf, consoleOf, dbcnOf, rfncOf, callOf}
-use Rattle.ecall_effect.specs.Doing.{returnsOf, movesOf, staysOf, asksOf, setTimerOf, hypercallOf, callEffect}
+use Rattle.ecall_effect.specs.Doing.{callEffect}
+use Rattle.deeds.specs.Deeds.{returnsOf, movesOf, staysOf, asksOf, setTimerOf, hypercallOf}
 use Rattle.fetch.specs.Faults.{askFetchOf, missedOf, trapStatusOf, injectedOf, missedEffect}
 use Rattle.virtual_inst.specs.Stimecmp as virtual
 use Rattle.page_fault.specs.Mmio.{loadOf, storeOf, faultOf, faultEffect}
 use Rattle.answers.specs.Answers.{copiedOf, answeredOf, answeredEffect, completedOf}
 use Rattle.trap.specs.Traps.{argumentsOf, sbiOf, stimecmpOf, mmioOf, pageFaultOf, causeOf, trapOf, startedOf, startEffect}
-use Rattle.trap.specs.Resume as resume
-use Rattle.vcpu.specs.Calls.{startOf, answerOf, completeLoadOf, printCount, firstOf, printedOf}
-use Rattle.third.specs.Calls.{Call, start, answer, completeLoad, print}
-use Rattle.third.specs.Table.{a0, a1, a2, a3, a4, a5, a7, sourceNames, forwardNames, timeNames, srstNames, spiNames, hsmNames, consoleNames, byteNames, dbcnNames, eidNames, ecallNames, funct3Names, stimecmpNames, storeNames, causeNames, accessNames, wordNames, fetchNames, answerNames, namesOf, readsOf}
-use Rattle.third.specs.Runs.{unchanged, outcomeOf, bytesOf, sightOf, stepOf, runOf, seenOf, Apart, Untouched}
-use Rattle.third.specs.Alike.{Alike}
+use Rattle.resume.specs.Resume as resume
+use Rattle.calls.specs.Calls.{startOf, answerOf, completeLoadOf, printCount, firstOf, printedOf}
+use Rattle.reading.specs.Calls.{Call, start, answer, completeLoad, print}
+use Rattle.reading.specs.Table.{a0, a1, a2, a3, a4, a5, a7, sourceNames, forwardNames, timeNames, srstNames, spiNames, hsmNames, consoleNames, byteNames, dbcnNames, eidNames, ecallNames, funct3Names, stimecmpNames, storeNames, causeNames, accessNames, wordNames, fetchNames, answerNames, namesOf, readsOf}
+use Rattle.reading.specs.Runs.{unchanged, outcomeOf, bytesOf, sightOf, stepOf, runOf, seenOf, Apart, Untouched}
+use Rattle.reading.specs.Alike.{Alike}
 use Rattle.third.specs.Shown.{recordOf, other, Met, exitNumbers, askNumbers, replyNumbers, sightNumbers, toldOf, sameList, Row, matters, allMatter}
 
 other-alike : (r n : ℕ) (v : Vcpu) → length (v .x) ≡ 32 → Alike r v (other r n v)

@@ -25,10 +25,10 @@ use Rattle.regs.specs.declared.Waiting.the-variants as waiting
 use Rattle.regs.specs.declared.Writes.{Writes}
 use Rattle.regs.specs.declared.Writes.the-variants as writes
 use Rattle.regs.specs.Record.{isIdle}
-use Rattle.third.specs.Calls.{Call, setup, setEntry, getGpr, setGpr, setReturn, paging, pending, latch, completeIpi, start, answer, completeLoad, print}
-use Rattle.third.specs.Table.{a0, a1, a2, a6, a7, sourceNames, forwardNames, timeNames, srstNames, spiNames, hsmNames, consoleNames, byteNames, dbcnNames, eidNames, ecallNames, funct3Names, stimecmpNames, storeNames, causeNames, accessNames, wordNames, fetchNames, answerNames, namesOf, readsOf}
-use Rattle.third.specs.Runs.{stepOf, Apart, Untouched, effectOf, wrote, written}
-use Rattle.third.specs.Alike.{Alike}
+use Rattle.reading.specs.Calls.{Call, setup, setEntry, getGpr, setGpr, setReturn, paging, pending, latch, completeIpi, start, answer, completeLoad, print}
+use Rattle.reading.specs.Table.{a0, a1, a2, a6, a7, sourceNames, forwardNames, timeNames, srstNames, spiNames, hsmNames, consoleNames, byteNames, dbcnNames, eidNames, ecallNames, funct3Names, stimecmpNames, storeNames, causeNames, accessNames, wordNames, fetchNames, answerNames, namesOf, readsOf}
+use Rattle.reading.specs.Runs.{stepOf, Apart, Untouched, effectOf, wrote, written}
+use Rattle.reading.specs.Alike.{Alike}
 use Rattle.third.specs.Third.{Third, third}
 
 none : Apart 0 []

@@ -23,8 +23,8 @@ use Rattle.regs.specs.declared.Vcpu.{Vcpu}
 use Rattle.regs.specs.declared.Waiting.{Waiting}
 use Rattle.regs.specs.declared.Writes.the-variants as writes
 use Rattle.regs.specs.Record.{bumped, counted, eventNumber, stored}
-use Rattle.regs.specs.Effects.{applied}
-use Rattle.vcpu.specs.Calls.{answerOf, completeIpiOf, completeLoadOf, latchOf, pagingOf, pendingOf, setEntryOf, setGprOf, setReturnOf, setupOf, startOf, unlessAsking}
+use Rattle.regs.specs.Effects.{applied, unlessAsking}
+use Rattle.calls.specs.Calls.{answerOf, completeIpiOf, completeLoadOf, latchOf, pagingOf, pendingOf, setEntryOf, setGprOf, setReturnOf, setupOf, startOf}
 use Rattle.total.specs.Leaves.{Asked, Failed, Left, Says, Sound, Unchanged, Waits}
 use Rattle.total.specs.Sound.{any-done-sound, answer-sound, completed-sound, guarded-sound, paging-sound, pending-sound, start-sound, write-sound}
 

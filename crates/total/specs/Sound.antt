@@ -26,7 +26,8 @@ use Rattle.regs.specs.Record.{isIdle, waitingAsk}
 use Rattle.regs.specs.Effects.{askingOf, doneOf, failedOf, finishedOf, guardedOf, refusedOf}
 use Rattle.ecall.specs.declared.Call.{Call}
 use Rattle.ecall.specs.declared.Call.the-variants as call
-use Rattle.ecall_effect.specs.Doing.{asksOf, callEffect, clearIpiOf, hypercallOf, movesOf, returnsOf, setTimerOf, staysOf}
+use Rattle.ecall_effect.specs.Doing.{callEffect}
+use Rattle.deeds.specs.Deeds.{asksOf, clearIpiOf, hypercallOf, movesOf, returnsOf, setTimerOf, staysOf}
 use Rattle.fetch.specs.declared.Missed.{Missed}
 use Rattle.fetch.specs.declared.Missed.the-variants as missed
 use Rattle.fetch.specs.Faults.{askFetchOf, missedEffect}
@@ -41,7 +42,7 @@ use Rattle.answers.specs.declared.Answered.the-variants as answered
 use Rattle.answers.specs.Answers.{answeredEffect, completedOf}
 use Rattle.host_calls.specs.HostCalls.{pagingBy, pagingEffect, pendingBy, pendingEffect, writeEffect}
 use Rattle.trap.specs.Traps.{causeOf, externalOf, mmioOf, otherOf, pageFaultOf, sbiOf, startEffect, startedOf, stimecmpOf, trapOf}
-use Rattle.trap.specs.Resume.{answerEffect, continuedOf, fetchedOf, matchedOf, plainOf, resumedOf}
+use Rattle.resume.specs.Resume.{answerEffect, continuedOf, fetchedOf, matchedOf, plainOf, resumedOf}
 use Rattle.total.specs.Leaves.{Sound, Says, Left, Failed, Unchanged, Ended, AtMostIllegal, quiet, illegal, Asked, Waits, Loads, fetch-csr, fetch-fault, copy-mask, copy-in, print, read-console, copy-out, put-char, put-byte, get-char, forward, load}
 
 -- one of two by a test

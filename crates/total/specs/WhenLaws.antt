@@ -39,10 +39,11 @@ use Rattle.regs.specs.declared.Waiting.{Waiting}
 use Rattle.regs.specs.declared.Waiting.the-variants as waiting
 use Rattle.regs.specs.declared.Writes.{Writes}
 use Rattle.regs.specs.Record.{isIdle, waitingAsk}
-use Rattle.regs.specs.Effects.{applied, askingOf, doneOf, failedOf, finishedOf, guardedOf, refusedOf}
+use Rattle.regs.specs.Effects.{applied, askingOf, doneOf, failedOf, finishedOf, guardedOf, refusedOf, unlessAsking}
 use Rattle.ecall.specs.declared.Call.{Call}
 use Rattle.ecall.specs.declared.Call.the-variants as call
-use Rattle.ecall_effect.specs.Doing.{asksOf, callEffect, clearIpiOf, hypercallOf, movesOf, returnsOf, setTimerOf, staysOf}
+use Rattle.ecall_effect.specs.Doing.{callEffect}
+use Rattle.deeds.specs.Deeds.{asksOf, clearIpiOf, hypercallOf, movesOf, returnsOf, setTimerOf, staysOf}
 use Rattle.fetch.specs.Faults.{askFetchOf, missedEffect, missedOf}
 use Rattle.virtual_inst.specs.declared.Csr.{Csr}
 use Rattle.virtual_inst.specs.declared.Csr.the-variants as csr
@@ -53,8 +54,8 @@ use Rattle.answers.specs.declared.Answered.the-variants as answered
 use Rattle.answers.specs.Answers.{answeredEffect, answeredOf, completedOf, copiedOf, copiedOutOf, maskOf, readOf}
 use Rattle.host_calls.specs.HostCalls.{pagingBy, pagingEffect, pendingBy, pendingEffect, writeEffect}
 use Rattle.trap.specs.Traps.{causeOf, externalOf, mmioOf, otherOf, pageFaultOf, sbiOf, startEffect, startedOf, stimecmpOf, trapOf}
-use Rattle.trap.specs.Resume.{answerEffect, continuedOf, fetchedOf, matchedOf, plainOf, resumedOf}
-use Rattle.vcpu.specs.Calls.{answerOf, completeIpiOf, completeLoadOf, getGprOf, latchOf, pagingOf, pendingOf, setEntryOf, setGprOf, setReturnOf, setupOf, startOf, unlessAsking}
+use Rattle.resume.specs.Resume.{answerEffect, continuedOf, fetchedOf, matchedOf, plainOf, resumedOf}
+use Rattle.calls.specs.Calls.{answerOf, completeIpiOf, completeLoadOf, getGprOf, latchOf, pagingOf, pendingOf, setEntryOf, setGprOf, setReturnOf, setupOf, startOf}
 use Rattle.third.specs.Kinds.{csrFunct3, onStimecmp}
 use Rattle.total.specs.When.{is, gives, Class, ecall, virtual-instruction, page-fault, host-interrupt, not-handled, unknown, classOf, otherWord, otherStval, classWhen, startWhen, wordWhen, fetchWhen, fittingWhen, answerWhen, loadWaits, loadWhen, changingWhen, indexAllowed, pagingAllowed, vectorAllowed}
 

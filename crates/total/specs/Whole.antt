@@ -14,7 +14,7 @@ use Rattle.regs.specs.declared.Outcome.{Outcome}
 use Rattle.regs.specs.declared.Vcpu.{Vcpu}
 use Rattle.regs.specs.declared.Waiting.the-variants as waiting
 use Rattle.regs.specs.Record.{counted}
-use Rattle.vcpu.specs.Calls.{startOf, answerOf}
+use Rattle.calls.specs.Calls.{startOf, answerOf}
 
 -- answers given one after the other, in turn or not
 unfoldable pub carried : Outcome → List Answer → Outcome

@@ -35,7 +35,8 @@ use Rattle.regs.specs.Record.{counted, bumped, eventNumber, isIdle, stored, wai
 use Rattle.regs.specs.Effects.{applied, askingOf, failedOf, finishedOf, refusedOf}
 use Rattle.ecall.specs.declared.Call.{Call}
 use Rattle.ecall.specs.declared.Call.the-variants as call
-use Rattle.ecall_effect.specs.Doing.{asksOf, callEffect, clearIpiOf, hypercallOf, movesOf, returnsOf, setTimerOf, staysOf}
+use Rattle.ecall_effect.specs.Doing.{callEffect}
+use Rattle.deeds.specs.Deeds.{asksOf, clearIpiOf, hypercallOf, movesOf, returnsOf, setTimerOf, staysOf}
 use Rattle.fetch.specs.declared.Missed.{Missed}
 use Rattle.fetch.specs.declared.Missed.the-variants as missed
 use Rattle.fetch.specs.Faults.{askFetchOf, missedEffect}
@@ -49,8 +50,8 @@ use Rattle.answers.specs.declared.Answered.{Answered}
 use Rattle.answers.specs.declared.Answered.the-variants as answered
 use Rattle.answers.specs.Answers.{answeredEffect}
 use Rattle.trap.specs.Traps.{causeOf, externalOf, mmioOf, otherOf, pageFaultOf, sbiOf, startEffect, startedOf, stimecmpOf, trapOf}
-use Rattle.trap.specs.Resume.{answerEffect, continuedOf, fetchedOf, matchedOf, plainOf, resumedOf}
-use Rattle.vcpu.specs.Calls.{startOf, answerOf}
+use Rattle.resume.specs.Resume.{answerEffect, continuedOf, fetchedOf, matchedOf, plainOf, resumedOf}
+use Rattle.calls.specs.Calls.{startOf, answerOf}
 use Rattle.total.specs.Leaves.{AtMostIllegal, Ended, Failed, Says, Sound}
 use Rattle.total.specs.Leaves as leaves
 use Rattle.total.specs.Sound.{start-sound, answer-sound}

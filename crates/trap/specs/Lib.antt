@@ -1,2 +1,1 @@
 pub mod Traps
-pub mod Resume

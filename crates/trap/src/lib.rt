@@ -1,7 +1,6 @@
 // One trap: its class by scause, and how the host's answers carry it on. The work of each class is in its own crate.
 ghost use mathlib.Core.Path.{_≡_};
 ghost use Rattle.trap.specs.Traps.{argumentsOf, externalOf, otherOf, pageFaultOf, sbiOf, startEffect, startedOf, stimecmpOf, mmioOf, trapOf};
-ghost use Rattle.trap.specs.Resume.{answerEffect, continuedOf, fetchedOf, matchedOf, plainOf, resumedOf};
 use decoder::Trapped;
 use regs::Csrs;
 use regs::Effect;
@@ -9,11 +8,9 @@ use regs::Event;
 use regs::Waiting;
 use regs::Writes;
 use types::Access;
-use types::Answer;
 use types::Args;
 use types::Error;
 use types::Exit;
-use types::Fetch;
 use types::GuestPhysAddr;
 use types::Trap;
 
@@ -24,20 +21,13 @@ pub fn start(x: [u64; 32], c: Csrs, w: Waiting, t: Trap) -> Effect
     started(regs::is_idle(w), x, c, w, t)
 }
 
-// Carries a trap on with the host's answer.
-pub fn answer(x: [u64; 32], c: Csrs, w: Waiting, a: Answer) -> Effect
-    ensures { λ r. ⌜ r ≡ answerEffect x c w a ⌝ }
-{
-    matched(regs::ask_of(w), types::answer_number(a), x, c, w, a)
-}
-
 fn started(idle: bool, x: [u64; 32], c: Csrs, w: Waiting, t: Trap) -> Effect
     ensures { λ r. ⌜ r ≡ startedOf idle x c w t ⌝ }
 {
     if idle {
         return trap(x, c, t);
     }
-    regs::refused(c, w, Error::BadState)
+    effects::refused(c, w, Error::BadState)
 }
 
 // The classes of traps, by scause.
@@ -94,7 +84,7 @@ fn page_fault_trap(x: [u64; 32], c: Csrs, t: Trap, access: Access) -> Effect
 }
 
 // A load or store of a device, once its instruction is known.
-fn mmio(x: [u64; 32], c: Csrs, at: GuestPhysAddr, access: Access, i: Trapped) -> Effect
+pub fn mmio(x: [u64; 32], c: Csrs, at: GuestPhysAddr, access: Access, i: Trapped) -> Effect
     ensures { λ r. ⌜ r ≡ mmioOf x c at access i ⌝ }
 {
     let source = regs::register(x, decoder::store_source(i));
@@ -104,7 +94,7 @@ fn mmio(x: [u64; 32], c: Csrs, at: GuestPhysAddr, access: Access, i: Trapped) ->
 fn external(c: Csrs, vector: u64) -> Effect
     ensures { λ r. ⌜ r ≡ externalOf c vector ⌝ }
 {
-    regs::finished(
+    effects::finished(
         c,
         Event::Quiet,
         Writes::Keep,
@@ -116,80 +106,7 @@ fn other(c: Csrs, known: bool) -> Effect
     ensures { λ r. ⌜ r ≡ otherOf c known ⌝ }
 {
     if known {
-        return regs::failed(c, Event::Quiet, Error::Unsupported);
+        return effects::failed(c, Event::Quiet, Error::Unsupported);
     }
-    regs::failed(c, Event::Quiet, Error::InvalidTrap)
-}
-
-// An answer of another ask's kind, or to no ask, is refused.
-fn matched(ask: u64, number: u64, x: [u64; 32], c: Csrs, w: Waiting, a: Answer) -> Effect
-    ensures { λ r. ⌜ r ≡ matchedOf ask number x c w a ⌝ }
-{
-    if ask == number {
-        return continued(x, c, w, a);
-    }
-    regs::refused(c, w, Error::WrongAnswer)
-}
-
-fn continued(x: [u64; 32], c: Csrs, w: Waiting, a: Answer) -> Effect
-    ensures { λ r. ⌜ r ≡ continuedOf x c w a ⌝ }
-{
-    match a {
-        Answer::Fetched(f) => fetched(x, c, w, f),
-        Answer::MaskCopied { count, bytes } => plain(c, w, count, bytes),
-        Answer::CopiedIn { count } => plain(c, w, count, 0),
-        Answer::Printed { error, value } => plain(c, w, error, value),
-        Answer::ConsoleRead { error, value } => plain(c, w, error, value),
-        Answer::CopiedOut { count } => plain(c, w, count, 0),
-        Answer::Emitted => plain(c, w, 0, 0),
-        Answer::Char { number } => plain(c, w, number, 0),
-        Answer::Forwarded { error, value } => plain(c, w, error, value),
-    }
-}
-
-fn plain(c: Csrs, w: Waiting, word: u64, more: u64) -> Effect
-    ensures { λ r. ⌜ r ≡ plainOf c w word more ⌝ }
-{
-    answers::effect(c, w, answers::decide(w, word, more))
-}
-
-// A fetch gave a word, or its fault is handled.
-fn fetched(x: [u64; 32], c: Csrs, w: Waiting, f: Fetch) -> Effect
-    ensures { λ r. ⌜ r ≡ fetchedOf x c w f ⌝ }
-{
-    let Fetch::Word(word) = f else {
-        return fetch::effect(c, fetch::decide(f));
-    };
-    resumed(x, c, w, word)
-}
-
-// The trap goes on with the word that was fetched.
-fn resumed(x: [u64; 32], c: Csrs, w: Waiting, word: u32) -> Effect
-    ensures { λ r. ⌜ r ≡ resumedOf x c w word ⌝ }
-{
-    match w {
-        Waiting::Idle => regs::refused(c, w, Error::WrongAnswer),
-        Waiting::Load {
-            rd: _,
-            width: _,
-            signed: _,
-        } => regs::refused(c, w, Error::WrongAnswer),
-        Waiting::FetchCsr => {
-            let wide = word as u64;
-            let rs1 = regs::register(x, fields::rs1(wide));
-            virtual_inst::effect(c, virtual_inst::decide(wide, c.vs.vstimecmp, rs1))
-        }
-        Waiting::FetchFault { at, access } => {
-            mmio(x, c, at, access, decoder::from_fetched(word))
-        }
-        Waiting::CopyMask => regs::refused(c, w, Error::WrongAnswer),
-        Waiting::CopyIn { count: _ } => regs::refused(c, w, Error::WrongAnswer),
-        Waiting::Print { count: _ } => regs::refused(c, w, Error::WrongAnswer),
-        Waiting::ReadConsole { count: _, at: _ } => regs::refused(c, w, Error::WrongAnswer),
-        Waiting::CopyOut { count: _ } => regs::refused(c, w, Error::WrongAnswer),
-        Waiting::PutChar => regs::refused(c, w, Error::WrongAnswer),
-        Waiting::PutByte => regs::refused(c, w, Error::WrongAnswer),
-        Waiting::GetChar => regs::refused(c, w, Error::WrongAnswer),
-        Waiting::Forward => regs::refused(c, w, Error::WrongAnswer),
-    }
+    effects::failed(c, Event::Quiet, Error::InvalidTrap)
 }

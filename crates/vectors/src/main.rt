@@ -101,8 +101,8 @@ fn answered(task: Task, input: u64) -> u64 {
         Task::Decode => of_decoded(decoder::decode(input)),
         Task::Fetched => of_trapped(decoder::from_fetched((input % 0x1_0000_0000) as u32)),
         Task::Htinst => of_trapped(decoder::from_htinst(input)),
-        Task::Load(width, signed) => decoder::extend(width, signed, input),
-        Task::Store(width) => decoder::cut(width, input),
+        Task::Load(width, signed) => extension::extend(width, signed, input),
+        Task::Store(width) => extension::cut(width, input),
     }
 }
 
@@ -113,11 +113,11 @@ fn of_decoded(d: Decoded) -> u64
 {
     match d {
         Decoded::Load { width, signed, rd } => 0x1_0000
-            + types::width_bytes(width) % 16 * 0x1000
+            + numbers::width_bytes(width) % 16 * 0x1000
             + sign(signed)
             + (rd % 256) as u64,
         Decoded::Store { width, rs2 } => 0x2_0000
-            + types::width_bytes(width) % 16 * 0x1000
+            + numbers::width_bytes(width) % 16 * 0x1000
             + (rs2 % 256) as u64,
         Decoded::Neither => 0,
     }

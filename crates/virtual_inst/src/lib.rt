@@ -38,11 +38,11 @@ pub fn effect(c: Csrs, d: Csr) -> Effect
     ensures { λ r. ⌜ r ≡ csrEffect c d ⌝ }
 {
     match d {
-        Csr::Illegal => regs::failed(c, Event::IllegalInsn, Error::Unsupported),
+        Csr::Illegal => effects::failed(c, Event::IllegalInsn, Error::Unsupported),
         Csr::Fetch => fetch::ask(c, Waiting::FetchCsr),
         Csr::Write { rd, timer } => {
             let armed = regs::with_timer(c, timer);
-            regs::finished(
+            effects::finished(
                 regs::advance(armed, 4),
                 Event::Quiet,
                 Writes::One(rd, c.vs.vstimecmp),

@@ -1,10 +1,13 @@
 //! One trap on both sides, and whether the two agree but for the switches.
 
+use scripted::Request;
+
 use crate::input::Input;
 use crate::outcome::*;
 use crate::rust_side::RustSide;
 use crate::subject::{run_trap, Subject};
-use crate::switches::{adjust, rust_input, Board};
+use crate::switches::{self, adjust, by_model, rust_input, Board, Switch};
+use crate::words::{virtual_word, writes_stimecmp};
 
 /// The Rust is not run where it would allocate more than this for a console.
 const MOST: u64 = 1 << 20;
@@ -13,7 +16,7 @@ const MOST: u64 = 1 << 20;
 pub struct Pair {
     pub rust: Outcome,
     pub subject: Outcome,
-    /// The Rust was given, or left with, another record than 01's.
+    /// A switch was used, so that the Rust may hold another record than 01's.
     pub adjusted: bool,
 }
 
@@ -34,13 +37,28 @@ pub fn run_both(
 ) -> Pair {
     let used = board.used;
     let given = rust_input(board, input);
-    let given_other = board.used != used;
+    let given_other = given.record != input.record || given.stale != input.stale;
+    let not_shown = if given_other { parts_from_twin(rust, input) } else { None };
     if !loaded || given_other {
         rust.load(&given.record, given.bound, given.stale);
     }
     if !loaded {
         subject.load(&input.record);
     }
+    let mut by_rust = run_rust(board, rust, &given);
+    adjust(board, input, &mut by_rust);
+    if let Some(switch) = not_shown {
+        switches::not_shown(&mut by_rust, switch);
+    }
+    Pair {
+        rust: by_rust,
+        subject: run_trap(subject, &input.trap, &input.script),
+        adjusted: board.used != used,
+    }
+}
+
+/// Runs the Rust, which holds the given input's record.
+fn run_rust(board: &mut Board, rust: &mut RustSide, given: &Input) -> Outcome {
     let x = &given.record.x;
     let huge = given.trap.scause == 10 && x[17] == model::EID_DBCN && x[16] <= 1 && x[10] > MOST;
     let mut by_rust = if huge {
@@ -48,10 +66,50 @@ pub fn run_both(
     } else {
         rust.run_trap(&given.trap, &given.script)
     };
-    let changed = adjust(board, input, &mut by_rust);
-    Pair {
-        rust: by_rust,
-        subject: run_trap(subject, &input.trap, &input.script),
-        adjusted: given_other || changed,
+    let panicked = by_rust.ending.kind == PANIC && given.record.sepc > u64::MAX - 4;
+    if panicked && board.takes(Switch::SepcOverflow) {
+        undo_panic(rust, given, &mut by_rust);
+    }
+    by_rust
+}
+
+/// Where the Rust is given another input, it must do with the true one what
+/// 01 does with its twin; otherwise the switch that does not show.
+fn parts_from_twin(rust: &mut RustSide, input: &Input) -> Option<Switch> {
+    let (switch, twin) = switches::twin(input)?;
+    rust.load(&input.record, input.bound, input.stale);
+    let board = &mut Board::all_on();
+    let mut by_rust = run_rust(board, rust, input);
+    // The twin has the saved vstimecmp, and a live one that is only read stays.
+    let writes = virtual_word(input).is_some_and(|(word, _)| writes_stimecmp(word));
+    let stays = !writes && by_rust.record.vstimecmp == input.record.vstimecmp;
+    if switch == Switch::CachedVstimecmp && stays {
+        by_rust.record.vstimecmp = twin.record.vstimecmp;
+    }
+    adjust(board, &twin, &mut by_rust);
+    (by_rust != by_model(&twin)).then_some(switch)
+}
+
+/// A build with overflow checks panics where sepc passes 2^64. The outcome
+/// becomes what the Rust does from a lower sepc, moved back, if the panic left
+/// what that leaves before sepc moves: all effects of an ecall or CSR access,
+/// none of a load or store.
+fn undo_panic(rust: &mut RustSide, given: &Input, by_rust: &mut Outcome) {
+    const LOWER: u64 = 16;
+    let mut record = given.record.clone();
+    record.sepc -= LOWER;
+    rust.load(&record, given.bound, given.stale);
+    let mut done = rust.run_trap(&given.trap, &given.script);
+    done.record.sepc = done.record.sepc.wrapping_add(LOWER);
+    for request in &mut done.requests {
+        if let Request::Fetch { at, .. } = request {
+            *at += LOWER;
+        }
+    }
+    let mut stopped = Outcome { ending: by_rust.ending, accesses: [0; 2], ..done.clone() };
+    stopped.record.sepc = given.record.sepc;
+    stopped.record.waiting = given.record.waiting;
+    if *by_rust == stopped {
+        *by_rust = done;
     }
 }

@@ -1,15 +1,26 @@
 //! Differential runs: random traps on the published Rust and on a subject.
 
+#[cfg(has_abi)]
+mod abi;
 mod calls;
 mod captures;
 mod compare;
+mod constants;
+#[cfg(test)]
+mod faults;
 mod generate;
+#[cfg(has_in_place)]
+mod in_place;
 mod input;
 mod instructions;
 mod options;
 mod outcome;
 mod random;
+#[cfg(any(has_abi, has_in_place))]
+#[cfg_attr(not(has_abi), allow(dead_code))]
+mod record_words;
 mod refusals;
+mod run;
 mod rust_side;
 mod sequence;
 mod shrink;
@@ -18,23 +29,22 @@ mod smallest;
 mod subject;
 mod switches;
 mod tally;
+#[cfg(has_abi)]
+mod wild_words;
 mod words;
 
 use std::process::ExitCode;
-use std::time::Instant;
 
-use compare::run_both;
-use input::Input;
-use options::{Mode, Options};
+use options::{Mode, Options, SubjectName};
 use random::Random;
+use run::Run;
 use rust_side::RustSide;
-use sequence::Parted;
 use subject::{Model, Subject};
-use switches::Board;
-use tally::Tally;
+use switches::{Board, Switch, SWITCHES};
 
-/// A run stops after so many mismatches.
-const ENOUGH: u64 = 3;
+/// What a fetch may answer.
+const FETCHES: [&str; 6] =
+    ["word", "page fault", "access fault", "misaligned", "guest page fault", "unhandled"];
 
 fn main() -> ExitCode {
     let options = match options::read(std::env::args().skip(1)) {
@@ -46,14 +56,106 @@ fn main() -> ExitCode {
     };
     // A panic in the published text is an outcome, not a message.
     std::panic::set_hook(Box::new(|_| {}));
-    let mut subject = Model(model::Vcpu::zero());
+    let Some(mut subject) = subject_named(options.subject) else {
+        println!("this program was built without that part of the proved library");
+        println!("set VCPU_ABI (abi) or VCPU_IN_PLACE (in-place) to the crate's archive, as");
+        println!("tools/archive writes it, and build again");
+        return ExitCode::from(2);
+    };
+    let subject = subject.as_mut();
     if options.captures.is_some() {
-        return write_captures(options, &mut subject);
+        return write_captures(options, subject);
     }
-    match options.mode {
-        Mode::Refusals => run_refusals(&options, &mut subject),
-        _ => run(options, &mut subject),
+    let passed = match options.mode {
+        Mode::Refusals => run_refusals(&options, subject),
+        Mode::Words if options.subject != SubjectName::Abi => {
+            println!("mode words makes calls of crate abi: give --subject abi");
+            false
+        }
+        Mode::Words => run_words(&options),
+        Mode::Switches => run_switches(&options, subject),
+        _ => run_traps(&options, subject),
+    };
+    if passed {
+        ExitCode::SUCCESS
+    } else {
+        ExitCode::FAILURE
     }
+}
+
+/// The subject of that name, where this program was built with it.
+fn subject_named(name: SubjectName) -> Option<Box<dyn Subject>> {
+    match name {
+        SubjectName::Model => Some(Box::new(Model(model::Vcpu::zero()))),
+        #[cfg(has_abi)]
+        SubjectName::Abi => Some(Box::new(abi::Abi([0; 58]))),
+        #[cfg(has_in_place)]
+        SubjectName::InPlace => Some(Box::new(in_place::InPlace([0; 58]))),
+        #[cfg(not(all(has_abi, has_in_place)))]
+        _ => None,
+    }
+}
+
+/// The run of a command line: true if all agreed and everything was reached.
+fn run_traps(options: &Options, subject: &mut dyn Subject) -> bool {
+    println!("seed {}, subject {}", options.seed, subject.name());
+    let mut run = Run::new(options, options.board.clone(), subject);
+    run.go();
+    let missed = run.tally.print(&run.board, &options.only);
+    for name in &missed {
+        println!("not reached: {name}");
+    }
+    println!("{} traps, {} unexplained", run.tally.traps, run.tally.unexplained);
+    run.tally.unexplained == 0 && missed.is_empty()
+}
+
+/// A run for each switch with it alone off: true if each shows its
+/// difference.
+fn run_switches(options: &Options, subject: &mut dyn Subject) -> bool {
+    println!("seed {}, subject {}", options.seed, subject.name());
+    let mut needed = true;
+    for (switch, name, _) in SWITCHES {
+        if switch == Switch::SepcOverflow && !RustSide::checks_overflow() {
+            println!("\nswitch {name}: this build has no overflow checks");
+            continue;
+        }
+        let mut board = Board::all_on();
+        board.turn_off(name);
+        let mut run = Run::new(options, board, subject);
+        run.enough = 1;
+        println!("\nswitch {name} off");
+        run.go();
+        if run.tally.unexplained == 0 {
+            println!("no mismatch in {} traps: nothing shows that it is needed", run.tally.traps);
+            needed = false;
+        } else {
+            println!("mismatch after {} traps", run.tally.traps);
+        }
+    }
+    println!("\n{}", if needed { "every switch is needed" } else { "a switch is not needed" });
+    needed
+}
+
+#[cfg(has_abi)]
+fn run_words(options: &Options) -> bool {
+    println!("seed {}, subject abi", options.seed);
+    let mut random = Random::new(options.seed);
+    let mut tally = wild_words::Tally::default();
+    while tally.calls < options.traps {
+        if let Err(text) = wild_words::one(&mut random, &mut tally) {
+            println!("mismatch: {text}\n1 unexplained");
+            return false;
+        }
+    }
+    tally.print();
+    println!("{} calls, 0 unexplained", tally.calls);
+    tally.reached_all()
+}
+
+/// Not reached: main has said that the library is missing.
+#[cfg(not(has_abi))]
+fn run_words(_options: &Options) -> bool {
+    false
 }
 
 fn write_captures(mut options: Options, subject: &mut dyn Subject) -> ExitCode {
@@ -61,9 +163,20 @@ fn write_captures(mut options: Options, subject: &mut dyn Subject) -> ExitCode {
     let mut random = Random::new(options.seed);
     let mut rust = RustSide::new();
     match captures::write(&folder, &mut random, &mut options.board, &mut rust, subject) {
-        Ok(traps) => {
-            println!("{traps} traps in {}", folder.display());
-            ExitCode::SUCCESS
+        Ok(reached) => {
+            let mut missed = reached.tally.print(&options.board, &options.only);
+            for (name, count) in FETCHES.iter().zip(reached.fetches) {
+                println!("fetch   {name:24}{count:>12}");
+                if count == 0 {
+                    missed.push(format!("fetch {name}"));
+                }
+            }
+            println!("        loads of a register{:>17}", reached.loads);
+            for name in &missed {
+                println!("not reached: {name}");
+            }
+            println!("{} traps in {}", reached.tally.traps + reached.loads, folder.display());
+            if missed.is_empty() { ExitCode::SUCCESS } else { ExitCode::FAILURE }
         }
         Err(error) => {
             println!("{error}");
@@ -72,14 +185,16 @@ fn write_captures(mut options: Options, subject: &mut dyn Subject) -> ExitCode {
     }
 }
 
-fn run_refusals(options: &Options, subject: &mut dyn Subject) -> ExitCode {
+/// True if all agreed and every number was refused.
+fn run_refusals(options: &Options, subject: &mut dyn Subject) -> bool {
+    println!("seed {}, subject {}", options.seed, subject.name());
     let mut random = Random::new(options.seed);
     let mut refused = [0; 8];
     let mut calls = 0;
     while calls < options.traps {
         if let Err(text) = refusals::run(&mut random, options.length, subject, &mut refused) {
             println!("mismatch: {text}\n1 unexplained");
-            return ExitCode::FAILURE;
+            return false;
         }
         calls += options.length;
     }
@@ -89,87 +204,7 @@ fn run_refusals(options: &Options, subject: &mut dyn Subject) -> ExitCode {
     println!("{calls} calls, 0 unexplained");
     if refused[1..].contains(&0) {
         println!("a number was not reached");
-        return ExitCode::FAILURE;
+        return false;
     }
-    ExitCode::SUCCESS
-}
-
-fn run(mut options: Options, subject: &mut dyn Subject) -> ExitCode {
-    let board = &mut options.board;
-    let classes: Vec<usize> =
-        (0..options.only.len()).filter(|&class| options.only[class]).collect();
-    let mut random = Random::new(options.seed);
-    let mut rust = RustSide::new();
-    let mut tally = Tally::new();
-    let started = Instant::now();
-    let mut next_report = 0;
-    println!("seed {}, subject {}", options.seed, subject.name());
-    if RustSide::fresh(7, 0x9000) != model::Vcpu::new(7, 0x9000) {
-        println!("mismatch: the record of a new vCPU");
-        tally.unexplained += 1;
-    }
-    while tally.traps < options.traps && tally.unexplained < ENOUGH {
-        if tally.traps >= next_report {
-            eprint!("\r{} of {} traps, {} s ", tally.traps, options.traps, started.elapsed().as_secs());
-            next_report += options.traps.div_ceil(100);
-        }
-        let r = &mut random;
-        let single = match options.mode {
-            Mode::Single => true,
-            Mode::Both => r.coin(),
-            Mode::Sequence | Mode::Refusals => false,
-        };
-        if single {
-            for _ in 0..1000.min(options.traps - tally.traps) {
-                let class = r.pick(&classes);
-                let record = generate::record(r);
-                let input = generate::input(r, class, record);
-                let pair = run_both(board, &mut rust, subject, &input, false);
-                tally.trap(class, &pair.subject);
-                if !pair.agree() {
-                    tally.unexplained += 1;
-                    report(board, &mut rust, subject, input);
-                    break;
-                }
-            }
-        } else {
-            let length = options.length.min(options.traps - tally.traps);
-            let run = sequence::run(r, length, &classes, board, &mut rust, subject, &mut tally);
-            if let Err(parted) = run {
-                tally.unexplained += 1;
-                match parted {
-                    Parted::Trap(input) => report(board, &mut rust, subject, *input),
-                    Parted::Call(text) => println!("\nmismatch in a call: {text}"),
-                }
-            }
-        }
-    }
-    eprintln!("\r{} of {} traps, {} s ", tally.traps, options.traps, started.elapsed().as_secs());
-    let missed = tally.print(board, &options.only);
-    for name in &missed {
-        println!("not reached: {name}");
-    }
-    println!("{} traps, {} unexplained", tally.traps, tally.unexplained);
-    if tally.unexplained == 0 && missed.is_empty() {
-        ExitCode::SUCCESS
-    } else {
-        ExitCode::FAILURE
-    }
-}
-
-/// Shrinks a mismatch and prints it.
-fn report(board: &mut Board, rust: &mut RustSide, subject: &mut dyn Subject, input: Input) {
-    // The search is no part of the run's counts.
-    let used = board.used;
-    let alone = !run_both(board, rust, subject, &input, false).agree();
-    if alone {
-        let small =
-            shrink::shrink(input, |trial| !run_both(board, rust, subject, trial, false).agree());
-        let pair = run_both(board, rust, subject, &small, false);
-        println!("\nmismatch, smallest input:\n{}", small.print());
-        println!("{}", pair.rust.differences(&pair.subject, ("Rust", subject.name())));
-    } else {
-        println!("\nmismatch inside a sequence only, at:\n{}", input.print());
-    }
-    board.used = used;
+    true
 }

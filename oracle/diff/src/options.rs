@@ -15,12 +15,29 @@ pub enum Mode {
     Both,
     /// Calls out of turn, judged by the model; `--traps` counts calls.
     Refusals,
+    /// Calls and waiting parts of any words, judged by the model; `--traps`
+    /// counts calls.
+    Words,
+    /// A run for each switch with it off, up to the first mismatch.
+    Switches,
+}
+
+#[derive(Clone, Copy, PartialEq, Eq)]
+pub enum SubjectName {
+    Model,
+    /// The proved library by crate abi's one exported function.
+    Abi,
+    /// The proved library by crate in_place's exported functions.
+    InPlace,
 }
 
 pub struct Options {
     pub seed: u64,
     pub traps: u64,
     pub mode: Mode,
+    pub subject: SubjectName,
+    /// A run stops after so many mismatches.
+    pub enough: u64,
     /// Traps in one sequence.
     pub length: u64,
     /// Which classes are on.
@@ -31,16 +48,20 @@ pub struct Options {
 }
 
 const USAGE: &str = "\
-usage: diff [--seed N] [--traps N] [--mode single|sequence|both|refusals]
-            [--length N] [--only CLASS]... [--off SWITCH]... [--list]
-            [--captures FOLDER]
+usage: diff [--subject model|abi|in-place] [--seed N] [--traps N]
+            [--mode single|sequence|both|refusals|words|switches]
+            [--length N] [--only CLASS]... [--off SWITCH]... [--enough N]
+            [--list] [--captures FOLDER]
 
 Runs random traps on the published Rust and on the subject, and compares exit,
 requests and the whole later record. Ends with `0 unexplained` and status 0 if
 they agree but for the switches and everything was reached.
 
-Mode refusals compares calls in and out of turn on the subject and the model;
---traps counts calls there. --captures writes captures for the replay program
+Mode refusals compares calls in and out of turn on the subject and the model,
+and mode words calls of the proved library by any words with the model; --traps
+counts calls there. Mode switches turns each switch off in turn and runs up to
+--traps traps: every switch must be needed. --enough is the number of
+mismatches that ends a run. --captures writes captures for the replay program
 with the Rust's output for each, and runs nothing else.";
 
 /// The options, or the text to print instead of a run.
@@ -49,6 +70,8 @@ pub fn read(mut args: impl Iterator<Item = String>) -> Result<Options, String> {
         seed: 1,
         traps: 1_000_000,
         mode: Mode::Both,
+        subject: SubjectName::Model,
+        enough: 3,
         length: 1000,
         only: vec![false; CLASSES.len()],
         board: Board::all_on(),
@@ -65,12 +88,23 @@ pub fn read(mut args: impl Iterator<Item = String>) -> Result<Options, String> {
             "--seed" => options.seed = number(&value)?,
             "--traps" => options.traps = number(&value)?,
             "--length" => options.length = number(&value)?.max(1),
+            "--enough" => options.enough = number(&value)?.max(1),
+            "--subject" => {
+                options.subject = match value.as_str() {
+                    "model" => SubjectName::Model,
+                    "abi" => SubjectName::Abi,
+                    "in-place" => SubjectName::InPlace,
+                    _ => return Err(USAGE.into()),
+                }
+            }
             "--mode" => {
                 options.mode = match value.as_str() {
                     "single" => Mode::Single,
                     "sequence" => Mode::Sequence,
                     "both" => Mode::Both,
                     "refusals" => Mode::Refusals,
+                    "words" => Mode::Words,
+                    "switches" => Mode::Switches,
                     _ => return Err(USAGE.into()),
                 }
             }

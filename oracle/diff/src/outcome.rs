@@ -107,8 +107,8 @@ pub struct Outcome {
     pub accesses: [u64; 2],
     /// The word that the Rust's decoder refused.
     pub undecoded: Option<u32>,
-    /// Names of CSRs outside 01's record that changed, or of live CSRs that
-    /// disagree with the saved ones.
+    /// Names of CSRs outside 01's record that changed, of live CSRs that
+    /// disagree with the saved ones, and of differences that do not show.
     pub strays: Vec<&'static str>,
 }
 
@@ -143,7 +143,7 @@ impl Outcome {
         let (a, b) = both(&|o| format!("{:x?}", o.undecoded));
         line("refused by the decoder", a, b);
         let (a, b) = both(&|o| format!("{:?}", o.strays));
-        line("outside the record", a, b);
+        line("outside the record, or not shown", a, b);
         let fields = |o: &Outcome| {
             let r = &o.record;
             let mut all: Vec<(String, String)> = Vec::new();

@@ -4,14 +4,14 @@ use std::panic::{catch_unwind, AssertUnwindSafe};
 
 use model::{Call, IpiAbi, IpiCompletion, Trap, Vcpu, Waiting, Width};
 use published::host::Scripted;
-use published::regs::GprIndex;
+use published::regs::{GprIndex, VirtualHsCsrs, VsCsrs};
 use published::types::{
     RiscvAccessWidth, RiscvGuestPhysAddr, RiscvIpiAbi, RiscvIpiCompletion, RiscvNestedPagingConfig,
     RiscvVcpuError, RiscvVmExit,
 };
 use published::vcpu::RiscvVcpu;
 use published::{ipi_request, run_guest, RiscvVcpuCreateConfig};
-use scripted::{live, with_live, Script};
+use scripted::{live, with_live, Live, Script};
 
 use crate::outcome::*;
 
@@ -22,6 +22,8 @@ pub struct RustSide {
     free: RiscvVcpu<Scripted>,
     bound: RiscvVcpu<Scripted>,
     is_bound: bool,
+    /// The hart's own henvcfg when the vCPU was bound.
+    host_henvcfg: usize,
     stale: bool,
     waiting: Waiting,
     counts: [u64; 9],
@@ -34,11 +36,13 @@ impl RustSide {
             RiscvVcpu::new(0, 0, config).expect("a vCPU can be made")
         };
         let mut bound: RiscvVcpu<Scripted> = make();
+        with_live(|live| live.henvcfg = 0);
         bound.bind().expect("a vCPU can be bound");
         RustSide {
             free: make(),
             bound,
             is_bound: false,
+            host_henvcfg: 0,
             stale: false,
             waiting: Waiting::Nothing,
             counts: [0; 9],
@@ -55,6 +59,13 @@ impl RustSide {
         side.free = RiscvVcpu::new(1, 2, config).expect("a vCPU can be made");
         side.load_live();
         side.record()
+    }
+
+    /// Whether the published text was built with overflow checks.
+    pub fn checks_overflow() -> bool {
+        let mut vcpu = RustSide::new().free;
+        vcpu.regs().guest_regs.sepc = usize::MAX;
+        catch_unwind(AssertUnwindSafe(|| vcpu.advance_pc(4))).is_err()
     }
 
     fn vcpu(&mut self) -> &mut RiscvVcpu<Scripted> {
@@ -183,6 +194,58 @@ impl RustSide {
         strays
     }
 
+    /// Takes a bound vCPU off the hart and puts it back, after another guest
+    /// had the hart. 01 leaves `bind` and `unbind` out, so they must keep the
+    /// record, and leave nothing of it on the hart. The names of what is not so.
+    pub fn rebind(&mut self) -> Vec<&'static str> {
+        const STCE: usize = 1 << 63;
+        if !self.is_bound {
+            return Vec::new();
+        }
+        let another = !OUTSIDE & !STCE;
+        let before = self.record();
+        // What counts is on the hart: a guest that ran has changed it there.
+        let regs = self.bound.regs();
+        regs.vs_csrs = every_vs_csr(another);
+        regs.virtual_hs_csrs =
+            VirtualHsCsrs { hie: another, hvip: another, hgeie: another, hgatp: another };
+        scripted::begin(&Script::ZERO, self.counts);
+        let was_unbound = self.bound.unbind().is_ok();
+        let off = live();
+        let mut saved = self.record();
+        let vs = &self.bound.regs().vs_csrs;
+        saved.vstimecmp = vs.vstimecmp as u64;
+        let others = [vs.htimedelta, vs.vsatp, vs.vsie, vs.vsscratch];
+        let again = self.bound.unbind();
+        with_live(|live| {
+            *live = Live { sstatus: live.sstatus, henvcfg: another, ..every_csr(another) }
+        });
+        let was_bound = self.bound.bind().is_ok();
+        let stce = live().henvcfg == another | STCE;
+        let bound_again = self.bound.bind();
+        let noted = scripted::end();
+        let refused = Err(RiscvVcpuError::BadState);
+        with_live(|live| live.henvcfg = OUTSIDE);
+        let mut wrong = self.strays();
+        for (is_wrong, name) in [
+            (!was_unbound || again != refused, "what unbind answers"),
+            (!was_bound || bound_again != refused, "what bind answers"),
+            (!noted.requests.is_empty() || noted.counts != self.counts, "requests and events"),
+            (saved != before || others != [OUTSIDE; 4], "the saved record"),
+            (off.henvcfg != self.host_henvcfg, "henvcfg of the host"),
+            ([off.hie, off.hvip, off.hgeie, off.hgatp] != [0; 4], "the hart's CSRs"),
+            (off.vstimecmp != usize::MAX, "the hart's vstimecmp"),
+            (!stce, "henvcfg.STCE"),
+            (self.record() != before, "the record"),
+        ] {
+            if is_wrong {
+                wrong.push(name);
+            }
+        }
+        self.host_henvcfg = another;
+        wrong
+    }
+
     /// Runs one trap through the public `run`.
     pub fn run_trap(&mut self, trap: &Trap, script: &Script) -> Outcome {
         scripted::begin(script, self.counts);
@@ -199,7 +262,7 @@ impl RustSide {
                 if let RiscvVmExit::MmioRead { width, reg, reg_width, signed_ext, .. } = exit {
                     wide = reg_width == RiscvAccessWidth::Qword;
                     self.waiting = Waiting::Load {
-                        rd: reg as u8,
+                        rd: reg as u64,
                         width: model_width(width),
                         signed: signed_ext,
                     };
@@ -310,6 +373,48 @@ impl RustSide {
                 return None;
             }
         })
+    }
+}
+
+/// Saved VS CSRs that all hold one number.
+fn every_vs_csr(number: usize) -> VsCsrs {
+    VsCsrs {
+        htimedelta: number,
+        vsatp: number,
+        vscause: number,
+        vsepc: number,
+        vsie: number,
+        vsscratch: number,
+        vsstatus: number,
+        vstimecmp: number,
+        vstval: number,
+        vstvec: number,
+    }
+}
+
+/// Live CSRs that all hold one number.
+fn every_csr(number: usize) -> Live {
+    Live {
+        scause: number,
+        stval: number,
+        htval: number,
+        htinst: number,
+        sstatus: number,
+        henvcfg: number,
+        hgatp: number,
+        hgeie: number,
+        hie: number,
+        htimedelta: number,
+        hvip: number,
+        vsatp: number,
+        vscause: number,
+        vsepc: number,
+        vsie: number,
+        vsscratch: number,
+        vsstatus: number,
+        vstimecmp: number,
+        vstval: number,
+        vstvec: number,
     }
 }
 

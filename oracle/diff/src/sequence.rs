@@ -14,6 +14,9 @@ use crate::subject::Subject;
 use crate::switches::{adjust_call, Board};
 use crate::tally::Tally;
 
+/// The Rust's vCPU leaves the hart and comes back once in so many traps.
+const REBIND: u64 = 64;
+
 /// Where the two sides parted.
 pub enum Parted {
     Trap(Box<Input>),
@@ -34,7 +37,13 @@ pub fn run(
     let mut record = generate::record(r);
     rust.load(&record, bound, None);
     subject.load(&record);
-    for _ in 0..length {
+    for at in 1..=length {
+        if at % REBIND == 0 {
+            let wrong = rust.rebind();
+            if !wrong.is_empty() {
+                return Err(Parted::Call(format!("unbind and bind: {wrong:?}")));
+            }
+        }
         while r.once_in(3) {
             one_call(&random_call(r), board, rust, subject, tally)?;
         }

@@ -6,9 +6,11 @@ use scripted::{Fetched, Script};
 
 use crate::compare::run_both;
 use crate::input::Input;
+use crate::options::SubjectName;
 use crate::outcome::*;
 use crate::rust_side::RustSide;
-use crate::subject::{Model, Subject};
+use crate::subject::Subject;
+use crate::subject_named;
 use crate::switches::{adjust_call, Board, SWITCHES};
 
 fn input(scause: u64) -> Input {
@@ -78,6 +80,12 @@ fn inputs() -> Vec<(&'static str, Input, Ending, Ending)> {
             Ending::new(MMIO_READ, &[0, 1]),
         ),
         ("cached-vstimecmp", stale, nothing, nothing),
+        (
+            "sepc-overflow",
+            with(ecall(&[]), |i| i.record.sepc = u64::MAX - 3),
+            nothing,
+            Ending::new(PANIC, &[]),
+        ),
     ]
 }
 
@@ -87,15 +95,29 @@ fn off(name: &str) -> Board {
     board
 }
 
+/// Every subject that this program was built with.
+fn subjects() -> Vec<Box<dyn Subject>> {
+    use SubjectName::*;
+    [Model, Abi, InPlace].into_iter().filter_map(subject_named).collect()
+}
+
 #[test]
 fn each_switch_explains_its_input() {
+    for mut subject in subjects() {
+        explains_inputs(subject.as_mut());
+    }
+}
+
+fn explains_inputs(subject: &mut dyn Subject) {
     let mut rust = RustSide::new();
-    let mut subject = Model(Vcpu::zero());
     for (name, input, by_01, by_rust) in inputs() {
-        let pair = run_both(&mut Board::all_on(), &mut rust, &mut subject, &input, false);
+        let pair = run_both(&mut Board::all_on(), &mut rust, subject, &input, false);
         assert!(pair.agree(), "{name}");
         assert_eq!(pair.subject.ending, by_01, "{name}");
-        let pair = run_both(&mut off(name), &mut rust, &mut subject, &input, false);
+        if name == "sepc-overflow" && !RustSide::checks_overflow() {
+            continue;
+        }
+        let pair = run_both(&mut off(name), &mut rust, subject, &input, false);
         assert!(!pair.agree(), "{name}");
         if name != "console-a2" {
             assert_eq!(pair.rust.ending, by_rust, "{name}");
@@ -116,8 +138,10 @@ fn each_switch_explains_its_call() {
         adjust_call(&mut off(name), &call, &mut outcome);
         assert_eq!(outcome.ending, by_rust, "{name}");
         adjust_call(&mut Board::all_on(), &call, &mut outcome);
-        let mut subject = Model(Vcpu::zero());
-        assert_eq!(outcome.ending, Ending::of(&subject.call(&call)), "{name}");
+        for mut subject in subjects() {
+            subject.load(&Vcpu::zero());
+            assert_eq!(outcome.ending, Ending::of(&subject.call(&call)), "{name}");
+        }
     }
 }
 

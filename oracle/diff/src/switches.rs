@@ -1,8 +1,9 @@
 //! The known differences between 01 and the published Rust. Each has a
-//! switch: where its input condition holds, it turns the Rust's input or
-//! outcome into 01's, in the one way it names. All else is compared as it is.
+//! switch: where its input condition holds, the Rust must show the difference
+//! as it is described, and its input or outcome is then turned into 01's. All
+//! else is compared as it is.
 
-use model::{Call, EID_DBCN, EID_TIME, FAILED, INVALID_PARAM, VSTIP};
+use model::{Call, EID_DBCN, EID_TIME, FAILED, INTERRUPT, INVALID_PARAM, VSTIP};
 use scripted::{Fetched, Request};
 
 use crate::input::Input;
@@ -26,12 +27,13 @@ pub enum Switch {
     CachedVstimecmp,
     RegisterIndex,
     VectorError,
+    SepcOverflow,
 }
 
 use Switch::*;
 
 /// Each switch with its name and what it does.
-pub const SWITCHES: [(Switch, &str, &str); 14] = [
+pub const SWITCHES: [(Switch, &str, &str); 15] = [
     (ConsoleBound, "console-bound", "DBCN 0 and 1 with a0 above the room: the Rust is given a0 = room"),
     (ConsoleA2, "console-a2", "DBCN 0 and 1 with a0 and a2 not 0: the Rust's outcome is replaced by INVALID_PARAM, 0"),
     (EmptyCopy, "empty-copy", "DBCN 1 answered 0, 0: the Rust's copy of no bytes is dropped, and 0, 0 returned"),
@@ -46,9 +48,11 @@ pub const SWITCHES: [(Switch, &str, &str); 14] = [
     (CachedVstimecmp, "cached-vstimecmp", "a stimecmp access with a saved vstimecmp that is not the live one: the Rust is given the live one"),
     (RegisterIndex, "register-index", "a register write above 31, which the Rust ignores: refusal 1"),
     (VectorError, "vector-error", "an interrupt vector not allowed: the Rust's error 3 is refusal 1"),
+    (SepcOverflow, "sepc-overflow", "with overflow checks, sepc passing 2^64: the Rust's panic is its outcome from 16 bytes lower, moved back"),
 ];
 
 /// Which switches are on, and how often each was used.
+#[derive(Clone)]
 pub struct Board {
     on: [bool; SWITCHES.len()],
     pub used: [u64; SWITCHES.len()],
@@ -75,7 +79,7 @@ impl Board {
     }
 
     /// Whether the switch is on; if so this use is counted.
-    fn takes(&mut self, switch: Switch) -> bool {
+    pub fn takes(&mut self, switch: Switch) -> bool {
         let at = switch as usize;
         self.used[at] += self.on[at] as u64;
         self.on[at]
@@ -106,48 +110,74 @@ pub fn rust_input(board: &mut Board, input: &Input) -> Input {
     given
 }
 
-/// Turns the Rust's outcome into 01's. True if the record was changed for it.
+/// An input whose outcome by 01 is, but for the other switches, what the Rust
+/// does with the input as it is, where it was given another one.
+pub fn twin(input: &Input) -> Option<(Switch, Input)> {
+    let mut twin = input.clone();
+    let a0 = input.record.x[10];
+    if is_console(input) && a0 > room(input) {
+        // 01 has no more room than this.
+        twin.trap.room = a0;
+        return (a0 <= 4096).then_some((ConsoleBound, twin));
+    }
+    twin.record.vstimecmp = input.stale?;
+    twin.stale = None;
+    Some((CachedVstimecmp, twin))
+}
+
+/// The Rust must show each difference: an outcome where it doesn't is none of
+/// 01's.
+pub fn not_shown(rust: &mut Outcome, switch: Switch) {
+    rust.strays.push(SWITCHES[switch as usize].1);
+}
+
+/// Turns the Rust's outcome into 01's.
 ///
 /// Where the Rust does something else altogether, its outcome must be the one
 /// that 01 gives a twin of the input; only then is it replaced.
-pub fn adjust(board: &mut Board, input: &Input, rust: &mut Outcome) -> bool {
-    let mut changed = false;
-    changed |= adjust_empty_copy(board, input, rust);
-    changed |= adjust_console_a2(board, input, rust);
-    changed |= adjust_timer_tick(board, input, rust);
-    changed |= adjust_fetched_opcode(board, input, rust);
-    if rust.ending == Ending::error(4) && in_01_list(input.trap.scause) && board.takes(TrapCodes) {
-        rust.ending = Ending::error(3);
+pub fn adjust(board: &mut Board, input: &Input, rust: &mut Outcome) {
+    adjust_empty_copy(board, input, rust);
+    adjust_console_a2(board, input, rust);
+    adjust_timer_tick(board, input, rust);
+    adjust_fetched_opcode(board, input, rust);
+    if in_01_list(input.trap.scause) && board.takes(TrapCodes) {
+        if rust.ending == Ending::error(4) {
+            rust.ending = Ending::error(3);
+        } else {
+            not_shown(rust, TrapCodes);
+        }
     }
-    changed | adjust_access(board, input, rust)
+    adjust_access(board, input, rust);
 }
 
 /// 01's outcome for an input.
-fn by_model(input: &Input) -> Outcome {
+pub fn by_model(input: &Input) -> Outcome {
     run_trap(&mut Model(input.record.clone()), &input.trap, &input.script)
 }
 
-fn adjust_empty_copy(board: &mut Board, input: &Input, rust: &mut Outcome) -> bool {
+fn adjust_empty_copy(board: &mut Board, input: &Input, rust: &mut Outcome) {
     let empty = is_console(input)
         && input.record.x[16] == 1
-        && input.script.read == (0, 0)
-        && matches!(rust.requests.last(), Some(Request::CopyOut { n: 0, .. }));
+        && room(input) != 0
+        && input.script.read == (0, 0);
     if !empty || !board.takes(EmptyCopy) {
-        return false;
+        return;
     }
+    let asked = matches!(rust.requests.last(), Some(Request::CopyOut { n: 0, .. }));
     // A host that says it copied more than nothing makes this a failure.
-    let failed = input.script.copy_out != 0;
-    if rust.record.x[10] == if failed { FAILED } else { 0 } {
+    let due = if input.script.copy_out != 0 { FAILED } else { 0 };
+    if asked && rust.record.x[10] == due {
         rust.requests.pop();
         rust.record.x[10] = 0;
+    } else {
+        not_shown(rust, EmptyCopy);
     }
-    true
 }
 
-fn adjust_console_a2(board: &mut Board, input: &Input, rust: &mut Outcome) -> bool {
+fn adjust_console_a2(board: &mut Board, input: &Input, rust: &mut Outcome) {
     let x = &input.record.x;
     if !is_console(input) || x[12] == 0 || !board.takes(ConsoleA2) {
-        return false;
+        return;
     }
     // The Rust joins a1 and a2, by the stand-in's rule, and goes on.
     let mut twin = input.clone();
@@ -159,31 +189,33 @@ fn adjust_console_a2(board: &mut Board, input: &Input, rust: &mut Outcome) -> bo
         rust.requests.clear();
         rust.record.x[10] = INVALID_PARAM;
         rust.record.x[11] = 0;
+    } else {
+        not_shown(rust, ConsoleA2);
     }
-    true
 }
 
-fn adjust_timer_tick(board: &mut Board, input: &Input, rust: &mut Outcome) -> bool {
+fn adjust_timer_tick(board: &mut Board, input: &Input, rust: &mut Outcome) {
     let x = &input.record.x;
     let ecall_sets =
         input.trap.scause == 10 && (x[17] == 0 || x[17] == EID_TIME && x[16] == 0);
     let csr_sets = virtual_word(input).is_some_and(|(word, _)| writes_stimecmp(word));
-    let cleared = (ecall_sets || csr_sets)
-        && input.record.hvip & VSTIP != 0
-        && rust.record.hvip & VSTIP == 0;
-    if !cleared || !board.takes(TimerTick) {
-        return false;
+    let pending = input.record.hvip & VSTIP != 0;
+    if !(ecall_sets || csr_sets) || !pending || !board.takes(TimerTick) {
+        return;
     }
-    rust.record.hvip |= VSTIP;
-    true
+    if rust.record.hvip & VSTIP == 0 {
+        rust.record.hvip |= VSTIP;
+    } else {
+        not_shown(rust, TimerTick);
+    }
 }
 
-fn adjust_fetched_opcode(board: &mut Board, input: &Input, rust: &mut Outcome) -> bool {
+fn adjust_fetched_opcode(board: &mut Board, input: &Input, rust: &mut Outcome) {
     let Some((word, true)) = virtual_word(input) else {
-        return false;
+        return;
     };
     if word & 0x7f == 0x73 || !is_stimecmp(word) || !board.takes(FetchedOpcode) {
-        return false;
+        return;
     }
     let mut twin = input.clone();
     twin.script.fetch = Fetched::Word(word & !0x7f | 0x73);
@@ -191,8 +223,9 @@ fn adjust_fetched_opcode(board: &mut Board, input: &Input, rust: &mut Outcome) -
         rust.ending = Ending::error(3);
         rust.record = input.record.clone();
         rust.record.counts[1] = input.record.counts[1].wrapping_add(1);
+    } else {
+        not_shown(rust, FetchedOpcode);
     }
-    true
 }
 
 /// The codes that 01 calls known and that no published line names.
@@ -206,82 +239,102 @@ fn in_01_list(scause: u64) -> bool {
 }
 
 /// The differences of guest page faults.
-fn adjust_access(board: &mut Board, input: &Input, rust: &mut Outcome) -> bool {
+fn adjust_access(board: &mut Board, input: &Input, rust: &mut Outcome) {
     let Some((kind, word)) = fault_word(input) else {
-        return false;
+        return;
     };
-    if rust.accesses != [0; 2] && board.takes(AccessEvents) {
+    if kind != FaultWord::Other && board.takes(AccessEvents) {
         // Exactly the event of the decoded word, once.
-        let due = match kind {
-            FaultWord::Load => [1, 0],
-            FaultWord::Store => [0, 1],
-            FaultWord::Other => [0, 0],
-        };
+        let due = if kind == FaultWord::Load { [1, 0] } else { [0, 1] };
         if rust.accesses == due {
             rust.accesses = [0; 2];
+        } else {
+            not_shown(rust, AccessEvents);
         }
     }
-    if rust.ending.kind == MMIO_WRITE {
-        let data = rust.ending.data[2];
-        let cut = match rust.ending.data[1] {
-            1 => data & 0xff,
-            2 => data & 0xffff,
-            4 => data & 0xffff_ffff,
-            _ => data,
+    if kind == FaultWord::Store {
+        let whole = register(input, word >> 20 & 31);
+        let cut = match word >> 12 & 3 {
+            0 => whole & 0xff,
+            1 => whole & 0xffff,
+            2 => whole & 0xffff_ffff,
+            _ => whole,
         };
-        if cut != data && board.takes(StoreData) {
-            rust.ending.data[2] = cut;
+        if cut != whole && board.takes(StoreData) {
+            if rust.ending.kind == MMIO_WRITE && rust.ending.data[2] == whole {
+                rust.ending.data[2] = cut;
+            } else {
+                not_shown(rust, StoreData);
+            }
         }
     }
     let write = input.trap.scause == 23;
     let flags = if write { 2 } else { 1 };
     let nested = Ending::new(NESTED_PAGE_FAULT, &[fault_addr(input), flags]);
     let bare = Ending::new(NESTED_PAGE_FAULT, &[fault_addr(input), 0]);
-    let mut changed = false;
     match (kind, write) {
         (FaultWord::Load, true) | (FaultWord::Store, false) => {
-            if board.takes(Direction) {
-                // The Rust never looks at the direction.
-                let mut twin = input.clone();
-                twin.trap.scause = if write { 21 } else { 23 };
-                if *rust == by_model(&twin) {
+            if !board.takes(Direction) {
+                return;
+            }
+            // The Rust never looks at the direction.
+            let mut twin = input.clone();
+            twin.trap.scause = if write { 21 } else { 23 };
+            if *rust == by_model(&twin) {
+                rust.ending = nested;
+                rust.record = input.record.clone();
+            } else {
+                not_shown(rust, Direction);
+            }
+        }
+        (FaultWord::Other, _) => {
+            if rust.ending == bare {
+                if board.takes(OtherWordFlags) {
                     rust.ending = nested;
-                    rust.record = input.record.clone();
                 }
-                changed = true;
-            }
-        }
-        (FaultWord::Other, _) if rust.ending == bare => {
-            if board.takes(OtherWordFlags) {
-                rust.ending = nested;
-            }
-        }
-        (FaultWord::Other, _)
-            if rust.ending == Ending::error(5) && rust.undecoded == Some(word) =>
-        {
-            if board.takes(UndecodedWord) {
-                rust.ending = nested;
-                rust.undecoded = None;
+            } else if rust.ending == Ending::error(5) && rust.undecoded == Some(word) {
+                if board.takes(UndecodedWord) {
+                    rust.ending = nested;
+                    rust.undecoded = None;
+                }
+            } else {
+                not_shown(rust, OtherWordFlags);
             }
         }
         _ => {}
     }
-    changed
+}
+
+/// A register of the input; x0 reads 0.
+fn register(input: &Input, index: u32) -> u64 {
+    match index {
+        0 => 0,
+        index => input.record.x[index as usize],
+    }
 }
 
 /// Turns the Rust's outcome of a call into 01's.
 pub fn adjust_call(board: &mut Board, call: &Call, rust: &mut Outcome) {
-    match call {
-        Call::SetGpr { index, .. } if *index > 31 => {
-            if board.takes(RegisterIndex) {
-                rust.ending = Ending::error(1);
-            }
+    let (switch, shown) = match *call {
+        Call::SetGpr { index, .. } if index > 31 => {
+            (RegisterIndex, rust.ending == Ending::new(DONE, &[]))
         }
-        Call::InjectInterrupt { .. } if rust.ending == Ending::error(3) => {
-            if board.takes(VectorError) {
-                rust.ending = Ending::error(1);
-            }
+        Call::InjectInterrupt { vector } if !allowed(vector) => {
+            (VectorError, rust.ending == Ending::error(3))
         }
-        _ => {}
+        _ => return,
+    };
+    if !board.takes(switch) {
+        return;
     }
+    if shown {
+        rust.ending = Ending::error(1);
+    } else {
+        not_shown(rust, switch);
+    }
+}
+
+/// The interrupt vectors that 01 allows.
+fn allowed(vector: u64) -> bool {
+    vector == 9 || [1, 5, 9].contains(&vector.wrapping_sub(INTERRUPT))
 }

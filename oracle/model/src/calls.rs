@@ -156,7 +156,9 @@ impl Vcpu {
             return Reply::Error(Error::BadState);
         };
         self.waiting = Waiting::Nothing;
-        self.write(rd as usize % 32, width.extend(signed, number));
+        if rd < 32 {
+            self.write(rd as usize, width.extend(signed, number));
+        }
         Reply::Done
     }
 

@@ -5,7 +5,7 @@ use crate::Width;
 /// A decoded word.
 #[derive(Clone, Copy, Debug, PartialEq, Eq)]
 pub enum Decoded {
-    Load { rd: u8, width: Width, signed: bool },
+    Load { rd: u64, width: Width, signed: bool },
     Store { rs2: u8, width: Width },
     Other,
 }
@@ -13,7 +13,7 @@ pub enum Decoded {
 pub fn decode(word: u32) -> Decoded {
     const LOAD: u32 = 0x03;
     const STORE: u32 = 0x23;
-    let rd = ((word >> 7) & 31) as u8;
+    let rd = ((word >> 7) & 31) as u64;
     let rs2 = ((word >> 20) & 31) as u8;
     match (word & 0x7f, (word >> 12) & 7) {
         (LOAD, 0) => Decoded::Load { rd, width: Width::One, signed: true },

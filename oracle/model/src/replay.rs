@@ -42,8 +42,14 @@ impl Lines<'_> {
     }
 }
 
-fn print(out: &mut Vec<u8>, key: &str, number: u64) {
-    out.extend_from_slice(format!("{key}={number:016x}\n").as_bytes());
+fn print(out: &mut Vec<u8>, key: &[u8], number: u64) {
+    let mut digits = [0; 16];
+    for (place, digit) in digits.iter_mut().rev().enumerate() {
+        *digit = b"0123456789abcdef"[(number >> (4 * place)) as usize % 16];
+    }
+    out.extend_from_slice(key);
+    out.extend_from_slice(&digits);
+    out.push(b'\n');
 }
 
 /// The whole output for the whole input.
@@ -51,7 +57,7 @@ pub fn replay(input: &[u8]) -> Vec<u8> {
     let mut out = Vec::new();
     let mut lines = Lines { rest: input, line: 0 };
     if let Err(Bad(line)) = run(&mut lines, &mut out) {
-        print(&mut out, "bad", line);
+        print(&mut out, b"bad=", line);
     }
     out
 }
@@ -60,10 +66,10 @@ fn run(lines: &mut Lines, out: &mut Vec<u8>) -> Result<(), Bad> {
     let mut vcpu = header(lines)?;
     while !lines.at_end() {
         let exit = one_trap(lines, &mut vcpu)?;
-        print(out, "exit", exit);
-        print(out, "sepc", vcpu.sepc);
-        print(out, "a0", vcpu.read(A0));
-        print(out, "a1", vcpu.read(A1));
+        print(out, b"exit=", exit);
+        print(out, b"sepc=", vcpu.sepc);
+        print(out, b"a0=", vcpu.read(A0));
+        print(out, b"a1=", vcpu.read(A1));
     }
     Ok(())
 }

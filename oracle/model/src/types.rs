@@ -62,8 +62,8 @@ pub enum Waiting {
     GetChar,
     /// Ask 9.
     Forward,
-    /// A decoded load; rd counts modulo 32.
-    Load { rd: u8, width: Width, signed: bool },
+    /// A decoded load; an rd above 31, which no trap leaves, is no register.
+    Load { rd: u64, width: Width, signed: bool },
 }
 
 /// Which class of trap asked for an instruction.

@@ -5,7 +5,7 @@ use Rattle.capture.proofs.feed.Statement.{statement}
 use Rattle.capture.proofs.feed.Tie as tie
 
 returns : tie.Need-returns
-returns c = over-feeds _ _ _ (c .if1 .taken) (c .before .before .pre)
+returns c = over-feeds _ _ (c .if1 .taken)
 
 read-requires : tie.Need-read-requires
 read-requires c κs = search needs
@@ -14,7 +14,7 @@ gave-requires : tie.Need-gave-requires
 gave-requires c κs = search needs
 
 returns-2 : tie.Need-returns-2
-returns-2 c = rw (c .gave .ensures) (read-feeds _ _ _ _ (c .before .before .if1 .left) (c .before .read .ensures))
+returns-2 c = rw (c .gave .ensures) (read-feeds _ _ _ (c .before .before .if1 .left) (c .before .read .ensures))
 
 pub feed-spec : {M : Type 1} → statement M
 feed-spec = tie.close (tie.spec returns read-requires gave-requires returns-2)

@@ -1,42 +1,32 @@
 -- `lines::put` meets its contract.
-use Rattle.lines.specs.PutLaws.{put-same, line-put, line-fits}
+use Rattle.lines.specs.PutLaws.{no-room, has-room}
+use native.Mathlib.Omega.{arith}
 use borrow.Author.Needs.{needs}
 use Rattle.lines.proofs.put.Statement.{statement}
 use Rattle.lines.proofs.put.Tie as tie
 
-put-key-requires : tie.Need-put-key-requires
-put-key-requires c κs = search needs
+returns : tie.Need-returns
+returns c = no-room _ _ _ _ (omega (arith, c .if1 .taken))
 
-add-a : tie.Need-add-a
-add-a c = search needs
+returns-2 : tie.Need-returns-2
+returns-2 c = no-room _ _ _ _ (omega (arith, c .if2 .taken))
 
-put-digits-requires : tie.Need-put-digits-requires
-put-digits-requires c κs = search needs
+sub-if3 : tie.Need-sub-if3
+sub-if3 c = search needs
 
-add-e : tie.Need-add-e
-add-e c = search needs
+returns-3 : tie.Need-returns-3
+returns-3 c = no-room _ _ _ _ (omega (arith, c .if3 .taken))
 
-slice-write-out : tie.Need-slice-write-out
-slice-write-out c = search needs
-
-add-result : tie.Need-add-result
-add-result c = search needs
+put-line-requires : tie.Need-put-line-requires
+put-line-requires c κs = search needs
 
 same-length : tie.Need-same-length
-same-length c = put-same (line-fits (c .before .before .before .before .before .before .before .before .before .before .args .out .now) (c .before .before .before .before .before .before .before .before .before .before .args .key .now) (c .before .before .before .before .before .before .before .before .before .before .args .at) (c .before .before .before .before .before .before .before .before .before .before .args .v) (c .before .before .before .before .before .before .before .before .before .before .pre)) (line-put _ _ _ _ _ _ (c .before .before .before .before .before .before .before .before .before .before .pre) (c .before .before .before .before .before .before .put-key .ensures) (c .before .before .put-digits .ensures))
+same-length c = search needs
 
-returns : tie.Need-returns
-returns c = line-put _ _ _ _ _ _ (c .before .before .before .before .before .before .before .before .before .before .pre) (c .before .before .before .before .before .before .put-key .ensures) (c .before .before .put-digits .ensures)
+returns-4 : tie.Need-returns-4
+returns-4 c = has-room _ _ _ _ _ _ (search needs) (c .before .before .put-line .ensures)
 
 pub put-spec : {M : Type 1} → statement M
 put-spec =
     tie.close
-    (tie.spec
-    put-key-requires
-    add-a
-    put-digits-requires
-    add-e
-    slice-write-out
-    add-result
-    same-length
-    returns)
+    (tie.spec returns returns-2 sub-if3 returns-3 put-line-requires same-length returns-4)

@@ -23,7 +23,7 @@ scan-requires : tie.Need-scan-requires
 scan-requires c κs = search needs
 
 returns : tie.Need-returns
-returns c = read-four (c .before .before .before .before .before .args .keys .now) (c .before .before .before .before .before .args .i) _ _ _ _ _ (c .scan .ensures)
+returns c = read-four (c .before .before .before .before .before .args .keys .now) (c .before .before .before .before .before .args .i) _ _ _ _ (c .scan .ensures)
 
 slice-aggregate-scan : tie.Need-slice-aggregate-scan
 slice-aggregate-scan c = search needs
@@ -32,7 +32,7 @@ scan-requires-2 : tie.Need-scan-requires-2
 scan-requires-2 c κs = search needs
 
 returns-2 : tie.Need-returns-2
-returns-2 c = read-none (c .before .before .before .before .before .args .keys .now) (c .before .before .before .before .before .args .i) _ _ _ _ _ (c .before .before .before .before .before .pre .0) (c .before .before .if1 .left) (c .scan2 .ensures)
+returns-2 c = read-none (c .before .before .before .before .before .args .keys .now) (c .before .before .before .before .before .args .i) _ _ _ _ (c .before .before .before .before .before .pre) (c .before .before .if1 .left) (c .scan2 .ensures)
 
 pub read-register-spec : {M : Type 1} → statement M
 read-register-spec =

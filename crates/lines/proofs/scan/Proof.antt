@@ -11,13 +11,13 @@ use Rattle.lines.proofs.scan.Statement.{statement}
 use Rattle.lines.proofs.scan.Tie as tie
 
 abbrev Inv-loop : tie.InvT-loop
-Inv-loop key at v s from a₀ w₀ i₀ a w i = (from ≤ i) × (i ≤ length s) × (takenOf key at v (drop from s) ≡ takenOf key a w (drop i s))
+Inv-loop key at v s a₀ w₀ i₀ a w i = (i ≤ length s) × (takenOf key at v s ≡ takenOf key a w (drop i s))
 
 abbrev μ-loop : tie.MeasureT-loop
-μ-loop key at v s from a₀ w₀ i₀ a w i = length s - i
+μ-loop key at v s a₀ w₀ i₀ a w i = length s - i
 
 loop-holds : tie.Need-loop-holds Inv-loop μ-loop
-loop-holds c = (search needs, search needs, refl)
+loop-holds c = (search needs, refl)
 
 shared-slice-read-line : tie.Need-shared-slice-read-line Inv-loop μ-loop
 shared-slice-read-line c = search needs
@@ -37,8 +37,7 @@ loop-less c = search needs
 loop-again : tie.Need-loop-again Inv-loop μ-loop
 loop-again c = (
   search needs,
-  search needs,
-  c .before .before .before .before .before .before .loop .inv .2
+  c .before .before .before .before .before .before .loop .inv .1
       ∙ taken-next _ _ _ _ _ _ (c .before .before .before .before .before .loop-test .taken) (sym (c .before .before .before .line .ensures) ∙ c .before .g .given .1),
 )
 
@@ -47,11 +46,10 @@ enum-known-g-2 c = search needs
 
 returns : tie.Need-returns Inv-loop μ-loop
 returns c = record {
-  low = omega arith;
   high = omega arith;
   moves = λ h. omega arith;
   reads =
-      c .before .before .before .before .before .before .loop .inv .2
+      c .before .before .before .before .before .before .loop .inv .1
       ∙ taken-next _ _ _ _ _ _ (c .before .before .before .before .before .loop-test .taken) (sym (c .before .before .before .line .ensures) ∙ c .before .g2 .given .1);
 }
 
@@ -60,20 +58,18 @@ enum-told c = search needs
 
 returns-2 : tie.Need-returns-2 Inv-loop μ-loop
 returns-2 c = record {
-  low = omega arith;
   high = omega arith;
   moves = λ h. omega arith;
   reads =
-      c .before .before .before .before .before .loop .inv .2
+      c .before .before .before .before .before .loop .inv .1
       ∙ taken-next _ _ _ _ _ _ (c .before .before .before .before .loop-test .taken) (sym (c .before .before .line .ensures) ∙ c .enum-told .given .1);
 }
 
 returns-3 : tie.Need-returns-3 Inv-loop μ-loop
 returns-3 c = record {
-  low = omega arith;
   high = omega arith;
   moves = λ h. omega arith;
-  reads = c .before .loop .inv .2 ∙ taken-end _ _ _ _ _ (c .loop-test .left);
+  reads = c .before .loop .inv .1 ∙ taken-end _ _ _ _ _ (c .loop-test .left);
 }
 
 pub scan-spec : {M : Type 1} → statement M

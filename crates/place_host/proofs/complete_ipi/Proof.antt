@@ -1,6 +1,6 @@
 -- `place_host::complete_ipi` meets its contract.
 use borrow.Author.Needs.{needs}
-use Rattle.vcpu.specs.Calls.{completeIpiOf}
+use Rattle.calls.specs.Calls.{completeIpiOf}
 use Rattle.place_host.specs.Laws.{done-keeps, guarded-by}
 use Rattle.place_host.proofs.complete_ipi.Statement.{statement}
 use Rattle.place_host.proofs.complete_ipi.Tie as tie

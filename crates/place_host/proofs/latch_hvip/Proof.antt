@@ -1,6 +1,6 @@
 -- `place_host::latch_hvip` meets its contract.
 use borrow.Author.Needs.{needs}
-use Rattle.vcpu.specs.Calls.{latchOf}
+use Rattle.calls.specs.Calls.{latchOf}
 use Rattle.place_host.specs.Laws.{done-keeps, guarded-by}
 use Rattle.place_host.proofs.latch_hvip.Statement.{statement}
 use Rattle.place_host.proofs.latch_hvip.Tie as tie

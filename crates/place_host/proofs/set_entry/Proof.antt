@@ -1,6 +1,6 @@
 -- `place_host::set_entry` meets its contract.
 use borrow.Author.Needs.{needs}
-use Rattle.vcpu.specs.Calls.{setEntryOf}
+use Rattle.calls.specs.Calls.{setEntryOf}
 use Rattle.place_host.specs.Laws.{done-keeps, guarded-by}
 use Rattle.place_host.proofs.set_entry.Statement.{statement}
 use Rattle.place_host.proofs.set_entry.Tie as tie

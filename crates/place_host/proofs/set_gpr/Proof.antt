@@ -1,6 +1,6 @@
 -- `place_host::set_gpr` meets its contract.
 use borrow.Author.Needs.{needs}
-use Rattle.vcpu.specs.Calls.{setGprOf}
+use Rattle.calls.specs.Calls.{setGprOf}
 use Rattle.place_host.specs.Laws.{guarded-by, write-keeps}
 use Rattle.place_host.proofs.set_gpr.Statement.{statement}
 use Rattle.place_host.proofs.set_gpr.Tie as tie

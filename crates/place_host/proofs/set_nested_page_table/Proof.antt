@@ -1,6 +1,6 @@
 -- `place_host::set_nested_page_table` meets its contract.
 use borrow.Author.Needs.{needs}
-use Rattle.vcpu.specs.Calls.{pagingOf}
+use Rattle.calls.specs.Calls.{pagingOf}
 use Rattle.place_host.specs.Laws.{guarded-by, paging-keeps}
 use Rattle.place_host.proofs.set_nested_page_table.Statement.{statement}
 use Rattle.place_host.proofs.set_nested_page_table.Tie as tie

@@ -1,6 +1,6 @@
 -- `place_host::set_pending` meets its contract.
 use borrow.Author.Needs.{needs}
-use Rattle.vcpu.specs.Calls.{pendingOf}
+use Rattle.calls.specs.Calls.{pendingOf}
 use Rattle.place_host.specs.Laws.{guarded-by, pending-keeps}
 use Rattle.place_host.proofs.set_pending.Statement.{statement}
 use Rattle.place_host.proofs.set_pending.Tie as tie

@@ -1,6 +1,6 @@
 -- `place_host::set_return_value` meets its contract.
 use borrow.Author.Needs.{needs}
-use Rattle.vcpu.specs.Calls.{setReturnOf}
+use Rattle.calls.specs.Calls.{setReturnOf}
 use Rattle.place_host.specs.Laws.{done-keeps, guarded-by}
 use Rattle.place_host.proofs.set_return_value.Statement.{statement}
 use Rattle.place_host.proofs.set_return_value.Tie as tie

@@ -1,6 +1,6 @@
 -- `place_host::setup` meets its contract.
 use borrow.Author.Needs.{needs}
-use Rattle.vcpu.specs.Calls.{setupOf}
+use Rattle.calls.specs.Calls.{setupOf}
 use Rattle.place_host.specs.Laws.{done-keeps, guarded-by}
 use Rattle.place_host.proofs.setup.Statement.{statement}
 use Rattle.place_host.proofs.setup.Tie as tie

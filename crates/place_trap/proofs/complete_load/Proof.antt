@@ -1,7 +1,7 @@
 -- `place_trap::complete_load` meets its contract.
 use borrow.Author.Needs.{needs}
 use mathlib.Core.Path.{refl}
-use Rattle.vcpu.specs.Calls.{completeLoadOf}
+use Rattle.calls.specs.Calls.{completeLoadOf}
 use Rattle.place.specs.Laws.{complete-done}
 use Rattle.place_trap.specs.Laws.{done-by}
 use Rattle.place_trap.proofs.complete_load.Statement.{statement}

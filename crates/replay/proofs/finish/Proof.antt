@@ -9,17 +9,14 @@ use Rattle.replay.proofs.finish.Tie as tie
 end-requires : tie.Need-end-requires
 end-requires c κs = search needs
 
-slice-aggregate-write : tie.Need-slice-aggregate-write
-slice-aggregate-write c = search needs
-
 write-requires : tie.Need-write-requires
 write-requires c κs = search needs
 
 array-share-prefix-out : tie.Need-array-share-prefix-out
-array-share-prefix-out c = written-end _ _ _ _ _ (search needs) (c .before .write .ensures)
+array-share-prefix-out c = written-end _ _ _ _ _ (search needs) (c .write .ensures)
 
 slice-aggregate-say : tie.Need-slice-aggregate-say
-slice-aggregate-say c = sym (length-take-le _ _ (written-end _ _ _ _ _ (search needs) (c .before .before .write .ensures)))
+slice-aggregate-say c = sym (length-take-le _ _ (written-end _ _ _ _ _ (search needs) (c .before .write .ensures)))
 
 say-requires : tie.Need-say-requires
 say-requires c κs = search needs
@@ -32,7 +29,6 @@ finish-spec =
     tie.close
     (tie.spec
     end-requires
-    slice-aggregate-write
     write-requires
     array-share-prefix-out
     slice-aggregate-say

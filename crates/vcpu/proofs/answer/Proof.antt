@@ -1,5 +1,5 @@
 -- `vcpu::answer` meets its contract.
-use Rattle.vcpu.specs.Calls.{answerOf}
+use Rattle.calls.specs.Calls.{answerOf}
 use borrow.Author.Needs.{needs}
 use Rattle.vcpu.proofs.answer.Statement.{statement}
 use Rattle.vcpu.proofs.answer.Tie as tie

@@ -1,5 +1,5 @@
 -- `vcpu::complete_load` meets its contract.
-use Rattle.vcpu.specs.Calls.{completeLoadOf}
+use Rattle.calls.specs.Calls.{completeLoadOf}
 use borrow.Author.Needs.{needs}
 use Rattle.vcpu.proofs.complete_load.Statement.{statement}
 use Rattle.vcpu.proofs.complete_load.Tie as tie

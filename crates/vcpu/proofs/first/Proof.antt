@@ -1,6 +1,6 @@
 -- `vcpu::first` meets its contract.
 use borrow.Author.Tests.{lt-ltb, lt-leb, le-ltb, le-leb}
-use Rattle.vcpu.specs.Calls.{firstOf}
+use Rattle.calls.specs.Calls.{firstOf}
 use mathlib.Core.Path.{sym}
 use lib.Seq.{length-take-le}
 use borrow.Author.Needs.{needs}

@@ -1,5 +1,5 @@
 -- `vcpu::print_count` meets its contract.
-use Rattle.vcpu.specs.Calls.{printCount}
+use Rattle.calls.specs.Calls.{printCount}
 use borrow.Author.Needs.{needs}
 use Rattle.vcpu.proofs.print_count.Statement.{statement}
 use Rattle.vcpu.proofs.print_count.Tie as tie

@@ -1,5 +1,5 @@
 -- `vcpu::start` meets its contract.
-use Rattle.vcpu.specs.Calls.{startOf}
+use Rattle.calls.specs.Calls.{startOf}
 use borrow.Author.Needs.{needs}
 use Rattle.vcpu.proofs.start.Statement.{statement}
 use Rattle.vcpu.proofs.start.Tie as tie

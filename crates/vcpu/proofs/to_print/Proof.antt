@@ -1,5 +1,5 @@
 -- `vcpu::to_print` meets its contract.
-use Rattle.vcpu.specs.Calls.{printedOf}
+use Rattle.calls.specs.Calls.{printedOf}
 use borrow.Author.Needs.{needs}
 use Rattle.vcpu.proofs.to_print.Statement.{statement}
 use Rattle.vcpu.proofs.to_print.Tie as tie

@@ -1,0 +1,481 @@
+//! The handler with `&mut self`.
+
+#[derive(Clone, Copy, Debug, PartialEq, Eq)]
+pub enum Width {
+    Byte,
+    Half,
+    Word,
+    Double,
+}
+
+impl Width {
+    #[inline]
+    pub fn bytes(self) -> u64 {
+        1 << self as u64
+    }
+
+    #[inline]
+    fn cut(self, number: u64) -> u64 {
+        match self {
+            Width::Byte => number as u8 as u64,
+            Width::Half => number as u16 as u64,
+            Width::Word => number as u32 as u64,
+            Width::Double => number,
+        }
+    }
+
+    #[inline]
+    fn extend(self, signed: bool, number: u64) -> u64 {
+        match (self, signed) {
+            (Width::Byte, true) => number as i8 as u64,
+            (Width::Half, true) => number as i16 as u64,
+            (Width::Word, true) => number as i32 as u64,
+            _ => self.cut(number),
+        }
+    }
+}
+
+#[derive(Clone, Copy, Debug, PartialEq, Eq)]
+pub enum Waiting {
+    Idle,
+    Load { rd: usize, width: Width, signed: bool },
+    FetchCsr,
+    FetchFault { at: u64, write: bool },
+    CopyMask,
+    CopyIn { count: u64 },
+    Print { count: u64 },
+    ReadConsole { count: u64, at: u64 },
+    CopyOut { count: u64 },
+    PutChar,
+    PutByte,
+    GetChar,
+    Forward,
+}
+
+#[derive(Clone, Copy, Debug, PartialEq, Eq)]
+pub enum Exit {
+    Nothing,
+    ExternalInterrupt { vector: u64 },
+    SendIpi { mask: u64, base: u64, legacy: bool },
+    CpuUp { target: u64, entry: u64, arg: u64 },
+    CpuDown { state: u64 },
+    Halt,
+    Hypercall { nr: u64, args: [u64; 6] },
+    SystemDown,
+    NestedPageFault { addr: u64, access: u64 },
+    MmioRead { addr: u64, width: Width },
+    MmioWrite { addr: u64, width: Width, data: u64 },
+}
+
+#[derive(Clone, Copy, Debug, PartialEq, Eq)]
+pub enum Ask {
+    Fetch { at: u64, supervisor: bool },
+    CopyMask { at: u64 },
+    CopyIn { at: u64, count: u64 },
+    Print { count: u64 },
+    ReadConsole { count: u64 },
+    CopyOut { at: u64, count: u64 },
+    Emit { number: u64 },
+    GetChar,
+    Forward { eid: u64, fid: u64, args: [u64; 6] },
+}
+
+#[derive(Clone, Copy, Debug, PartialEq, Eq)]
+pub enum Fetch {
+    Word(u32),
+    Page(u64),
+    Access(u64),
+    Misaligned(u64),
+    GuestPage(u64),
+    Unhandled,
+}
+
+#[derive(Clone, Copy, Debug, PartialEq, Eq)]
+pub enum Answer {
+    Fetched(Fetch),
+    MaskCopied { count: u64, bytes: u64 },
+    CopiedIn { count: u64 },
+    Printed { error: u64, value: u64 },
+    ConsoleRead { error: u64, value: u64 },
+    CopiedOut { count: u64 },
+    Emitted,
+    Char { number: u64 },
+    Forwarded { error: u64, value: u64 },
+}
+
+#[derive(Clone, Copy, Debug, PartialEq, Eq)]
+pub enum Error {
+    BadState = 2,
+    Unsupported = 3,
+    InvalidTrap = 4,
+    DecodeFailed = 5,
+    GuestMemoryFault = 6,
+    WrongAnswer = 7,
+}
+
+#[derive(Clone, Copy, Debug, PartialEq, Eq)]
+pub enum Step {
+    Exit(Exit),
+    Ask(Ask),
+    Error(Error),
+}
+
+#[derive(Clone, Copy, Debug)]
+pub struct Trap {
+    pub scause: u64,
+    pub stval: u64,
+    pub htval: u64,
+    pub htinst: u64,
+    pub room: u64,
+}
+
+#[derive(Clone, Debug, PartialEq, Eq)]
+pub struct Vcpu {
+    pub x: [u64; 32],
+    pub sepc: u64,
+    pub sstatus: u64,
+    pub hstatus: u64,
+    pub vsstatus: u64,
+    pub vstvec: u64,
+    pub vsepc: u64,
+    pub vscause: u64,
+    pub vstval: u64,
+    pub vstimecmp: u64,
+    pub hie: u64,
+    pub hvip: u64,
+    pub hgeie: u64,
+    pub hgatp: u64,
+    pub counts: [u64; 9],
+    pub waiting: Waiting,
+}
+
+const FAILED: u64 = u64::MAX;
+const NOT_SUPPORTED: u64 = u64::MAX - 1;
+const INVALID_PARAM: u64 = u64::MAX - 2;
+const NOTHING: Step = Step::Exit(Exit::Nothing);
+const A0: usize = 10;
+const A1: usize = 11;
+const A2: usize = 12;
+const A6: usize = 16;
+const A7: usize = 17;
+
+impl Vcpu {
+    pub fn zero() -> Vcpu {
+        Vcpu {
+            x: [0; 32],
+            sepc: 0,
+            sstatus: 0,
+            hstatus: 0,
+            vsstatus: 0,
+            vstvec: 0,
+            vsepc: 0,
+            vscause: 0,
+            vstval: 0,
+            vstimecmp: 0,
+            hie: 0,
+            hvip: 0,
+            hgeie: 0,
+            hgatp: 0,
+            counts: [0; 9],
+            waiting: Waiting::Idle,
+        }
+    }
+
+    #[inline]
+    fn read(&self, i: u32) -> u64 {
+        if i == 0 {
+            0
+        } else {
+            self.x[(i % 32) as usize]
+        }
+    }
+
+    #[inline]
+    fn write(&mut self, i: usize, number: u64) {
+        if i != 0 && i < 32 {
+            self.x[i] = number;
+        }
+    }
+
+    #[inline]
+    fn advance(&mut self, by: u64) {
+        self.sepc = self.sepc.wrapping_add(by);
+    }
+
+    #[inline]
+    fn returns(&mut self, error: u64, value: u64) -> Step {
+        self.x[A0] = error;
+        self.x[A1] = value;
+        self.advance(4);
+        NOTHING
+    }
+
+    #[inline]
+    fn asks(&mut self, waiting: Waiting, ask: Ask) -> Step {
+        self.waiting = waiting;
+        Step::Ask(ask)
+    }
+
+    #[inline]
+    fn count(&mut self, event: usize) {
+        self.counts[event - 1] = self.counts[event - 1].wrapping_add(1);
+    }
+
+    #[inline]
+    fn supervisor(&self) -> bool {
+        self.hstatus & 1 << 8 != 0
+    }
+
+    #[inline]
+    fn six(&self) -> [u64; 6] {
+        [self.x[10], self.x[11], self.x[12], self.x[13], self.x[14], self.x[15]]
+    }
+
+    /// Starts a trap.
+    #[inline]
+    pub fn start(&mut self, t: &Trap) -> Step {
+        if self.waiting != Waiting::Idle {
+            return Step::Error(Error::BadState);
+        }
+        match t.scause {
+            10 => self.ecall(t.room.min(4096)),
+            21 => self.page_fault(t, false),
+            22 => self.virtual_instruction(t.stval as u32),
+            23 => self.page_fault(t, true),
+            0x8000_0000_0000_0001 | 0x8000_0000_0000_0005 | 0x8000_0000_0000_0009 => {
+                Step::Exit(Exit::ExternalInterrupt { vector: t.scause })
+            }
+            0..=13 | 15 | 20 | 0x8000_0000_0000_0000..=0x8000_0000_0000_000c => Step::Error(Error::Unsupported),
+            _ => Step::Error(Error::InvalidTrap),
+        }
+    }
+
+    fn ecall(&mut self, room: u64) -> Step {
+        let (a0, a1, fid) = (self.x[A0], self.x[A1], self.x[A6]);
+        match self.x[A7] {
+            0 => {
+                self.count(1);
+                self.vstimecmp = a0;
+                self.x[A0] = 0;
+                self.advance(4);
+                NOTHING
+            }
+            1 => self.asks(Waiting::PutChar, Ask::Emit { number: a0 }),
+            2 => self.asks(Waiting::GetChar, Ask::GetChar),
+            3 => {
+                self.hvip &= !(1 << 2);
+                self.x[A0] = 0;
+                self.advance(4);
+                NOTHING
+            }
+            4 => self.asks(Waiting::CopyMask, Ask::CopyMask { at: a0 }),
+            5..=7 => {
+                self.advance(4);
+                NOTHING
+            }
+            8 => Step::Exit(Exit::SystemDown),
+            0x5449_4D45 if fid == 0 => {
+                self.count(1);
+                self.vstimecmp = a0;
+                self.returns(0, 0)
+            }
+            0x73_5049 if fid == 0 => {
+                self.advance(4);
+                Step::Exit(Exit::SendIpi { mask: a0, base: a1, legacy: false })
+            }
+            0x48_534D => match fid {
+                0 => {
+                    self.advance(4);
+                    Step::Exit(Exit::CpuUp { target: a0, entry: a1, arg: self.x[A2] })
+                }
+                1 => Step::Exit(Exit::CpuDown { state: 0 }),
+                3 => Step::Exit(Exit::Halt),
+                _ => self.returns(NOT_SUPPORTED, 0),
+            },
+            0x48_5643 => {
+                self.advance(4);
+                Step::Exit(Exit::Hypercall { nr: fid, args: self.six() })
+            }
+            0x5352_5354 if fid == 0 && a0 == 0 => Step::Exit(Exit::SystemDown),
+            0x4442_434E => match fid {
+                0 | 1 => {
+                    let count = a0.min(room);
+                    if a0 == 0 {
+                        self.returns(0, 0)
+                    } else if self.x[A2] != 0 {
+                        self.returns(INVALID_PARAM, 0)
+                    } else if count == 0 {
+                        self.returns(0, 0)
+                    } else if fid == 0 {
+                        self.asks(Waiting::CopyIn { count }, Ask::CopyIn { at: a1, count })
+                    } else {
+                        self.asks(Waiting::ReadConsole { count, at: a1 }, Ask::ReadConsole { count })
+                    }
+                }
+                2 => self.asks(Waiting::PutByte, Ask::Emit { number: a0 & 0xff }),
+                _ => self.returns(NOT_SUPPORTED, 0),
+            },
+            0x5449_4D45 | 0x73_5049 | 0x5352_5354 => self.returns(NOT_SUPPORTED, 0),
+            eid => {
+                if eid == 0x5246_4E43 && fid < 7 {
+                    self.count(3 + fid as usize);
+                }
+                let args = self.six();
+                self.asks(Waiting::Forward, Ask::Forward { eid, fid, args })
+            }
+        }
+    }
+
+    fn virtual_instruction(&mut self, word: u32) -> Step {
+        if word & 0x7f == 0x73 {
+            return self.csr(word);
+        }
+        let ask = Ask::Fetch { at: self.sepc, supervisor: self.supervisor() };
+        self.asks(Waiting::FetchCsr, ask)
+    }
+
+    fn csr(&mut self, word: u32) -> Step {
+        let f3 = word >> 12 & 7;
+        if word & 0x7f != 0x73 || word >> 20 != 0x14d || f3 & 3 == 0 {
+            self.count(2);
+            return Step::Error(Error::Unsupported);
+        }
+        let field = word >> 15 & 31;
+        let given = if f3 < 4 { self.read(field) } else { field as u64 };
+        let old = self.vstimecmp;
+        self.write((word >> 7 & 31) as usize, old);
+        self.vstimecmp = match f3 & 3 {
+            1 => given,
+            2 => old | given,
+            _ => old & !given,
+        };
+        self.advance(4);
+        NOTHING
+    }
+
+    fn page_fault(&mut self, t: &Trap, write: bool) -> Step {
+        let at = t.htval << 2 | t.stval & 3;
+        if t.htinst == 0 {
+            let ask = Ask::Fetch { at: self.sepc, supervisor: self.supervisor() };
+            return self.asks(Waiting::FetchFault { at, write }, ask);
+        }
+        let word = t.htinst as u32;
+        if word == 0x3000 || word == 0x3020 {
+            return Step::Error(Error::Unsupported);
+        }
+        if word & 1 == 0 {
+            return Step::Error(Error::DecodeFailed);
+        }
+        self.access(at, write, word | 2, if word & 2 == 0 { 2 } else { 4 })
+    }
+
+    #[inline]
+    fn access(&mut self, at: u64, write: bool, word: u32, length: u64) -> Step {
+        let f3 = word >> 12 & 7;
+        let width = match f3 & 3 {
+            0 => Width::Byte,
+            1 => Width::Half,
+            2 => Width::Word,
+            _ => Width::Double,
+        };
+        match (word & 0x7f, write) {
+            (0x03, false) if f3 != 7 => {
+                self.waiting = Waiting::Load { rd: (word >> 7 & 31) as usize, width, signed: f3 < 4 };
+                self.advance(length);
+                Step::Exit(Exit::MmioRead { addr: at, width })
+            }
+            (0x23, true) if f3 < 4 => {
+                let data = width.cut(self.read(word >> 20 & 31));
+                self.advance(length);
+                Step::Exit(Exit::MmioWrite { addr: at, width, data })
+            }
+            _ => Step::Exit(Exit::NestedPageFault { addr: at, access: 1 + write as u64 }),
+        }
+    }
+
+    /// Answers the ask that waits.
+    #[inline]
+    pub fn answer(&mut self, answer: &Answer) -> Step {
+        let waits = self.waiting;
+        self.waiting = Waiting::Idle;
+        match (waits, *answer) {
+            (Waiting::FetchCsr, Answer::Fetched(fetch)) => match fetch {
+                Fetch::Word(word) => self.csr(word),
+                fault => self.missed(fault),
+            },
+            (Waiting::FetchFault { at, write }, Answer::Fetched(fetch)) => match fetch {
+                Fetch::Word(word) if word & 3 != 3 => self.access(at, write, word & 0xffff, 2),
+                Fetch::Word(word) if word >> 2 & 7 == 7 => Step::Error(Error::DecodeFailed),
+                Fetch::Word(word) => self.access(at, write, word, 4),
+                fault => self.missed(fault),
+            },
+            (Waiting::CopyMask, Answer::MaskCopied { count: 8, bytes }) => {
+                self.advance(4);
+                Step::Exit(Exit::SendIpi { mask: bytes, base: 0, legacy: true })
+            }
+            (Waiting::CopyMask, Answer::MaskCopied { .. }) => self.returns(FAILED, 0),
+            (Waiting::CopyIn { count }, Answer::CopiedIn { count: copied }) if copied == count => {
+                self.asks(Waiting::Print { count }, Ask::Print { count })
+            }
+            (Waiting::CopyIn { .. }, Answer::CopiedIn { .. }) => self.returns(FAILED, 0),
+            (Waiting::Print { .. }, Answer::Printed { error, value }) => self.returns(error, value),
+            (Waiting::ReadConsole { count, at }, Answer::ConsoleRead { error, value }) => {
+                if error == 0 && value != 0 && value <= count {
+                    self.asks(Waiting::CopyOut { count: value }, Ask::CopyOut { at, count: value })
+                } else {
+                    self.returns(error, value)
+                }
+            }
+            (Waiting::CopyOut { count }, Answer::CopiedOut { count: copied }) => {
+                if copied == count {
+                    self.returns(0, count)
+                } else {
+                    self.returns(FAILED, 0)
+                }
+            }
+            (Waiting::PutChar, Answer::Emitted) => {
+                self.advance(4);
+                NOTHING
+            }
+            (Waiting::PutByte, Answer::Emitted) => self.returns(0, 0),
+            (Waiting::GetChar, Answer::Char { number }) => {
+                self.x[A0] = number;
+                self.advance(4);
+                NOTHING
+            }
+            (Waiting::Forward, Answer::Forwarded { error, value }) => self.returns(error, value),
+            _ => {
+                self.waiting = waits;
+                Step::Error(Error::WrongAnswer)
+            }
+        }
+    }
+
+    fn missed(&mut self, fault: Fetch) -> Step {
+        let (cause, at) = match fault {
+            Fetch::Page(at) => (12, at),
+            Fetch::Access(at) => (1, at),
+            Fetch::Misaligned(at) => (0, at),
+            Fetch::GuestPage(addr) => return Step::Exit(Exit::NestedPageFault { addr, access: 4 }),
+            Fetch::Word(_) | Fetch::Unhandled => return Step::Error(Error::GuestMemoryFault),
+        };
+        let sie = self.vsstatus >> 1 & 1;
+        self.vsstatus = self.vsstatus & !0x122 | sie << 5 | (self.supervisor() as u64) << 8;
+        self.vsepc = self.sepc;
+        self.vscause = cause;
+        self.vstval = at;
+        self.sepc = self.vstvec & !3;
+        NOTHING
+    }
+
+    /// Completes the load that waits.
+    #[inline]
+    pub fn complete_load(&mut self, number: u64) -> bool {
+        let Waiting::Load { rd, width, signed } = self.waiting else {
+            return false;
+        };
+        self.waiting = Waiting::Idle;
+        self.write(rd, width.extend(signed, number));
+        true
+    }
+}

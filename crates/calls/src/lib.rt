@@ -1,0 +1,1 @@
+// What every public call does: the definitions that the calls' promises cite. No code.

@@ -1,0 +1,15 @@
+-- `deeds::hypercall` meets its contract.
+use Rattle.deeds.specs.Deeds.{hypercallOf}
+use borrow.Author.Needs.{needs}
+use Rattle.deeds.proofs.hypercall.Statement.{statement}
+use Rattle.deeds.proofs.hypercall.Tie as tie
+
+advance-requires : tie.Need-advance-requires
+advance-requires c κs = search needs
+
+returns : tie.Need-returns
+unfolding hypercallOf
+returns c = simp (c .advance .ensures)
+
+pub hypercall-spec : {M : Type 1} → statement M
+hypercall-spec = tie.close (tie.spec advance-requires returns)

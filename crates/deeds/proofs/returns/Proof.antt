@@ -1,0 +1,18 @@
+-- `deeds::returns` meets its contract.
+use Rattle.deeds.specs.Deeds.{returnsOf}
+use borrow.Author.Needs.{needs}
+use Rattle.deeds.proofs.returns.Statement.{statement}
+use Rattle.deeds.proofs.returns.Tie as tie
+
+advance-requires : tie.Need-advance-requires
+advance-requires c κs = search needs
+
+finished-requires : tie.Need-finished-requires
+finished-requires c κs = search needs
+
+returns : tie.Need-returns
+unfolding returnsOf
+returns c = simp (c .finished .ensures, c .before .advance .ensures)
+
+pub returns-spec : {M : Type 1} → statement M
+returns-spec = tie.close (tie.spec advance-requires finished-requires returns)

@@ -1,0 +1,22 @@
+-- `deeds::set_timer` meets its contract.
+use Rattle.deeds.specs.Deeds.{setTimerOf}
+use borrow.Author.Needs.{needs}
+use Rattle.deeds.proofs.set_timer.Statement.{statement}
+use Rattle.deeds.proofs.set_timer.Tie as tie
+
+with-timer-requires : tie.Need-with-timer-requires
+with-timer-requires c κs = search needs
+
+advance-requires : tie.Need-advance-requires
+advance-requires c κs = search needs
+
+finished-requires : tie.Need-finished-requires
+finished-requires c κs = search needs
+
+returns : tie.Need-returns
+unfolding setTimerOf
+returns c = simp (c .finished .ensures, c .before .advance .ensures, c .before .before .with-timer .ensures)
+
+pub set-timer-spec : {M : Type 1} → statement M
+set-timer-spec =
+    tie.close (tie.spec with-timer-requires advance-requires finished-requires returns)

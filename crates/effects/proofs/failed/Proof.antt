@@ -1,0 +1,15 @@
+-- `effects::failed` meets its contract.
+use Rattle.regs.specs.Effects.{failedOf}
+use borrow.Author.Needs.{needs}
+use Rattle.effects.proofs.failed.Statement.{statement}
+use Rattle.effects.proofs.failed.Tie as tie
+
+no-args-requires : tie.Need-no-args-requires
+no-args-requires c κs = search needs
+
+returns : tie.Need-returns
+unfolding failedOf
+returns c = simp (c .no-args .ensures)
+
+pub failed-spec : {M : Type 1} → statement M
+failed-spec = tie.close (tie.spec no-args-requires returns)

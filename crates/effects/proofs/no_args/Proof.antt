@@ -1,0 +1,12 @@
+-- `effects::no_args` meets its contract.
+use mathlib.Core.Path.{refl}
+use Rattle.regs.specs.Effects.{noArgs}
+use Rattle.effects.proofs.no_args.Statement.{statement}
+use Rattle.effects.proofs.no_args.Tie as tie
+
+returns : tie.Need-returns
+unfolding noArgs
+returns c = refl
+
+pub no-args-spec : {M : Type 1} → statement M
+no-args-spec = tie.close (tie.spec returns)

@@ -1,0 +1,2 @@
+pub mod Extend
+pub mod Extended

@@ -1,0 +1,18 @@
+-- `gprs::set_return_value` meets its contract.
+use Rattle.calls.specs.Calls.{setReturnOf}
+use borrow.Author.Needs.{needs}
+use Rattle.gprs.proofs.set_return_value.Statement.{statement}
+use Rattle.gprs.proofs.set_return_value.Tie as tie
+
+done-requires : tie.Need-done-requires
+done-requires c κs = search needs
+
+unless-asking-requires : tie.Need-unless-asking-requires
+unless-asking-requires c κs = search needs
+
+returns : tie.Need-returns
+unfolding setReturnOf
+returns c = simp (c .unless-asking .ensures, c .before .done .ensures)
+
+pub set-return-value-spec : {M : Type 1} → statement M
+set-return-value-spec = tie.close (tie.spec done-requires unless-asking-requires returns)

@@ -1,0 +1,19 @@
+-- `interrupts::set_virtual_interrupt_pending` meets its contract.
+use Rattle.calls.specs.Calls.{pendingOf}
+use borrow.Author.Needs.{needs}
+use Rattle.interrupts.proofs.set_virtual_interrupt_pending.Statement.{statement}
+use Rattle.interrupts.proofs.set_virtual_interrupt_pending.Tie as tie
+
+pending-effect-requires : tie.Need-pending-effect-requires
+pending-effect-requires c κs = search needs
+
+unless-asking-requires : tie.Need-unless-asking-requires
+unless-asking-requires c κs = search needs
+
+returns : tie.Need-returns
+unfolding pendingOf
+returns c = simp (c .unless-asking .ensures, c .before .pending-effect .ensures)
+
+pub set-virtual-interrupt-pending-spec : {M : Type 1} → statement M
+set-virtual-interrupt-pending-spec =
+    tie.close (tie.spec pending-effect-requires unless-asking-requires returns)

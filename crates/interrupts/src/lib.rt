@@ -1,0 +1,57 @@
+// The guest's interrupts, raised and latched by the host, and the results of its IPI requests.
+ghost use mathlib.Core.Bool.{true};
+ghost use mathlib.Core.Path.{_≡_};
+ghost use Rattle.calls.specs.Calls.{completeIpiOf, latchOf, pendingOf};
+use regs::Outcome;
+use regs::Vcpu;
+use regs::Writes;
+use sbi_ipi::IpiCompletion;
+use types::IpiAbi;
+
+// Sets or clears a pending interrupt of the guest, by the host's vector.
+pub fn set_virtual_interrupt_pending(v: Vcpu, vector: u64, pending: bool) -> Outcome
+    ensures { λ r. ⌜ r ≡ pendingOf v vector pending ⌝ }
+{
+    let c = v.csrs;
+    let w = v.waiting;
+    let e = host_calls::pending_effect(c, w, vector, pending);
+    apply::unless_asking(v, e)
+}
+
+// Sets a pending interrupt.
+pub fn inject_interrupt(v: Vcpu, vector: u64) -> Outcome
+    ensures { λ r. ⌜ r ≡ pendingOf v vector true ⌝ }
+{
+    set_virtual_interrupt_pending(v, vector, true)
+}
+
+// The level of the guest's external interrupt line.
+pub fn set_vseip_level(v: Vcpu, asserted: bool) -> Outcome
+    ensures { λ r. ⌜ r ≡ pendingOf v 9 asserted ⌝ }
+{
+    set_virtual_interrupt_pending(v, consts::S_EXT_CODE, asserted)
+}
+
+// Latches pending bits that the hardware raised.
+pub fn latch_hvip(v: Vcpu, bits: u64) -> Outcome
+    ensures { λ r. ⌜ r ≡ latchOf v bits ⌝ }
+{
+    let c = v.csrs;
+    let w = v.waiting;
+    let e = effects::done(regs::with_hvip(c, c.hs.hvip | bits), Writes::Keep, w);
+    apply::unless_asking(v, e)
+}
+
+// Gives the guest the result of an IPI request.
+pub fn complete_ipi(v: Vcpu, abi: IpiAbi, completion: IpiCompletion) -> Outcome
+    ensures { λ r. ⌜ r ≡ completeIpiOf v abi completion ⌝ }
+{
+    let c = v.csrs;
+    let w = v.waiting;
+    let e = effects::done(
+        c,
+        host_calls::ipi_writes(abi, sbi_ipi::completion_number(completion)),
+        w,
+    );
+    apply::unless_asking(v, e)
+}

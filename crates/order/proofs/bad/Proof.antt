@@ -1,0 +1,12 @@
+-- `order::bad` meets its contract.
+use mathlib.Core.Path.{refl}
+use Rattle.order.specs.Order.{badOf}
+use Rattle.order.proofs.bad.Statement.{statement}
+use Rattle.order.proofs.bad.Tie as tie
+
+returns : tie.Need-returns
+unfolding badOf
+returns c = refl
+
+pub bad-spec : {M : Type 1} → statement M
+bad-spec = tie.close (tie.spec returns)

@@ -1,0 +1,18 @@
+-- `order::begin` meets its contract.
+use Rattle.order.specs.Order.{begun}
+use borrow.Author.Needs.{needs}
+use Rattle.order.proofs.begin.Statement.{statement}
+use Rattle.order.proofs.begin.Tie as tie
+
+new-requires : tie.Need-new-requires
+new-requires c κs = search needs
+
+setup-requires : tie.Need-setup-requires
+setup-requires c κs = search needs
+
+returns : tie.Need-returns
+unfolding begun
+returns c = simp (c .before .setup .ensures, c .before .before .new .ensures)
+
+pub begin-spec : {M : Type 1} → statement M
+begin-spec = tie.close (tie.spec new-requires setup-requires returns)

@@ -1,0 +1,18 @@
+-- `order::more` meets its contract.
+use Rattle.order.specs.Order.{moreOf}
+use borrow.Author.Needs.{needs}
+use Rattle.order.proofs.more.Statement.{statement}
+use Rattle.order.proofs.more.Tie as tie
+
+ask-of-requires : tie.Need-ask-of-requires
+ask-of-requires c κs = search needs
+
+paired-requires : tie.Need-paired-requires
+paired-requires c κs = search needs
+
+returns : tie.Need-returns
+unfolding moreOf
+returns c = simp (c .paired .ensures, c .before .ask-of .ensures)
+
+pub more-spec : {M : Type 1} → statement M
+more-spec = tie.close (tie.spec ask-of-requires paired-requires returns)

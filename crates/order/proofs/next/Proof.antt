@@ -1,0 +1,15 @@
+-- `order::next` meets its contract.
+use Rattle.order.specs.Order.{nextOf}
+use borrow.Author.Needs.{needs}
+use Rattle.order.proofs.next.Statement.{statement}
+use Rattle.order.proofs.next.Tie as tie
+
+wrapping-add-u64-requires : tie.Need-wrapping-add-u64-requires
+wrapping-add-u64-requires c κs = search needs
+
+returns : tie.Need-returns
+unfolding nextOf
+returns c = simp (c .wrapping-add-u64 .ensures)
+
+pub next-spec : {M : Type 1} → statement M
+next-spec = tie.close (tie.spec wrapping-add-u64-requires returns)

@@ -1,0 +1,18 @@
+-- `order::started` meets its contract.
+use Rattle.order.specs.Order.{startedOf}
+use borrow.Author.Needs.{needs}
+use Rattle.order.proofs.started.Statement.{statement}
+use Rattle.order.proofs.started.Tie as tie
+
+start-requires : tie.Need-start-requires
+start-requires c κs = search needs
+
+settled-requires : tie.Need-settled-requires
+settled-requires c κs = search needs
+
+returns : tie.Need-returns
+unfolding startedOf
+returns c = simp (c .settled .ensures, c .before .start .ensures)
+
+pub started-spec : {M : Type 1} → statement M
+started-spec = tie.close (tie.spec start-requires settled-requires returns)

@@ -1,0 +1,358 @@
+// The order of a capture's lines, and what each does (01, Replay program): a state between two bytes that takes what was
+// read of its line, calls the vCPU where a trap or an answer is whole, and says what the output gets.
+ghost use mathlib.Core.Path.{_≡_};
+ghost use Prim.Native.Nat.{_+_, _≤_};
+ghost use Rattle.order.specs.Pairs.{answerFor, fetchFor};
+ghost use Rattle.order.specs.Order.{badOf, begun, codeOf, endOf, gaveOf, headedOf, headerOf, moreOf, nextOf, pairedOf, settledOf, startedOf, tookOf, trappedOf};
+use lines::Got;
+use regs::Outcome;
+use regs::Vcpu;
+use types::Answer;
+use types::Fetch;
+use types::GuestPhysAddr;
+use types::GuestVirtAddr;
+use types::Reply;
+use types::Trap;
+
+// The replay between two bytes of its capture.
+pub struct State {
+    pub vcpu: Vcpu,
+    // The line that is being read: 0 to 32 of the header, 33 to 36 of a trap, 37 and 38 of an answer.
+    pub key: usize,
+    // How many of its bytes were read, and the number that its digits make so far.
+    pub at: usize,
+    pub value: u64,
+    // Its number, from 1.
+    pub line: u64,
+    // The numbers of earlier lines that a later one needs.
+    pub scause: u64,
+    pub stval: u64,
+    pub htval: u64,
+    pub word: u64,
+    // What the trap's `exit` line will say.
+    pub exit: u64,
+    // Whether a bad line was found.
+    pub over: bool,
+}
+
+// What the output gets.
+pub enum Gives {
+    Nothing,
+    Trap {
+        exit: u64,
+        sepc: u64,
+        a0: u64,
+        a1: u64,
+    },
+    Bad {
+        line: u64,
+    },
+}
+
+// The later state, and what the output gets.
+pub struct Step {
+    pub state: State,
+    pub gives: Gives,
+}
+
+// Before the first byte: a zero record after setup.
+pub fn begin() -> State
+    ensures { λ r. ⌜ r ≡ begun ⌝ }
+{
+    let o = setup::setup(setup::new(0, 0));
+    let v = o.vcpu;
+    State {
+        vcpu: v,
+        key: 0,
+        at: 0,
+        value: 0,
+        line: 1,
+        scause: 0,
+        stval: 0,
+        htval: 0,
+        word: 0,
+        exit: 0,
+        over: false,
+    }
+}
+
+// What a reading of the line gave.
+pub fn gave(s: State, g: Got) -> Step
+    ensures { λ r. ⌜ r ≡ gaveOf s g ⌝ }
+{
+    match g {
+        Got::More(at, value) => {
+            let mut t = s;
+            t.at = at;
+            t.value = value;
+            Step {
+                state: t,
+                gives: Gives::Nothing,
+            }
+        }
+        Got::Whole(n) => took(s, n),
+        Got::Unfit => bad(s),
+    }
+}
+
+// What the end of the capture gives: nothing where a trap may start, else the missing line.
+pub fn end(s: State) -> Gives
+    ensures { λ r. ⌜ r ≡ endOf s ⌝ }
+{
+    if s.over {
+        return Gives::Nothing;
+    }
+    if s.key == 33 {
+        if s.at == 0 {
+            return Gives::Nothing;
+        }
+        return Gives::Bad { line: s.line };
+    }
+    Gives::Bad { line: s.line }
+}
+
+// The line is unfit.
+fn bad(s: State) -> Step
+    ensures { λ r. ⌜ r ≡ badOf s ⌝ }
+{
+    let line = s.line;
+    let mut t = s;
+    t.at = 0;
+    t.value = 0;
+    t.over = true;
+    Step {
+        state: t,
+        gives: Gives::Bad { line },
+    }
+}
+
+// The line's number is n.
+fn took(s: State, n: u64) -> Step
+    ensures { λ r. ⌜ r ≡ tookOf s n ⌝ }
+{
+    let k = s.key;
+    match k {
+        33 => {
+            let mut t = next(s, 34);
+            t.scause = n;
+            Step {
+                state: t,
+                gives: Gives::Nothing,
+            }
+        }
+        34 => {
+            let mut t = next(s, 35);
+            t.stval = n;
+            Step {
+                state: t,
+                gives: Gives::Nothing,
+            }
+        }
+        35 => {
+            let mut t = next(s, 36);
+            t.htval = n;
+            Step {
+                state: t,
+                gives: Gives::Nothing,
+            }
+        }
+        36 => started(s, n),
+        37 => {
+            let mut t = next(s, 38);
+            t.word = n;
+            Step {
+                state: t,
+                gives: Gives::Nothing,
+            }
+        }
+        38 => more(s, n),
+        _ => header(s, n),
+    }
+}
+
+// The next line is that of the key.
+fn next(s: State, key: usize) -> State
+    ensures { λ r. ⌜ r ≡ nextOf s key ⌝ }
+{
+    let line = std::num::wrapping_add_u64(s.line, 1);
+    let mut t = s;
+    t.key = key;
+    t.at = 0;
+    t.value = 0;
+    t.line = line;
+    t
+}
+
+// A header line's number goes into the record.
+fn header(s: State, n: u64) -> Step
+    ensures { λ r. ⌜ r ≡ headerOf s n ⌝ }
+{
+    let v = s.vcpu;
+    let k = s.key;
+    let w = headed(v, k, n);
+    let mut t = next(s, std::num::wrapping_add_usize(k, 1));
+    t.vcpu = w;
+    Step {
+        state: t,
+        gives: Gives::Nothing,
+    }
+}
+
+// The record with a header line's number: sepc, vstimecmp, or the register of that line.
+fn headed(v: Vcpu, k: usize, n: u64) -> Vcpu
+    ensures { λ r. ⌜ r ≡ headedOf v k n ⌝ }
+{
+    if k == 0 {
+        let o = setup::set_entry(v, GuestPhysAddr(n));
+        return o.vcpu;
+    }
+    if k == 1 {
+        let c = regs::with_timer(v.csrs, n);
+        let mut w = v;
+        w.csrs = c;
+        return w;
+    }
+    let o = gprs::set_gpr(v, k - 1, n);
+    o.vcpu
+}
+
+// The trap's last number starts it.
+fn started(s: State, htinst: u64) -> Step
+    ensures { λ r. ⌜ r ≡ startedOf s htinst ⌝ }
+{
+    let v = s.vcpu;
+    let t = Trap {
+        scause: s.scause,
+        stval: s.stval,
+        htval: s.htval,
+        htinst,
+        room: 4096,
+    };
+    settled(s, vcpu::start(v, t))
+}
+
+// An answer's or load completion's second number.
+fn more(s: State, n: u64) -> Step
+    ensures { λ r. ⌜ r ≡ moreOf s n ⌝ }
+{
+    let v = s.vcpu;
+    let w = v.waiting;
+    paired(s, n, regs::ask_of(w))
+}
+
+// The same, by the number of the ask that waits; 0 is a load.
+fn paired(s: State, n: u64, ask: u64) -> Step
+    ensures { λ r. ⌜ r ≡ pairedOf s n ask ⌝ }
+{
+    let v = s.vcpu;
+    if ask == 0 {
+        return settled(s, vcpu::complete_load(v, s.word));
+    }
+    if ask == 1 {
+        if 5 < n {
+            return bad(s);
+        }
+        return settled(s, vcpu::answer(v, answer(ask, s.word, n)));
+    }
+    settled(s, vcpu::answer(v, answer(ask, s.word, n)))
+}
+
+// The answer that a pair is, by the number of the ask that waits.
+fn answer(ask: u64, word: u64, more: u64) -> Answer
+    ensures { λ r. ⌜ r ≡ answerFor ask word more ⌝ }
+{
+    match ask {
+        1 => Answer::Fetched(fetched(word, more)),
+        2 => Answer::MaskCopied {
+            count: word,
+            bytes: more,
+        },
+        3 => Answer::CopiedIn { count: word },
+        4 => Answer::Printed {
+            error: word,
+            value: more,
+        },
+        5 => Answer::ConsoleRead {
+            error: word,
+            value: more,
+        },
+        6 => Answer::CopiedOut { count: word },
+        7 => Answer::Emitted,
+        8 => Answer::Char { number: word },
+        _ => Answer::Forwarded {
+            error: word,
+            value: more,
+        },
+    }
+}
+
+// What a fetch gave: the word's low 32 bits, or a fault.
+fn fetched(word: u64, more: u64) -> Fetch
+    ensures { λ r. ⌜ r ≡ fetchFor word more ⌝ }
+{
+    match more {
+        0 => Fetch::Word((word % 0x100000000) as u32),
+        1 => Fetch::Page(GuestVirtAddr(word)),
+        2 => Fetch::Access(GuestVirtAddr(word)),
+        3 => Fetch::Misaligned(GuestVirtAddr(word)),
+        4 => Fetch::GuestPage(GuestPhysAddr(word)),
+        _ => Fetch::Unhandled,
+    }
+}
+
+// After a call on the vCPU.
+fn settled(s: State, o: Outcome) -> Step
+    ensures { λ r. ⌜ r ≡ settledOf s o ⌝ }
+{
+    let v = o.vcpu;
+    let w = v.waiting;
+    let reply = o.reply;
+    trapped(s, v, code(s.exit, reply), regs::is_idle(w))
+}
+
+// Where nothing waits the trap is over, otherwise `word` is next.
+fn trapped(s: State, v: Vcpu, exit: u64, idle: bool) -> Step
+    ensures { λ r. ⌜ r ≡ trappedOf s v exit idle ⌝ }
+{
+    let mut t = s;
+    t.vcpu = v;
+    t.exit = exit;
+    if idle {
+        let sepc = v.csrs.guest.sepc;
+        let x = v.x;
+        return Step {
+            state: next(t, 33),
+            gives: Gives::Trap {
+                exit,
+                sepc,
+                a0: x[10],
+                a1: x[11],
+            },
+        };
+    }
+    Step {
+        state: next(t, 37),
+        gives: Gives::Nothing,
+    }
+}
+
+// What the `exit` line says after a reply.
+fn code(before: u64, r: Reply) -> u64
+    ensures { λ n. ⌜ n ≡ codeOf before r ⌝ }
+{
+    match r {
+        Reply::Exit(e) => numbers::exit_number(e),
+        Reply::Ask(_) => before,
+        Reply::Done => before,
+        Reply::Value(_) => before,
+        Reply::Error(e) => failed(numbers::error_number(e)),
+    }
+}
+
+// Errors are 0x100 plus their number.
+fn failed(number: u64) -> u64
+    requires { ⌜ number ≤ 7 ⌝ }
+    ensures { λ r. ⌜ r ≡ 256 + number ⌝ }
+{
+    256 + number
+}

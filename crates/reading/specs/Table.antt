@@ -1,0 +1,215 @@
+-- Document 01's reading table: the general registers that a call on a record names. The rows are in 01's order and words;
+-- they cite no definition of what the handler does.
+use Prim.Native.Nat.{ℕ, _%_, _^_}
+use mathlib.Core.List.{List, [], _∷_}
+use lib.ListN.{getD}
+use lib.Dec.{eqb, leb}
+use Rattle.types.specs.Pick.{pick}
+use Rattle.types.specs.declared.Access.{Access}
+use Rattle.types.specs.declared.Access.the-variants as access
+use Rattle.types.specs.declared.Answer.{Answer}
+use Rattle.types.specs.declared.Answer.the-variants as answers
+use Rattle.types.specs.declared.Fetch.{Fetch}
+use Rattle.types.specs.declared.Fetch.the-variants as fetch
+use Rattle.types.specs.declared.Trap.{Trap}
+use Rattle.consts.specs.Csr.{systemOpcode, stimecmp}
+use Rattle.consts.specs.Sbi.{legacySetTimer, legacyPutchar, legacySendIpi, legacyShutdown, eidTime, eidSpi, eidHsm, eidHvc, eidSrst, eidDbcn, eidRfnc, eidPmu}
+use Rattle.consts.specs.Traps.{envCallFromVs, virtualInstruction, storeGuestPageFault}
+use Rattle.decoder.specs.declared.Trapped.{Trapped}
+use Rattle.fields.specs.Fields.{opcodeField, funct3Field, rs1Field, csrField}
+use Rattle.decoder.specs.Length.{htinstOf, fetchedOf, storeSource}
+use Rattle.regs.specs.declared.Vcpu.{Vcpu}
+use Rattle.regs.specs.declared.Waiting.{Waiting}
+use Rattle.regs.specs.declared.Waiting.the-variants as waiting
+use Rattle.regs.specs.Record.{isIdle}
+use Rattle.reading.specs.Calls.{Call, setup, setEntry, getGpr, setGpr, setReturn, paging, pending, latch, completeIpi, start, answer, completeLoad, print}
+
+-- SBI, 'Binary Encoding': a0 to a7 are x10 to x17
+abbrev pub a0 : ℕ
+a0 = 10
+
+abbrev pub a1 : ℕ
+a1 = 11
+
+abbrev pub a2 : ℕ
+a2 = 12
+
+abbrev pub a3 : ℕ
+a3 = 13
+
+abbrev pub a4 : ℕ
+a4 = 14
+
+abbrev pub a5 : ℕ
+a5 = 15
+
+abbrev pub a6 : ℕ
+a6 = 16
+
+abbrev pub a7 : ℕ
+a7 = 17
+
+-- "x0 never"
+unfoldable pub sourceNames : ℕ → List ℕ
+sourceNames i = pick (eqb i 0) [] (i ∷ [])
+
+-- "a6, a0 to a5"
+unfoldable pub forwardNames : List ℕ
+forwardNames = a6 ∷ a0 ∷ a1 ∷ a2 ∷ a3 ∷ a4 ∷ a5 ∷ []
+
+-- TIME 0: a0
+unfoldable pub timeNames : ℕ → List ℕ
+timeNames fid = pick (eqb fid 0) (a0 ∷ []) []
+
+-- SRST 0: a0
+unfoldable pub srstNames : ℕ → List ℕ
+srstNames fid = pick (eqb fid 0) (a0 ∷ []) []
+
+-- sPI 0: a0, a1
+unfoldable pub spiNames : ℕ → List ℕ
+spiNames fid = pick (eqb fid 0) (a0 ∷ a1 ∷ []) []
+
+-- HSM 0: a0, a1, a2
+unfoldable pub hsmNames : ℕ → List ℕ
+hsmNames fid = pick (eqb fid 0) (a0 ∷ a1 ∷ a2 ∷ []) []
+
+-- DBCN 0 and 1: a0, a1, a2
+unfoldable pub consoleNames : List ℕ
+consoleNames = a0 ∷ a1 ∷ a2 ∷ []
+
+-- DBCN 2: a0
+unfoldable pub byteNames : List ℕ
+byteNames = a0 ∷ []
+
+-- DBCN by fid
+unfoldable pub dbcnNames : ℕ → List ℕ
+dbcnNames fid =
+    pick (eqb fid 0) consoleNames
+    (pick (eqb fid 1) consoleNames
+    (pick (eqb fid 2) byteNames
+    []))
+
+-- "Legacy 0, 1, 4: a0. HVC, PMU, RFNC, forwarded: a6, a0 to a5. Others with fids: a6, and" the rows above. The other legacy
+-- calls, up to 8, name nothing more; every eid that has no row is forwarded
+unfoldable pub eidNames : ℕ → ℕ → List ℕ
+eidNames eid fid =
+    pick (eqb eid legacySetTimer) (a0 ∷ [])
+    (pick (eqb eid legacyPutchar) (a0 ∷ [])
+    (pick (eqb eid legacySendIpi) (a0 ∷ [])
+    (pick (leb eid legacyShutdown) []
+    (pick (eqb eid eidHvc) forwardNames
+    (pick (eqb eid eidPmu) forwardNames
+    (pick (eqb eid eidRfnc) forwardNames
+    (pick (eqb eid eidTime) (a6 ∷ timeNames fid)
+    (pick (eqb eid eidSrst) (a6 ∷ srstNames fid)
+    (pick (eqb eid eidSpi) (a6 ∷ spiNames fid)
+    (pick (eqb eid eidHsm) (a6 ∷ hsmNames fid)
+    (pick (eqb eid eidDbcn) (a6 ∷ dbcnNames fid)
+    forwardNames)))))))))))
+
+-- "Ecall: a7"
+unfoldable pub ecallNames : List ℕ → List ℕ
+ecallNames x = a7 ∷ eidNames (getD x a7 0) (getD x a6 0)
+
+-- "rs1 for funct3 1, 2, 3"
+unfoldable pub funct3Names : ℕ → ℕ → List ℕ
+funct3Names funct3 rs1 =
+    pick (eqb funct3 1) (sourceNames rs1)
+    (pick (eqb funct3 2) (sourceNames rs1)
+    (pick (eqb funct3 3) (sourceNames rs1)
+    []))
+
+-- stimecmp: the word ends in 0x73 and its CSR field is 0x14d
+unfoldable pub stimecmpNames : ℕ → List ℕ
+stimecmpNames w =
+    pick (eqb (opcodeField w) systemOpcode)
+    (pick (eqb (csrField w) stimecmp) (funct3Names (funct3Field w) (rs1Field w)) [])
+    []
+
+-- "Decoded store": rs2
+unfoldable pub storeNames : Trapped → List ℕ
+storeNames i = sourceNames (storeSource i)
+
+-- by scause: ecall, virtual instruction, store "under 23". "Nothing else"
+unfoldable pub causeNames : ℕ → List ℕ → Trap → List ℕ
+causeNames scause x t =
+    pick (eqb scause envCallFromVs) (ecallNames x)
+    (pick (eqb scause virtualInstruction) (stimecmpNames (t .stval % 2 ^ 32))
+    (pick (eqb scause storeGuestPageFault) (storeNames (htinstOf (t .htinst)))
+    []))
+
+-- a fault that was fetched for: a store "under 23"
+unfoldable pub accessNames : Access → ℕ → List ℕ
+accessNames access.Read w = []
+accessNames access.Write w = storeNames (fetchedOf w)
+accessNames access.Execute w = []
+
+-- "A trap already waiting when a sequence starts counts as in it": a fetch names what the word answered can still read, an
+-- ecall nothing
+unfoldable pub wordNames : Waiting → ℕ → List ℕ
+wordNames waiting.Idle w = []
+wordNames (waiting.Load rd width s) w = []
+wordNames waiting.FetchCsr w = stimecmpNames w
+wordNames (waiting.FetchFault at k) w = accessNames k w
+wordNames waiting.CopyMask w = []
+wordNames (waiting.CopyIn n) w = []
+wordNames (waiting.Print n) w = []
+wordNames (waiting.ReadConsole n at) w = []
+wordNames (waiting.CopyOut n) w = []
+wordNames waiting.PutChar w = []
+wordNames waiting.PutByte w = []
+wordNames waiting.GetChar w = []
+wordNames waiting.Forward w = []
+
+-- a fault in place of the word names nothing
+unfoldable pub fetchNames : Waiting → Fetch → List ℕ
+fetchNames n (fetch.Word w) = wordNames n w
+fetchNames n (fetch.Page a) = []
+fetchNames n (fetch.Access a) = []
+fetchNames n (fetch.Misaligned a) = []
+fetchNames n (fetch.GuestPage a) = []
+fetchNames n fetch.Unhandled = []
+
+-- the answers to an ecall's asks read no register
+unfoldable pub answerNames : Waiting → Answer → List ℕ
+answerNames n (answers.Fetched f) = fetchNames n f
+answerNames n (answers.MaskCopied count bytes) = []
+answerNames n (answers.CopiedIn count) = []
+answerNames n (answers.Printed error value) = []
+answerNames n (answers.ConsoleRead error value) = []
+answerNames n (answers.CopiedOut count) = []
+answerNames n answers.Emitted = []
+answerNames n (answers.Char number) = []
+answerNames n (answers.Forwarded error value) = []
+
+-- the registers that a call's trap names; a refused start names none
+unfoldable pub namesOf : Vcpu → Call → List ℕ
+namesOf v (start t) = pick (isIdle (v .waiting)) (causeNames (t .scause) (v .x) t) []
+namesOf v (answer a) = answerNames (v .waiting) a
+namesOf v setup = []
+namesOf v (setEntry entry) = []
+namesOf v (getGpr index) = []
+namesOf v (setGpr index value) = []
+namesOf v (setReturn value) = []
+namesOf v (paging levels mode root) = []
+namesOf v (pending vector on) = []
+namesOf v (latch bits) = []
+namesOf v (completeIpi abi completion) = []
+namesOf v (completeLoad n) = []
+namesOf v (print buffer) = []
+
+-- the registers that a call reads out to the host; x0 reads 0, whatever its slot holds
+unfoldable pub readsOf : Call → List ℕ
+readsOf (getGpr index) = sourceNames index
+readsOf setup = []
+readsOf (setEntry entry) = []
+readsOf (setGpr index value) = []
+readsOf (setReturn value) = []
+readsOf (paging levels mode root) = []
+readsOf (pending vector on) = []
+readsOf (latch bits) = []
+readsOf (completeIpi abi completion) = []
+readsOf (start t) = []
+readsOf (answer a) = []
+readsOf (completeLoad n) = []
+readsOf (print buffer) = []

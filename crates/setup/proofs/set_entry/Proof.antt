@@ -1,0 +1,22 @@
+-- `setup::set_entry` meets its contract.
+use Rattle.calls.specs.Calls.{setEntryOf}
+use borrow.Author.Needs.{needs}
+use Rattle.setup.proofs.set_entry.Statement.{statement}
+use Rattle.setup.proofs.set_entry.Tie as tie
+
+entry-csrs-requires : tie.Need-entry-csrs-requires
+entry-csrs-requires c κs = search needs
+
+done-requires : tie.Need-done-requires
+done-requires c κs = search needs
+
+unless-asking-requires : tie.Need-unless-asking-requires
+unless-asking-requires c κs = search needs
+
+returns : tie.Need-returns
+unfolding setEntryOf
+returns c = simp (c .unless-asking .ensures, c .before .done .ensures, c .before .before .entry-csrs .ensures)
+
+pub set-entry-spec : {M : Type 1} → statement M
+set-entry-spec =
+    tie.close (tie.spec entry-csrs-requires done-requires unless-asking-requires returns)

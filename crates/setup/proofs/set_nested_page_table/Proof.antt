@@ -1,0 +1,19 @@
+-- `setup::set_nested_page_table` meets its contract.
+use Rattle.calls.specs.Calls.{pagingOf}
+use borrow.Author.Needs.{needs}
+use Rattle.setup.proofs.set_nested_page_table.Statement.{statement}
+use Rattle.setup.proofs.set_nested_page_table.Tie as tie
+
+paging-effect-requires : tie.Need-paging-effect-requires
+paging-effect-requires c κs = search needs
+
+unless-asking-requires : tie.Need-unless-asking-requires
+unless-asking-requires c κs = search needs
+
+returns : tie.Need-returns
+unfolding pagingOf
+returns c = simp (c .unless-asking .ensures, c .before .paging-effect .ensures)
+
+pub set-nested-page-table-spec : {M : Type 1} → statement M
+set-nested-page-table-spec =
+    tie.close (tie.spec paging-effect-requires unless-asking-requires returns)

@@ -1,0 +1,21 @@
+-- `setup::setup` meets its contract.
+use Rattle.calls.specs.Calls.{setupOf}
+use borrow.Author.Needs.{needs}
+use Rattle.setup.proofs.setup.Statement.{statement}
+use Rattle.setup.proofs.setup.Tie as tie
+
+setup-csrs-requires : tie.Need-setup-csrs-requires
+setup-csrs-requires c κs = search needs
+
+done-requires : tie.Need-done-requires
+done-requires c κs = search needs
+
+unless-asking-requires : tie.Need-unless-asking-requires
+unless-asking-requires c κs = search needs
+
+returns : tie.Need-returns
+unfolding setupOf
+returns c = simp (c .unless-asking .ensures, c .before .done .ensures, c .before .before .setup-csrs .ensures)
+
+pub setup-spec : {M : Type 1} → statement M
+setup-spec = tie.close (tie.spec setup-csrs-requires done-requires unless-asking-requires returns)

@@ -1,0 +1,78 @@
+// What the host sets up before a guest runs: the record, its CSRs, where it starts, its page table.
+ghost use mathlib.Core.Path.{_≡_};
+ghost use Rattle.calls.specs.Calls.{newOf, pagingOf, setEntryOf, setupOf};
+use regs::Csrs;
+use regs::GuestCsrs;
+use regs::HsCsrs;
+use regs::Outcome;
+use regs::Vcpu;
+use regs::VsCsrs;
+use regs::Waiting;
+use regs::Writes;
+use types::GuestPhysAddr;
+
+// A record of zeros but for what a guest finds at its start: a0 is its hart, a1 where the device tree lies.
+pub fn new(hart_id: u64, dtb_addr: u64) -> Vcpu
+    ensures { λ r. ⌜ r ≡ newOf «hart_id» «dtb_addr» ⌝ }
+{
+    let mut x = [0u64; 32];
+    x[10] = hart_id;
+    x[11] = dtb_addr;
+    let guest = GuestCsrs {
+        sepc: 0,
+        sstatus: 0,
+        hstatus: 0,
+    };
+    let vs = VsCsrs {
+        vsstatus: 0,
+        vstvec: 0,
+        vsepc: 0,
+        vscause: 0,
+        vstval: 0,
+        vstimecmp: 0,
+    };
+    let hs = HsCsrs {
+        hie: 0,
+        hvip: 0,
+        hgeie: 0,
+        hgatp: 0,
+    };
+    let csrs = Csrs { guest, vs, hs };
+    let counts = [0u64; 9];
+    Vcpu {
+        x,
+        csrs,
+        counts,
+        waiting: Waiting::Idle,
+    }
+}
+
+// The state that a guest starts with.
+pub fn setup(v: Vcpu) -> Outcome
+    ensures { λ r. ⌜ r ≡ setupOf v ⌝ }
+{
+    let c = v.csrs;
+    let w = v.waiting;
+    let e = effects::done(host_calls::setup_csrs(c), Writes::Keep, w);
+    apply::unless_asking(v, e)
+}
+
+// Where the guest starts.
+pub fn set_entry(v: Vcpu, entry: GuestPhysAddr) -> Outcome
+    ensures { λ r. ⌜ r ≡ setEntryOf v entry ⌝ }
+{
+    let c = v.csrs;
+    let w = v.waiting;
+    let e = effects::done(host_calls::entry_csrs(c, entry), Writes::Keep, w);
+    apply::unless_asking(v, e)
+}
+
+// Sets the guest-stage page table: 3 levels with mode 8, or 4 with mode 9, and a root at a multiple of 16 KiB.
+pub fn set_nested_page_table(v: Vcpu, levels: u64, mode: u64, root: u64) -> Outcome
+    ensures { λ r. ⌜ r ≡ pagingOf v levels mode root ⌝ }
+{
+    let c = v.csrs;
+    let w = v.waiting;
+    let e = host_calls::paging_effect(c, w, levels, mode, root);
+    apply::unless_asking(v, e)
+}

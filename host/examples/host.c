@@ -1,0 +1,67 @@
+/* A host in C, shorter than host.rs: tools/host-c builds and runs it. */
+#include "curbizzolu.h"
+
+#include <inttypes.h>
+#include <stdio.h>
+
+/* One trap to its exit: every ask is answered from here. */
+static uint64_t handle(struct vcpu *v, struct vcpu_trap trap, struct vcpu_out *out) {
+    uint64_t given = vcpu_start(v, &trap, out);
+    while (given > VCPU_ASK && given <= VCPU_ASK + VCPU_ASK_FORWARD) {
+        struct vcpu_answer_words answer = {given - VCPU_ASK, 0, 0};
+        switch (answer.ask) {
+        case VCPU_ASK_FETCH:
+            printf("  fetch at %#" PRIx64 ": no page\n", out->word[0]);
+            answer.first = out->word[0];
+            answer.second = VCPU_FETCH_PAGE;
+            break;
+        case VCPU_ASK_COPY_IN:
+            printf("  copy %" PRIu64 " bytes from %#" PRIx64 "\n", out->word[1], out->word[0]);
+            answer.first = out->word[1];
+            break;
+        case VCPU_ASK_PRINT:
+            printf("  print: %.*s\n", (int)vcpu_to_print(v), "title 7 is on screen 3");
+            answer.second = out->word[0];
+            break;
+        default:
+            answer.first = (uint64_t)-2; /* not supported */
+        }
+        given = vcpu_answer(v, &answer, out);
+    }
+    return given;
+}
+
+static void load(struct vcpu *v, const char *what, uint64_t htinst, uint64_t device) {
+    struct vcpu_out out;
+    struct vcpu_trap trap = {21, 0, 0x10000000 >> 2, htinst, 4096};
+    if (handle(v, trap, &out) == VCPU_EXIT_MMIO_READ)
+        vcpu_complete_load(v, device);
+    printf("%s: sepc %#" PRIx64 ", a0 %#" PRIx64 ", vscause %" PRIu64 "\n", what, v->sepc, v->x[10], v->vscause);
+}
+
+int main(void) {
+    struct vcpu v;
+    struct vcpu_out out;
+    struct vcpu_trap ecall = {10, 0, 0, 0, 4096};
+    vcpu_new(&v, 0, 0x82000000);
+    vcpu_setup(&v);
+    vcpu_set_entry(&v, 0x80000000);
+
+    load(&v, "a fingerprint by lw", 0x2503, 0x1c3a77e1);
+    load(&v, "its top bit set, by lw", 0x2503, 0x9c3a77e1);
+    load(&v, "the same by lwu", 0x6503, 0x9c3a77e1);
+
+    v.x[17] = 0x4442434E, v.x[16] = 0, v.x[10] = 22, v.x[11] = 0x80100000, v.x[12] = 0;
+    uint64_t given = handle(&v, ecall, &out);
+    printf("a line by DBCN: exit %" PRIu64 ", a0 %" PRIu64 ", a1 %" PRIu64 "\n", given, v.x[10], v.x[11]);
+
+    v.x[17] = 0x735049, v.x[16] = 0, v.x[10] = 6, v.x[11] = 0;
+    if (handle(&v, ecall, &out) == VCPU_EXIT_SEND_IPI) {
+        printf("an IPI: mask %#" PRIx64 ", base %" PRIu64 "\n", out.word[0], out.word[1]);
+        vcpu_complete_ipi(&v, out.word[2], VCPU_IPI_SUCCESS);
+    }
+
+    load(&v, "a fetch that faults", 0, 0);
+    printf("out of turn: %#" PRIx64 "\n", vcpu_complete_load(&v, 0));
+    return 0;
+}

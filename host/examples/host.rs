@@ -1,0 +1,87 @@
+//! A host in one screen: a list of traps, what the handler asks for each, and what comes of it, in plain words.
+//!
+//!     cargo run --example host
+
+use curbizzolu::*;
+
+const LINE: &[u8] = b"title 7 is on screen 3\n";
+
+/// The host's side: what it answers. There is no guest memory here, so the copy brings a fixed line.
+fn serve(vcpu: &Vcpu, ask: Ask, buffer: &mut Vec<u8>) -> Answer {
+    match ask {
+        Ask::Fetch { at, supervisor } => {
+            println!("  asked to fetch at {at:#x}, supervisor {supervisor}: the guest's page tables have no page there");
+            Answer::Fetched(Fetch::Page(at))
+        }
+        Ask::CopyIn { at, count } => {
+            println!("  asked to copy {count} bytes from {at:#x}");
+            *buffer = LINE.to_vec();
+            Answer::CopiedIn { count: buffer.len() as u64 }
+        }
+        Ask::Print { count } => {
+            print!("  asked to print {count} bytes: {}", String::from_utf8_lossy(vcpu.to_print(buffer)));
+            Answer::Printed { error: 0, value: count }
+        }
+        Ask::Forward { eid, .. } => {
+            println!("  asked to forward call {eid:#x}: not supported");
+            Answer::Forwarded { error: -2_i64 as u64, value: 0 }
+        }
+        other => unreachable!("this list of traps has no {other:?}"),
+    }
+}
+
+/// One trap, from its numbers to its exit, with the device's or the host's part after it.
+fn handle(vcpu: &mut Vcpu, what: &str, trap: Trap, device: u64) -> Result<(), Error> {
+    println!("{what}");
+    let (mut buffer, mut step) = (Vec::new(), vcpu.start(&trap)?);
+    let exit = loop {
+        match step {
+            Step::Exit(exit) => break exit,
+            Step::Ask(ask) => {
+                let answer = serve(vcpu, ask, &mut buffer);
+                step = vcpu.answer(&answer)?;
+            }
+        }
+    };
+    match exit {
+        Exit::MmioRead { addr, width } => {
+            vcpu.complete_load(device)?;
+            println!("  {} bytes at {addr:#x} gave {device:#x}: a0 is {:#018x}", width.bytes(), vcpu.get_gpr(10)?);
+        }
+        Exit::SendIpi(request) => {
+            println!("  harts {:#b} from hart {} on are interrupted", request.hart_mask, request.hart_mask_base);
+            vcpu.complete_ipi(request, IpiCompletion::Success)?;
+        }
+        Exit::Nothing => println!("  the guest goes on at {:#x}, with a0 = {:#x}", vcpu.sepc, vcpu.get_gpr(10)?),
+        other => println!("  {other:?}"),
+    }
+    Ok(())
+}
+
+fn main() -> Result<(), Error> {
+    let mut vcpu = Vcpu::new(0, 0x8200_0000);
+    vcpu.setup()?;
+    vcpu.set_entry(GuestPhysAddr(0x8000_0000))?;
+    vcpu.vstvec = 0x8000_1000;
+    let ecall = Trap { scause: 10, room: 4096, ..Trap::default() };
+    let load = |htinst| Trap { scause: 21, htval: 0x1000_0000 >> 2, htinst, ..Trap::default() };
+
+    handle(&mut vcpu, "A title's fingerprint, by lw a0:", load(0x2503), 0x1c3a_77e1)?;
+    handle(&mut vcpu, "One with its top bit set, by lw a0:", load(0x2503), 0x9c3a_77e1)?;
+    handle(&mut vcpu, "The same, by lwu a0:", load(0x6503), 0x9c3a_77e1)?;
+
+    for (register, value) in [(17, 0x4442_434E), (16, 0), (10, LINE.len() as u64), (11, 0x8010_0000), (12, 0)] {
+        vcpu.set_gpr(register, value)?;
+    }
+    handle(&mut vcpu, "A line for the console, by DBCN:", ecall, 0)?;
+
+    for (register, value) in [(17, 0x73_5049), (16, 0), (10, 0b110), (11, 0)] {
+        vcpu.set_gpr(register, value)?;
+    }
+    handle(&mut vcpu, "An IPI:", ecall, 0)?;
+
+    handle(&mut vcpu, "A load with no instruction in htinst:", load(0), 0)?;
+    println!("  the guest takes fault {} at {:#x} itself", vcpu.vscause, vcpu.vstval);
+    println!("A load completed with none waiting is refused: {}", vcpu.complete_load(0).unwrap_err());
+    Ok(())
+}

@@ -1,0 +1,448 @@
+//! The record and every call on it.
+
+use crate::library::{self, Out, Record, ASK, DONE, ERROR, RECORD, VALUE};
+use crate::types::*;
+
+/// A guest's hart while it is not running: its registers, the CSRs that the handler keeps for it, nine event counts, and what
+/// a trap waits for.
+///
+/// It is 58 words of 64 bits in this order, so that assembly can save and load a guest by offset
+/// ([`core::mem::offset_of!`]). Any content is allowed: every call gives an answer on every pattern of words.
+///
+/// ```
+/// use curbizzolu::Vcpu;
+/// let vcpu = Vcpu::new(3, 0x8200_0000);
+/// assert_eq!((vcpu.x[10], vcpu.x[11], vcpu.sepc), (3, 0x8200_0000, 0));
+/// assert_eq!(core::mem::offset_of!(Vcpu, sepc), 32 * 8);
+/// ```
+#[repr(C)]
+#[derive(Clone, Debug, Eq, PartialEq)]
+pub struct Vcpu {
+    /// x0 to x31. Slot 0 is never written by a call, and x0 reads 0 whatever it holds.
+    pub x: [u64; 32],
+    /// Where the guest goes on.
+    pub sepc: u64,
+    /// sstatus for the guest.
+    pub sstatus: u64,
+    /// hstatus for the guest.
+    pub hstatus: u64,
+    /// The guest's own sstatus.
+    pub vsstatus: u64,
+    /// The guest's own stvec.
+    pub vstvec: u64,
+    /// The guest's own sepc.
+    pub vsepc: u64,
+    /// The guest's own scause.
+    pub vscause: u64,
+    /// The guest's own stval.
+    pub vstval: u64,
+    /// The guest's timer.
+    pub vstimecmp: u64,
+    /// hie for the guest.
+    pub hie: u64,
+    /// The guest's pending interrupts.
+    pub hvip: u64,
+    /// hgeie for the guest.
+    pub hgeie: u64,
+    /// The guest-stage page table.
+    pub hgatp: u64,
+    /// Events 1 to 9, each modulo 2^64: timers set, illegal instructions, then seven kinds of remote fence.
+    pub counts: [u64; 9],
+    /// The kind of what waits, and three numbers. No call needs a host to look at it.
+    waiting: [u64; 4],
+}
+
+const _: () = assert!(core::mem::size_of::<Vcpu>() == RECORD * 8);
+
+impl Vcpu {
+    /// A record of zeros but for what a guest finds at its start: a0 is its hart, a1 where its device tree lies.
+    ///
+    /// ```
+    /// # use curbizzolu::{GuestPhysAddr, Vcpu};
+    /// let mut vcpu = Vcpu::new(0, 0x8200_0000);
+    /// vcpu.setup()?;
+    /// vcpu.set_entry(GuestPhysAddr(0x8000_0000))?;
+    /// # Ok::<(), curbizzolu::Refusal>(())
+    /// ```
+    pub fn new(hart_id: u64, dtb_addr: u64) -> Vcpu {
+        let mut vcpu = Vcpu::from_words([0; RECORD]);
+        // SAFETY: as for every call below, the pointers are to live words of ours that do not overlap, and the library asks
+        // nothing more: its functions are proved to answer on every pattern of words and to touch nothing else.
+        unsafe { library::vcpu_new(vcpu.words(), hart_id, dtb_addr) };
+        vcpu
+    }
+
+    /// The record that these words stand for, as [`to_words`](Vcpu::to_words) gave them: for a guest that is stored or moved.
+    /// Any words are allowed.
+    ///
+    /// ```
+    /// # use curbizzolu::Vcpu;
+    /// let vcpu = Vcpu::new(1, 2);
+    /// assert_eq!(Vcpu::from_words(vcpu.to_words()), vcpu);
+    /// ```
+    pub const fn from_words(words: [u64; 58]) -> Vcpu {
+        // SAFETY: both are 58 words of 64 bits, and every pattern is allowed in both.
+        unsafe { core::mem::transmute(words) }
+    }
+
+    /// The record as words.
+    ///
+    /// ```
+    /// # use curbizzolu::Vcpu;
+    /// assert_eq!(Vcpu::new(7, 0).to_words()[10], 7);
+    /// ```
+    pub const fn to_words(&self) -> [u64; 58] {
+        // SAFETY: as above.
+        unsafe { *(self as *const Vcpu as *const Record) }
+    }
+
+    fn words(&mut self) -> *mut Record {
+        self as *mut Vcpu as *mut Record
+    }
+
+    /// The state that a guest starts with: sstatus, hstatus, hie, the timer, no interrupt pending. The rest stays.
+    ///
+    /// ```
+    /// # use curbizzolu::Vcpu;
+    /// let mut vcpu = Vcpu::new(0, 0);
+    /// vcpu.setup()?;
+    /// assert_eq!((vcpu.hie, vcpu.vstimecmp), (0x444, u64::MAX));
+    /// # Ok::<(), curbizzolu::Refusal>(())
+    /// ```
+    pub fn setup(&mut self) -> Result<(), Refusal> {
+        done(unsafe { library::vcpu_setup(self.words()) })
+    }
+
+    /// Where the guest starts.
+    ///
+    /// ```
+    /// # use curbizzolu::{GuestPhysAddr, Vcpu};
+    /// let mut vcpu = Vcpu::new(0, 0);
+    /// vcpu.set_entry(GuestPhysAddr(0x8000_0000))?;
+    /// assert_eq!(vcpu.sepc, 0x8000_0000);
+    /// # Ok::<(), curbizzolu::Refusal>(())
+    /// ```
+    pub fn set_entry(&mut self, entry: GuestPhysAddr) -> Result<(), Refusal> {
+        done(unsafe { library::vcpu_set_entry(self.words(), entry.0) })
+    }
+
+    /// Reads a general register; x0 reads 0. It is never out of turn.
+    ///
+    /// ```
+    /// # use curbizzolu::Vcpu;
+    /// assert_eq!(Vcpu::new(5, 0).get_gpr(10), Ok(5));
+    /// ```
+    pub fn get_gpr(&self, index: usize) -> Result<u64, Refusal> {
+        let mut out: Out = [0; 8];
+        let code = unsafe { library::vcpu_get_gpr(self as *const Vcpu as *const Record, index as u64, &mut out) };
+        match code {
+            VALUE => Ok(out[0]),
+            _ => Err(refusal(code)),
+        }
+    }
+
+    /// Writes a general register; x0 stays.
+    ///
+    /// ```
+    /// # use curbizzolu::{Refusal, Vcpu};
+    /// let mut vcpu = Vcpu::new(0, 0);
+    /// assert_eq!(vcpu.set_gpr(7, 9), Ok(()));
+    /// assert_eq!(vcpu.set_gpr(32, 9), Err(Refusal::InvalidInput));
+    /// ```
+    pub fn set_gpr(&mut self, index: usize, value: u64) -> Result<(), Refusal> {
+        done(unsafe { library::vcpu_set_gpr(self.words(), index as u64, value) })
+    }
+
+    /// Writes a0: a hypercall's result.
+    ///
+    /// ```
+    /// # use curbizzolu::Vcpu;
+    /// let mut vcpu = Vcpu::new(0, 0);
+    /// vcpu.set_return_value(1)?;
+    /// assert_eq!(vcpu.get_gpr(10), Ok(1));
+    /// # Ok::<(), curbizzolu::Refusal>(())
+    /// ```
+    pub fn set_return_value(&mut self, value: u64) -> Result<(), Refusal> {
+        done(unsafe { library::vcpu_set_return_value(self.words(), value) })
+    }
+
+    /// Sets the guest-stage page table.
+    ///
+    /// ```
+    /// # use curbizzolu::{HostPhysAddr, NestedPagingConfig, Vcpu};
+    /// let mut vcpu = Vcpu::new(0, 0);
+    /// vcpu.set_nested_page_table(NestedPagingConfig { root_paddr: HostPhysAddr(0x8000_4000), levels: 3, mode: 8 })?;
+    /// assert_eq!(vcpu.hgatp, 0x8000_0000_0008_0004);
+    /// # Ok::<(), curbizzolu::Refusal>(())
+    /// ```
+    pub fn set_nested_page_table(&mut self, config: NestedPagingConfig) -> Result<(), Refusal> {
+        let NestedPagingConfig { root_paddr, levels, mode } = config;
+        done(unsafe { library::vcpu_set_nested_page_table(self.words(), levels, mode, root_paddr.0) })
+    }
+
+    /// Sets or clears a pending interrupt of the guest, by the host's vector: 2^63 + 1 software, 2^63 + 5 timer, 9 or
+    /// 2^63 + 9 external.
+    ///
+    /// ```
+    /// # use curbizzolu::{Refusal, Vcpu};
+    /// let mut vcpu = Vcpu::new(0, 0);
+    /// vcpu.set_virtual_interrupt_pending((1 << 63) + 5, true)?;
+    /// assert_eq!(vcpu.hvip, 1 << 6);
+    /// assert_eq!(vcpu.set_virtual_interrupt_pending(5, true), Err(Refusal::InvalidInput));
+    /// # Ok::<(), Refusal>(())
+    /// ```
+    pub fn set_virtual_interrupt_pending(&mut self, vector: u64, pending: bool) -> Result<(), Refusal> {
+        done(unsafe { library::vcpu_set_pending(self.words(), vector, pending as u64) })
+    }
+
+    /// Sets a pending interrupt of the guest.
+    ///
+    /// ```
+    /// # use curbizzolu::Vcpu;
+    /// let mut vcpu = Vcpu::new(0, 0);
+    /// vcpu.inject_interrupt((1 << 63) + 1)?;
+    /// assert_eq!(vcpu.hvip, 1 << 2);
+    /// # Ok::<(), curbizzolu::Refusal>(())
+    /// ```
+    pub fn inject_interrupt(&mut self, vector: u64) -> Result<(), Refusal> {
+        self.set_virtual_interrupt_pending(vector, true)
+    }
+
+    /// The level of the guest's external interrupt line.
+    ///
+    /// ```
+    /// # use curbizzolu::Vcpu;
+    /// let mut vcpu = Vcpu::new(0, 0);
+    /// vcpu.set_vseip_level(true)?;
+    /// assert_eq!(vcpu.hvip, 1 << 10);
+    /// vcpu.set_vseip_level(false)?;
+    /// assert_eq!(vcpu.hvip, 0);
+    /// # Ok::<(), curbizzolu::Refusal>(())
+    /// ```
+    pub fn set_vseip_level(&mut self, asserted: bool) -> Result<(), Refusal> {
+        self.set_virtual_interrupt_pending(9, asserted)
+    }
+
+    /// Latches pending bits that the hardware raised: what the host read from hvip.
+    ///
+    /// ```
+    /// # use curbizzolu::Vcpu;
+    /// let mut vcpu = Vcpu::new(0, 0);
+    /// vcpu.latch_hvip(1 << 6)?;
+    /// vcpu.latch_hvip(1 << 2)?;
+    /// assert_eq!(vcpu.hvip, 1 << 6 | 1 << 2);
+    /// # Ok::<(), curbizzolu::Refusal>(())
+    /// ```
+    pub fn latch_hvip(&mut self, bits: u64) -> Result<(), Refusal> {
+        done(unsafe { library::vcpu_latch_hvip(self.words(), bits) })
+    }
+
+    /// Gives the guest the result of an IPI request, after [`Exit::SendIpi`].
+    ///
+    /// ```
+    /// # use curbizzolu::{IpiAbi, IpiCompletion, IpiRequest, Vcpu};
+    /// let mut vcpu = Vcpu::new(0, 0);
+    /// let request = IpiRequest { hart_mask: 1, hart_mask_base: 99, abi: IpiAbi::SbiV02 };
+    /// vcpu.complete_ipi(request, IpiCompletion::InvalidParameter)?;
+    /// assert_eq!(vcpu.get_gpr(10), Ok(-3_i64 as u64));
+    /// # Ok::<(), curbizzolu::Refusal>(())
+    /// ```
+    pub fn complete_ipi(&mut self, request: IpiRequest, completion: IpiCompletion) -> Result<(), Refusal> {
+        let abi = match request.abi {
+            IpiAbi::Legacy => 0,
+            IpiAbi::SbiV02 => 1,
+        };
+        let completion = match completion {
+            IpiCompletion::Success => 0,
+            IpiCompletion::InvalidParameter => 1,
+            IpiCompletion::Failed => 2,
+        };
+        done(unsafe { library::vcpu_complete_ipi(self.words(), abi, completion) })
+    }
+
+    /// Starts a trap.
+    ///
+    /// ```
+    /// # use curbizzolu::{Exit, Step, Trap, Vcpu};
+    /// let mut vcpu = Vcpu::new(0, 0);
+    /// vcpu.set_gpr(17, 0x54494D45)?; // a7: TIME
+    /// vcpu.set_gpr(10, 1000)?;
+    /// let step = vcpu.start(&Trap { scause: 10, ..Trap::default() })?;
+    /// assert_eq!(step, Step::Exit(Exit::Nothing));
+    /// assert_eq!((vcpu.vstimecmp, vcpu.sepc, vcpu.counts[0]), (1000, 4, 1));
+    /// # Ok::<(), curbizzolu::Error>(())
+    /// ```
+    pub fn start(&mut self, trap: &Trap) -> Result<Step, Error> {
+        let mut out: Out = [0; 8];
+        let trap = [trap.scause, trap.stval, trap.htval, trap.htinst, trap.room];
+        let code = unsafe { library::vcpu_start(self.words(), &trap, &mut out) };
+        step(code, &out)
+    }
+
+    /// Answers the ask that waits. An answer of another kind is refused, and the ask goes on waiting.
+    ///
+    /// ```
+    /// # use curbizzolu::{Answer, Ask, Exit, Step, Trap, Vcpu};
+    /// let mut vcpu = Vcpu::new(0, 0);
+    /// vcpu.set_gpr(17, 1)?; // a7: the legacy call that prints a character
+    /// vcpu.set_gpr(10, 0x41)?;
+    /// let step = vcpu.start(&Trap { scause: 10, ..Trap::default() })?;
+    /// assert_eq!(step, Step::Ask(Ask::Emit { number: 0x41 }));
+    /// assert_eq!(vcpu.answer(&Answer::Emitted)?, Step::Exit(Exit::Nothing));
+    /// # Ok::<(), curbizzolu::Error>(())
+    /// ```
+    pub fn answer(&mut self, answer: &Answer) -> Result<Step, Error> {
+        let mut out: Out = [0; 8];
+        let answer = answer_words(answer);
+        let code = unsafe { library::vcpu_answer(self.words(), &answer, &mut out) };
+        step(code, &out)
+    }
+
+    /// Completes the load that waits, after [`Exit::MmioRead`]: the number is cut to the load's width, extended as the
+    /// instruction says, and written to its register.
+    ///
+    /// ```
+    /// # use curbizzolu::{Exit, GuestPhysAddr, Step, Trap, Vcpu, Width};
+    /// let mut vcpu = Vcpu::new(0, 0);
+    /// let trap = Trap { scause: 21, htval: 0x400_0000, htinst: 0x2383, ..Trap::default() }; // lw x7
+    /// let read = Exit::MmioRead { addr: GuestPhysAddr(0x1000_0000), width: Width::Word };
+    /// assert_eq!(vcpu.start(&trap)?, Step::Exit(read));
+    /// vcpu.complete_load(0x8000_0000)?;
+    /// assert_eq!(vcpu.get_gpr(7), Ok(0xFFFF_FFFF_8000_0000));
+    /// # Ok::<(), curbizzolu::Error>(())
+    /// ```
+    pub fn complete_load(&mut self, number: u64) -> Result<(), Refusal> {
+        done(unsafe { library::vcpu_complete_load(self.words(), number) })
+    }
+
+    /// The bytes to print: the buffer's first n while [`Ask::Print`] with count n waits, if it has n; else none.
+    ///
+    /// ```
+    /// # use curbizzolu::Vcpu;
+    /// assert_eq!(Vcpu::new(0, 0).to_print(b"nothing waits"), b"");
+    /// ```
+    pub fn to_print<'a>(&self, buffer: &'a [u8]) -> &'a [u8] {
+        let count = unsafe { library::vcpu_to_print(self as *const Vcpu as *const Record) };
+        match usize::try_from(count) {
+            Ok(count) => buffer.get(..count).unwrap_or(&[]),
+            Err(_) => &[],
+        }
+    }
+}
+
+fn answer_words(answer: &Answer) -> [u64; 3] {
+    let (a, b) = match *answer {
+        Answer::Fetched(Fetch::Word(word)) => (word as u64, 0),
+        Answer::Fetched(Fetch::Page(at)) => (at.0, 1),
+        Answer::Fetched(Fetch::Access(at)) => (at.0, 2),
+        Answer::Fetched(Fetch::Misaligned(at)) => (at.0, 3),
+        Answer::Fetched(Fetch::GuestPage(at)) => (at.0, 4),
+        Answer::Fetched(Fetch::Unhandled) => (0, 5),
+        Answer::MaskCopied { count, bytes } => (count, bytes),
+        Answer::CopiedIn { count } => (count, 0),
+        Answer::Printed { error, value } => (error, value),
+        Answer::ConsoleRead { error, value } => (error, value),
+        Answer::CopiedOut { count } => (count, 0),
+        Answer::Emitted => (0, 0),
+        Answer::Char { number } => (number, 0),
+        Answer::Forwarded { error, value } => (error, value),
+    };
+    [answer.number(), a, b]
+}
+
+/// What a call that gives nothing gave.
+#[inline]
+fn done(code: u64) -> Result<(), Refusal> {
+    match code {
+        DONE => Ok(()),
+        _ => Err(refusal(code)),
+    }
+}
+
+fn refusal(code: u64) -> Refusal {
+    match code.wrapping_sub(ERROR) {
+        1 => Refusal::InvalidInput,
+        2 => Refusal::BadState,
+        7 => Refusal::WrongAnswer,
+        _ => unknown(code),
+    }
+}
+
+#[inline]
+fn step(code: u64, out: &Out) -> Result<Step, Error> {
+    let exit = match code {
+        0 => Exit::Nothing,
+        1 => Exit::ExternalInterrupt { vector: out[0] },
+        2 => Exit::SendIpi(IpiRequest {
+            hart_mask: out[0],
+            hart_mask_base: out[1],
+            abi: if out[2] == 0 { IpiAbi::Legacy } else { IpiAbi::SbiV02 },
+        }),
+        3 => Exit::CpuUp { target_cpu: out[0], entry_point: GuestPhysAddr(out[1]), arg: out[2] },
+        4 => Exit::CpuDown { state: out[0] },
+        5 => Exit::Halt,
+        6 => Exit::Hypercall { nr: out[0], args: six(out) },
+        7 => Exit::SystemDown,
+        8 => Exit::NestedPageFault { addr: GuestPhysAddr(out[0]), access_flags: access(out[1]) },
+        9 => Exit::MmioRead { addr: GuestPhysAddr(out[0]), width: width(out[1]) },
+        10 => Exit::MmioWrite { addr: GuestPhysAddr(out[0]), width: width(out[1]), data: out[2] },
+        _ if code >= ERROR => return Err(error(code)),
+        _ => return Ok(Step::Ask(ask(code, out))),
+    };
+    Ok(Step::Exit(exit))
+}
+
+fn ask(code: u64, out: &Out) -> Ask {
+    match code.wrapping_sub(ASK) {
+        1 => Ask::Fetch { at: GuestVirtAddr(out[0]), supervisor: out[1] != 0 },
+        2 => Ask::CopyMask { at: GuestVirtAddr(out[0]) },
+        3 => Ask::CopyIn { at: GuestPhysAddr(out[0]), count: out[1] },
+        4 => Ask::Print { count: out[0] },
+        5 => Ask::ReadConsole { count: out[0] },
+        6 => Ask::CopyOut { at: GuestPhysAddr(out[0]), count: out[1] },
+        7 => Ask::Emit { number: out[0] },
+        8 => Ask::GetChar,
+        9 => Ask::Forward { eid: out[0], fid: out[1], args: six(out) },
+        _ => unknown(code),
+    }
+}
+
+fn error(code: u64) -> Error {
+    match code.wrapping_sub(ERROR) {
+        3 => Error::Trap(TrapError::Unsupported),
+        4 => Error::Trap(TrapError::InvalidTrap),
+        5 => Error::Trap(TrapError::DecodeFailed),
+        6 => Error::Trap(TrapError::GuestMemoryFault),
+        _ => Error::Refused(refusal(code)),
+    }
+}
+
+fn six(out: &Out) -> [u64; 6] {
+    [out[2], out[3], out[4], out[5], out[6], out[7]]
+}
+
+fn width(bytes: u64) -> Width {
+    match bytes {
+        1 => Width::Byte,
+        2 => Width::Half,
+        4 => Width::Word,
+        8 => Width::Double,
+        _ => unknown(bytes),
+    }
+}
+
+fn access(flag: u64) -> AccessFlags {
+    match flag {
+        1 => AccessFlags::Read,
+        2 => AccessFlags::Write,
+        4 => AccessFlags::Execute,
+        _ => unknown(flag),
+    }
+}
+
+/// The library's promises name no other number, so the archive that was linked is not the one that this crate is for.
+#[cold]
+#[inline(never)]
+fn unknown(number: u64) -> ! {
+    panic!("the linked libin_place.a gave {number:#x}, which no call gives")
+}

@@ -1,0 +1,159 @@
+/* The proved exit handler of a RISC-V hypervisor, for a host in C. Link libin_place.a: tools/archive in_place makes it.
+ *
+ * Every function answers on every pattern of words, and touches only the words that it is lent. The pointers must be to words
+ * that do not overlap. A refusal (1, 2, 7) changes nothing; a trap that ends in an error (3 to 6) changed no register and no CSR. */
+#ifndef CURBIZZOLU_H
+#define CURBIZZOLU_H
+
+#include <stddef.h>
+#include <stdint.h>
+
+#ifdef __cplusplus
+extern "C" {
+#endif
+
+/* A guest's hart while it is not running: 58 words. */
+struct vcpu {
+    uint64_t x[32]; /* x0 to x31; slot 0 is never written, and x0 reads 0 */
+    uint64_t sepc, sstatus, hstatus;
+    uint64_t vsstatus, vstvec, vsepc, vscause, vstval, vstimecmp;
+    uint64_t hie, hvip, hgeie, hgatp;
+    uint64_t counts[9];  /* events 1 to 9, see VCPU_EVENT_ */
+    uint64_t waiting[4]; /* what waits: a kind, see VCPU_WAITS_, and three numbers */
+};
+
+/* The numbers that the hardware leaves at a trap, and the room of the console buffer (above 4096 counts as 4096). */
+struct vcpu_trap {
+    uint64_t scause, stval, htval, htinst, room;
+};
+
+/* An answer: its ask's number, and two numbers, see VCPU_ASK_. */
+struct vcpu_answer_words {
+    uint64_t ask, first, second;
+};
+
+/* The numbers that a reply carries, in order. Words that it does not carry keep what they held. */
+struct vcpu_out {
+    uint64_t word[8];
+};
+
+/* What a function returns. An exit, with what it carries in vcpu_out: */
+enum {
+    VCPU_EXIT_NOTHING = 0,
+    VCPU_EXIT_EXTERNAL_INTERRUPT = 1, /* vector */
+    VCPU_EXIT_SEND_IPI = 2,           /* hart mask, its base, VCPU_IPI_ */
+    VCPU_EXIT_CPU_UP = 3,             /* hart, entry (guest physical), argument */
+    VCPU_EXIT_CPU_DOWN = 4,           /* state */
+    VCPU_EXIT_HALT = 5,
+    VCPU_EXIT_HYPERCALL = 6, /* number; from word 2 on a0 to a5 */
+    VCPU_EXIT_SYSTEM_DOWN = 7,
+    VCPU_EXIT_NESTED_PAGE_FAULT = 8, /* guest physical address, VCPU_ACCESS_ */
+    VCPU_EXIT_MMIO_READ = 9,         /* guest physical address, bytes; then vcpu_complete_load */
+    VCPU_EXIT_MMIO_WRITE = 10        /* guest physical address, bytes, data */
+};
+
+/* or an ask, VCPU_ASK plus its number, with what it carries; behind it the two numbers of its answer: */
+enum {
+    VCPU_ASK = 0x20,
+    VCPU_ASK_FETCH = 1,        /* guest virtual address, supervisor; answer: word or address, VCPU_FETCH_ */
+    VCPU_ASK_COPY_MASK = 2,    /* guest virtual address, 8 bytes; answer: count, bytes */
+    VCPU_ASK_COPY_IN = 3,      /* guest physical address, count, into the buffer; answer: count */
+    VCPU_ASK_PRINT = 4,        /* count, from the buffer's start; answer: error, value */
+    VCPU_ASK_READ_CONSOLE = 5, /* most bytes, into the buffer; answer: error, value */
+    VCPU_ASK_COPY_OUT = 6,     /* guest physical address, count, from the buffer's start; answer: count */
+    VCPU_ASK_EMIT = 7,         /* character; answer: nothing */
+    VCPU_ASK_GET_CHAR = 8,     /* answer: character */
+    VCPU_ASK_FORWARD = 9       /* eid, fid, a0 to a5; answer: error, value */
+};
+
+/* or VCPU_DONE; or VCPU_VALUE, with the value in word 0; or VCPU_ERROR plus a refusal's or error's number: */
+enum {
+    VCPU_DONE = 0x40,
+    VCPU_VALUE = 0x41,
+    VCPU_ERROR = 0x100,
+    VCPU_INVALID_INPUT = 1,
+    VCPU_BAD_STATE = 2,
+    VCPU_UNSUPPORTED = 3,
+    VCPU_INVALID_TRAP = 4,
+    VCPU_DECODE_FAILED = 5,
+    VCPU_GUEST_MEMORY_FAULT = 6,
+    VCPU_WRONG_ANSWER = 7
+};
+
+enum { VCPU_ACCESS_READ = 1, VCPU_ACCESS_WRITE = 2, VCPU_ACCESS_EXECUTE = 4 };
+enum { VCPU_IPI_LEGACY = 0, VCPU_IPI_SBI_V02 = 1 };
+enum { VCPU_IPI_SUCCESS = 0, VCPU_IPI_INVALID_PARAMETER = 1, VCPU_IPI_FAILED = 2 };
+
+/* The second number of the answer to VCPU_ASK_FETCH; the first is the word, or the fault's address. */
+enum {
+    VCPU_FETCH_WORD = 0,
+    VCPU_FETCH_PAGE = 1,
+    VCPU_FETCH_ACCESS = 2,
+    VCPU_FETCH_MISALIGNED = 3,
+    VCPU_FETCH_GUEST_PAGE = 4, /* its address is guest physical, the three above are guest virtual */
+    VCPU_FETCH_UNHANDLED = 5
+};
+
+/* counts[VCPU_EVENT_.. - 1] */
+enum {
+    VCPU_EVENT_SET_TIMER = 1,
+    VCPU_EVENT_ILLEGAL_INSN = 2,
+    VCPU_EVENT_FENCE_I = 3,
+    VCPU_EVENT_SFENCE_VMA = 4,
+    VCPU_EVENT_SFENCE_VMA_ASID = 5,
+    VCPU_EVENT_HFENCE_GVMA_VMID = 6,
+    VCPU_EVENT_HFENCE_GVMA = 7,
+    VCPU_EVENT_HFENCE_VVMA_ASID = 8,
+    VCPU_EVENT_HFENCE_VVMA = 9
+};
+
+/* waiting[0], with what waiting[1] to waiting[3] hold; any other number is read as nothing waiting. */
+enum {
+    VCPU_WAITS_NOTHING = 0,
+    VCPU_WAITS_LOAD = 1, /* rd, bytes, whether the sign is extended */
+    VCPU_WAITS_FETCH_CSR = 2,
+    VCPU_WAITS_FETCH_FAULT = 3, /* guest physical address, VCPU_ACCESS_ */
+    VCPU_WAITS_COPY_MASK = 4,
+    VCPU_WAITS_COPY_IN = 5,      /* count */
+    VCPU_WAITS_PRINT = 6,        /* count */
+    VCPU_WAITS_READ_CONSOLE = 7, /* count, guest physical address */
+    VCPU_WAITS_COPY_OUT = 8,     /* count */
+    VCPU_WAITS_PUT_CHAR = 9,
+    VCPU_WAITS_PUT_BYTE = 10,
+    VCPU_WAITS_GET_CHAR = 11,
+    VCPU_WAITS_FORWARD = 12
+};
+
+/* Zeros, but a0 is the hart and a1 where the device tree lies. */
+uint64_t vcpu_new(struct vcpu *v, uint64_t hart_id, uint64_t dtb_addr);
+/* sstatus, hstatus, hie, vstimecmp, hvip and hgeie as a guest starts with them. */
+uint64_t vcpu_setup(struct vcpu *v);
+/* sepc. */
+uint64_t vcpu_set_entry(struct vcpu *v, uint64_t entry);
+/* A register, in word 0 of out. */
+uint64_t vcpu_get_gpr(const struct vcpu *v, uint64_t index, struct vcpu_out *out);
+uint64_t vcpu_set_gpr(struct vcpu *v, uint64_t index, uint64_t value);
+/* a0. */
+uint64_t vcpu_set_return_value(struct vcpu *v, uint64_t value);
+/* 3 levels with mode 8, or 4 with mode 9; the root (host physical) at a multiple of 16 KiB. */
+uint64_t vcpu_set_nested_page_table(struct vcpu *v, uint64_t levels, uint64_t mode, uint64_t root);
+/* 2^63 + 1, 2^63 + 5, 9 or 2^63 + 9; level 0 clears, any other sets. */
+uint64_t vcpu_set_pending(struct vcpu *v, uint64_t vector, uint64_t level);
+/* hvip |= bits. */
+uint64_t vcpu_latch_hvip(struct vcpu *v, uint64_t bits);
+/* The result of VCPU_EXIT_SEND_IPI. */
+uint64_t vcpu_complete_ipi(struct vcpu *v, uint64_t abi, uint64_t completion);
+/* Starts a trap: an exit, an ask or an error. */
+uint64_t vcpu_start(struct vcpu *v, const struct vcpu_trap *trap, struct vcpu_out *out);
+/* Answers the ask that waits: an exit, an ask or an error. */
+uint64_t vcpu_answer(struct vcpu *v, const struct vcpu_answer_words *answer, struct vcpu_out *out);
+/* Completes the load that waits, after VCPU_EXIT_MMIO_READ. */
+uint64_t vcpu_complete_load(struct vcpu *v, uint64_t number);
+/* How many bytes of the buffer are to be printed: VCPU_ASK_PRINT's count while it waits, else 0. */
+uint64_t vcpu_to_print(const struct vcpu *v);
+
+#ifdef __cplusplus
+}
+#endif
+
+#endif

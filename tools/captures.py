@@ -1,0 +1,169 @@
+#!/usr/bin/env python3
+"""Writes the captures that the program `replays` runs, and the output that each must give.
+
+    tools/captures.py
+
+crates/replays/data/published/   a capture for each class of traps, with the output of the published Rust
+crates/replays/data/damaged/     captures cut or changed in one place, with the output of the plain Rust model
+
+docs/CAPTURES.md says what they are. It needs cargo, and RISCV_VCPU_SRC for the first folder: without it that folder is
+left as it is. The seed is fixed, so a run writes the same bytes again. A test needs only what is stored.
+"""
+import os
+import shutil
+import subprocess
+import sys
+
+SEED = "1"
+CRATE = "crates/replays"
+DATA = f"{CRATE}/data"
+RELEASE = "oracle/target/release"
+
+
+def build(package):
+    subprocess.run(["cargo", "build", "--quiet", "--release", "--offline", "-p", package], cwd="oracle", check=True)
+
+
+def line(key, number):
+    return f"{key}={number:016x}\n".encode()
+
+
+def header(numbers):
+    keys = ["sepc", "vstimecmp"] + [f"x{i:02}" for i in range(1, 32)]
+    return [line(key, numbers.get(key, 0)) for key in keys]
+
+
+def trap(scause, stval=0, htval=0, htinst=0):
+    return [line("scause", scause), line("stval", stval), line("htval", htval), line("htinst", htinst)]
+
+
+def pair(word, more):
+    return [line("word", word), line("more", more)]
+
+
+# A guest that prints 5 bytes (asks 3 and 4), reads stimecmp by an instruction that is fetched (ask 1), loads a word from
+# a device, and is interrupted.
+HEADER = header({"sepc": 0x8000_0000, "vstimecmp": 7, "x10": 5, "x11": 0x8020_0000, "x17": 0x4442_434E})
+PRINTS = trap(10) + pair(5, 0x1234) + pair(0, 5)
+READS = trap(22) + pair(0xFFFF_0000_14D0_2573, 0)
+LOADS = trap(21, htval=0x400_0000, htinst=0x2503) + pair(0x8000_0000, 0x63)
+INTERRUPT = trap(2**63 + 9)
+WHOLE = HEADER + PRINTS + READS + LOADS + INTERRUPT
+# Lines of WHOLE, counted from 0.
+SCAUSE, WORD, MORE = 33, 37, 38
+FETCH = 33 + len(PRINTS) + 4
+LOAD = 33 + len(PRINTS) + len(READS) + 4
+FAULT = trap(21, htval=0x400_0000)
+# Where a trap may start: an end is sound here.
+BOUNDS = [33, FETCH - 4, LOAD - 4, LOAD + 2]
+
+
+def captures():
+    """The damaged captures, by name. Each is a list of lines."""
+    yield "sound", WHOLE
+    yield "sound-fetch-for-a-load", HEADER + FAULT + pair(0x2503, 0) + pair(9, 0)
+    yield "empty", []
+    # A line is missing.
+    for n in range(1, len(WHOLE)):
+        yield f"{'sound-' if n in BOUNDS else ''}cut-before-line-{n + 1:02}", WHOLE[:n]
+    # The last line is cut.
+    for name, n in (("sepc", 0), ("x09", 10), ("scause", SCAUSE), ("htinst", SCAUSE + 3), ("word", WORD), ("more", MORE),
+                    ("completion", LOAD + 1)):
+        for part, size in (("key", 1), ("sign", WHOLE[n].index(b"=")), ("digits", WHOLE[n].index(b"=") + 1),
+                           ("last-digit", len(WHOLE[n]) - 2), ("end", len(WHOLE[n]) - 1)):
+            yield f"cut-in-{name}-{part}", WHOLE[:n] + [WHOLE[n][:size]]
+
+    def with_line(n, text):
+        return WHOLE[:n] + [text] + WHOLE[n + 1:n + 3]
+
+    # The key is another.
+    for n in list(range(MORE + 1)):
+        key = WHOLE[n].split(b"=")[0].decode()
+        last = WHOLE[n].index(b"=") - 1
+        yield f"key-{key}-misspelt", with_line(n, WHOLE[n][:last] + bytes([WHOLE[n][last] ^ 1]) + WHOLE[n][last + 1:])
+    for i in range(10):
+        yield f"key-vstimecmp-byte-{i}", with_line(1, WHOLE[1][:i] + b"_" + WHOLE[1][i + 1:])
+    yield "key-capital", with_line(SCAUSE, b"S" + WHOLE[SCAUSE][1:])
+    yield "key-colon", with_line(SCAUSE, WHOLE[SCAUSE].replace(b"=", b":"))
+    yield "key-without-sign", with_line(SCAUSE, WHOLE[SCAUSE].replace(b"=", b""))
+    yield "key-x1", with_line(2, WHOLE[2].replace(b"x01", b"x1"))
+    yield "key-x32", WHOLE[:33] + [line("x32", 0)] + WHOLE[33:]
+    yield "lines-exchanged", HEADER + [WHOLE[34], WHOLE[33]] + WHOLE[35:]
+    yield "line-twice", HEADER + [WHOLE[33]] + WHOLE[33:]
+    yield "answer-unasked", HEADER + INTERRUPT + pair(0, 0) + INTERRUPT
+    yield "answer-twice", HEADER + READS + pair(0, 0) + INTERRUPT
+    yield "second-answer-missing", HEADER + PRINTS[:6] + INTERRUPT
+    yield "completion-missing", HEADER + LOADS[:4] + INTERRUPT
+    yield "more-before-word", HEADER + READS[:4] + [READS[5], READS[4]]
+    # A digit is none.
+    for name, byte in (("capital-a", b"A"), ("capital-f", b"F"), ("g", b"g"), ("slash", b"/"), ("colon", b":"), ("at", b"@"),
+                       ("grave", b"`"), ("space", b" "), ("zero-byte", b"\0"), ("high-byte", b"\xb0"), ("line-feed", b"\n"),
+                       ("minus", b"-"), ("x", b"x")):
+        yield f"digit-{name}-first", with_line(34, b"stval=" + byte + b"0" * 15 + b"\n")
+        yield f"digit-{name}-last", with_line(34, b"stval=" + b"0" * 15 + byte + b"\n")
+    for i in range(16):
+        yield f"digit-{i + 1:02}-capital", with_line(WORD, b"word=" + b"0" * i + b"E" + b"0" * (15 - i) + b"\n")
+    yield "digits-none", with_line(34, b"stval=\n")
+    yield "digits-15", with_line(34, b"stval=" + b"0" * 15 + b"\n")
+    yield "digits-17", with_line(34, b"stval=" + b"0" * 17 + b"\n")
+    # The end of a line is another.
+    for name, end in (("carriage-return", b"\r"), ("both", b"\r\n"), ("zero-byte", b"\0"), ("space", b" \n"), ("tab", b"\t\n")):
+        yield f"end-{name}", with_line(35, WHOLE[35][:-1] + end)
+    yield "every-line-carriage-return", [text[:-1] + b"\r\n" for text in WHOLE]
+    # Bytes between lines.
+    yield "blank-line-first", [b"\n"] + WHOLE
+    yield "blank-line-after-header", HEADER + [b"\n"] + INTERRUPT
+    yield "blank-line-last", WHOLE + [b"\n"]
+    yield "space-first", [b" "] + WHOLE
+    yield "mark-first", [b"\xef\xbb\xbf"] + WHOLE
+    yield "junk-last", WHOLE + [b"junk"]
+    yield "zero-bytes-last", WHOLE + [b"\0" * 16]
+    yield "header-twice", WHOLE + HEADER
+    yield "long-line", HEADER + [b"s" * 3000 + b"\n"] + INTERRUPT
+    # A fetch's more is none of its six numbers; elsewhere any number will do.
+    for name, more in (("6", 6), ("7", 7), ("2-to-32", 2**32), ("2-to-63", 2**63), ("all-ones", 2**64 - 1)):
+        yield f"fetch-more-{name}", HEADER + trap(22) + pair(0, more) + INTERRUPT
+        yield f"fetch-more-{name}-page-fault", HEADER + FAULT + pair(0, more) + INTERRUPT
+        yield f"sound-load-more-{name}", HEADER + LOADS[:5] + [line("more", more)] + INTERRUPT
+        yield f"sound-count-more-{name}", HEADER + PRINTS[:5] + [line("more", more)] + PRINTS[6:]
+    for more in range(1, 6):
+        yield f"sound-fault-{more}", HEADER + trap(22) + pair(0xABC0, more) + FAULT + pair(0xABC0, more)
+    yield "unused-more-unfit", HEADER + LOADS[:5] + [b"more=000000000000000G\n"] + INTERRUPT
+    # What is printed before an unfit line stays, and nothing follows it.
+    for n in range(0, len(WHOLE), 5):
+        yield f"line-{n + 1:02}-unfit", WHOLE[:n] + [WHOLE[n].upper()] + WHOLE[n + 1:]
+
+
+def main():
+    os.chdir(os.path.join(os.path.dirname(os.path.abspath(__file__)), ".."))
+    names = []
+    if os.environ.get("RISCV_VCPU_SRC"):
+        build("diff")
+        shutil.rmtree(f"{DATA}/published", ignore_errors=True)
+        subprocess.run([f"{RELEASE}/diff", "--seed", SEED, "--captures", f"{DATA}/published"], check=True)
+    else:
+        print("published: left as it is, for want of RISCV_VCPU_SRC")
+    names += sorted(f"published/{f[:-8]}" for f in os.listdir(f"{DATA}/published") if f.endswith(".capture"))
+    build("model")
+    folder = f"{DATA}/damaged"
+    shutil.rmtree(folder, ignore_errors=True)
+    os.makedirs(folder)
+    bad, sound = 0, 0
+    for name, lines in captures():
+        if f"damaged/{name}" in names:
+            sys.exit(f"two captures have the name {name}")
+        capture = b"".join(lines)
+        output = subprocess.run([f"{RELEASE}/model-replay"], input=capture, capture_output=True, check=True).stdout
+        if (b"bad=" in output) == name.startswith("sound"):
+            sys.exit(f"{name}: {output.decode()}")
+        bad, sound = bad + (b"bad=" in output), sound + (b"bad=" not in output)
+        open(f"{folder}/{name}.capture", "wb").write(capture)
+        open(f"{folder}/{name}.replay", "wb").write(output)
+        names.append(f"damaged/{name}")
+    print(f"damaged: {bad} captures that end with bad=, {sound} that are sound")
+    open(f"{CRATE}/args", "w").write("".join(name + "\n" for name in names))
+    open(f"{CRATE}/stdout", "w").write(f"{len(names)} captures, 0 different\n")
+    print(f"{len(names)} captures")
+
+
+main()
