@@ -25,7 +25,8 @@ use Rattle.regs.specs.Record.{bumped, counted, eventNumber, listed, moved, pend
 use Rattle.regs.specs.Effects.{applied, askingOf, doneOf, failedOf, finishedOf, noArgs, refusedOf}
 use Rattle.ecall.specs.declared.Call.{Call}
 use Rattle.ecall.specs.declared.Call.the-variants as call
-use Rattle.ecall_effect.specs.Doing.{asksOf, callEffect, clearIpiOf, hypercallOf, movesOf, returnsOf, setTimerOf, staysOf}
+use Rattle.deeds.specs.Deeds.{asksOf, clearIpiOf, hypercallOf, movesOf, returnsOf, setTimerOf, staysOf}
+use Rattle.ecall_effect.specs.Doing.{callEffect}
 use Rattle.fetch.specs.Faults.{askFetchOf, injectedOf, missedEffect}
 use Rattle.fetch.specs.declared.Missed.{Missed}
 use Rattle.fetch.specs.declared.Missed.the-variants as missed

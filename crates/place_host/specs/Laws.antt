@@ -23,10 +23,10 @@ use Rattle.regs.specs.declared.Waiting.the-variants as waiting
 use Rattle.regs.specs.declared.Writes.{Writes}
 use Rattle.regs.specs.declared.Writes.the-variants as writes
 use Rattle.regs.specs.Record.{bumped, counted, eventNumber, pended, stored, waitingAsk}
-use Rattle.regs.specs.Effects.{applied, doneOf, guardedOf, refusedOf}
+use Rattle.regs.specs.Effects.{applied, doneOf, guardedOf, refusedOf, unlessAsking}
 use Rattle.host_calls.specs.HostCalls.{pagingBy, pagingEffect, pendingBy, pendingEffect, tableCsrs, writeEffect}
 use Rattle.registers.specs.Bits.{withBits}
-use Rattle.calls.specs.Calls.{getGprOf, newOf, printCount, unlessAsking}
+use Rattle.calls.specs.Calls.{getGprOf, newOf, printCount}
 use Rattle.abi.specs.Words.{csrsOf, csrsWords, unpackOf, waitingBy, waitingOf}
 use Rattle.entry.specs.Entry.{readOf}
 use Rattle.place.specs.View.{Done, Made, outOf, recordOf, replyWord, viewOf}
