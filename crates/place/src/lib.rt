@@ -2,9 +2,7 @@
 // words their meaning; specs/Deeds.antt has a row for each deed of a trap, and specs/Laws.antt holds the rows to the effects
 // of the by-value step.
 ghost use mathlib.Core.Path.{_≡_};
-ghost use Prim.Native.Nat.{_+_};
 ghost use lib.ListN.{length};
-ghost use Rattle.types.specs.Pick.{wrapped};
 ghost use Rattle.regs.specs.Record.{eventNumber};
 ghost use Rattle.place.specs.View.{viewOf};
 ghost use Rattle.place.specs.Deeds.{argsWords, bumpWords, completeWord, completeWords, fetchOut, giveWords, injectWords, movedWords, pairWords, putWord, readWord, sixWords, stepWords, timerWords};
@@ -152,17 +150,11 @@ fn count(s: &[u64]) -> usize
     s.len()
 }
 
-fn plus(a: u64, b: u64) -> u64
-    ensures { λ r. ⌜ r ≡ wrapped (a + b) ⌝ }
-{
-    std::num::wrapping_add_u64(a, b)
-}
-
 // sepc moves on.
 pub fn advance(r: &mut [u64; 58], by: u64)
     ensures { λ _. ⌜ now (r .exit) ≡ movedWords (now (r .entry)) by ⌝ }
 {
-    r[SEPC] = plus(r[SEPC], by);
+    r[SEPC] = regs::plus(r[SEPC], by);
 }
 
 // Nothing waits, and sepc moves on.
@@ -209,7 +201,7 @@ pub fn bump(r: &mut [u64; 58], number: usize)
     }
     if number < 10 {
         let at = number + 44;
-        r[at] = plus(r[at], 1);
+        r[at] = regs::plus(r[at], 1);
     }
 }
 
