@@ -18,9 +18,9 @@ use Rattle.regs.specs.Record.{bumped, counted, eventNumber, listed, stored, val
 use Rattle.regs.specs.Effects.{applied, noArgs}
 use Rattle.calls.specs.Calls.{getGprOf}
 use Rattle.thin.specs.declared.Given.{Given}
-use Rattle.entry.specs.declared.HostCall.{HostCall}
-use Rattle.entry.specs.declared.HostCall.the-variants as hostCall
-use Rattle.entry.specs.Entry.{calledOf, readOf}
+use Rattle.calls.specs.declared.HostCall.{HostCall}
+use Rattle.calls.specs.declared.HostCall.the-variants as hostCall
+use Rattle.calls.specs.Entry.{calledOf, readOf}
 use Rattle.thin.specs.Thin.{Stored}
 use Rattle.reading.specs.Alike.{Alike}
 use Rattle.reading.specs.Calls.{Call}

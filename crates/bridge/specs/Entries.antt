@@ -3,8 +3,8 @@ use Prim.Native.Nat.{ℕ}
 use mathlib.Core.List.{List, [], _∷_}
 use Rattle.regs.specs.declared.Vcpu.{Vcpu}
 use Rattle.thin.specs.declared.Given.{Given}
-use Rattle.entry.specs.declared.HostCall.{HostCall}
-use Rattle.entry.specs.declared.HostCall.the-variants as hostCall
+use Rattle.calls.specs.declared.HostCall.{HostCall}
+use Rattle.calls.specs.declared.HostCall.the-variants as hostCall
 use Rattle.thin.specs.Thin.{Stored}
 use Rattle.reading.specs.Calls.{Call, setup, setEntry, getGpr, setGpr, setReturn, paging, pending, latch, completeIpi, start, answer, completeLoad}
 use Rattle.reading.specs.Runs.{Sight}

@@ -1,50 +1,10 @@
 // Every call on a vCPU record behind one function, by value.
 ghost use mathlib.Core.Path.{_≡_};
-ghost use Rattle.entry.specs.Entry.{calledOf, readOf};
+ghost use Rattle.calls.specs.Entry.{calledOf, readOf};
+use calls::HostCall;
 use regs::Outcome;
 use regs::Vcpu;
-use sbi_ipi::IpiCompletion;
 use types::Answer;
-use types::GuestPhysAddr;
-use types::IpiAbi;
-use types::Trap;
-
-// A call on a vCPU record, with what it is given.
-pub enum HostCall {
-    Setup,
-    SetEntry(GuestPhysAddr),
-    GetGpr {
-        index: usize,
-    },
-    SetGpr {
-        index: usize,
-        value: u64,
-    },
-    SetReturnValue {
-        value: u64,
-    },
-    SetNestedPageTable {
-        levels: u64,
-        mode: u64,
-        root: u64,
-    },
-    SetPending {
-        vector: u64,
-        level: bool,
-    },
-    LatchHvip {
-        bits: u64,
-    },
-    CompleteIpi {
-        abi: IpiAbi,
-        completion: IpiCompletion,
-    },
-    Start(Trap),
-    Answer(Answer),
-    CompleteLoad {
-        number: u64,
-    },
-}
 
 // Makes the call on a record that is handed over by value.
 pub fn call(v: Vcpu, c: HostCall) -> Outcome

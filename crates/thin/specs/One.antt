@@ -2,7 +2,7 @@
 use mathlib.Core.Path.{_≡_, sym, _∙_}
 use Rattle.regs.specs.declared.Vcpu.{Vcpu}
 use Rattle.thin.specs.declared.Given.{Given}
-use Rattle.entry.specs.declared.HostCall.{HostCall}
+use Rattle.calls.specs.declared.HostCall.{HostCall}
 use Rattle.thin.specs.Thin.{Stored}
 
 -- two records at exit that meet the promise are equal, and so is what is given beside them

@@ -2,8 +2,8 @@
 use mathlib.Core.Path.{_≡_}
 use Rattle.regs.specs.declared.Outcome.{Outcome}
 use Rattle.regs.specs.declared.Vcpu.{Vcpu}
-use Rattle.entry.specs.declared.HostCall.{HostCall}
-use Rattle.entry.specs.Entry.{calledOf}
+use Rattle.calls.specs.declared.HostCall.{HostCall}
+use Rattle.calls.specs.Entry.{calledOf}
 use Rattle.thin.specs.declared.Given.{Given}
 
 -- an outcome less its record

@@ -1,6 +1,6 @@
 // 01's thin entry: every call on a vCPU record behind one function, made where the host's record lies.
 ghost use Rattle.thin.specs.Thin.{Stored};
-use entry::HostCall;
+use calls::HostCall;
 use regs::Vcpu;
 use types::Reply;
 

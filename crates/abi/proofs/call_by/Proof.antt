@@ -1,6 +1,6 @@
 -- `abi::call_by` meets its contract.
 use borrow.Author.Tests.{ne-eqb}
-use Rattle.abi.specs.Words.{callBy}
+use Rattle.calls.specs.Kinds.{callBy}
 use borrow.Author.Needs.{needs}
 use Rattle.abi.proofs.call_by.Statement.{statement}
 use Rattle.abi.proofs.call_by.Tie as tie

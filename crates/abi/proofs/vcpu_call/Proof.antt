@@ -43,13 +43,13 @@ use denote.Triple.Walked.{says, Stays, stay-ref, stay-none, walkOf, AllGo, goes-
 use denote.Triple.Clauses.{ensured, lasts}
 use denote.Exit.{yes}
 use Rattle.abi.specs.Words.{exportedOf}
-use Rattle.abi.specs.declared.Record.{Record}
+use Rattle.words.specs.declared.Record.{Record}
 use Rattle.abi.specs.declared.CallWords.{CallWords}
 use Rattle.abi.specs.declared.After.{After}
 use Rattle.abi.specs.declared.ReplyWords.{ReplyWords}
 use Rattle.abi.proofs.vcpu_call.Key.{name as #in-place}
-use Rattle.abi.proofs.Record as Vc
-use Rattle.abi.proofs.Record.Laws as Vc′
+use Rattle.words.proofs.Record as Vc
+use Rattle.words.proofs.Record.Laws as Vc′
 use Rattle.abi.proofs.CallWords as D
 use Rattle.abi.proofs.CallWords.Laws as D′
 use Rattle.abi.proofs.After as O
@@ -71,7 +71,7 @@ stayed = (stay-ref (0 ∷ []) tt (plain (λ _. Vc.the-row)), (stay-none (λ _. D
 
 -- the types as the code spells them, and that each is its row's
 abbrev vcpu-ty : Ty
-vcpu-ty = spell code.Mir.table (tyNamed (97 ∷ 98 ∷ 105 ∷ 58 ∷ 58 ∷ 82 ∷ 101 ∷ 99 ∷ 111 ∷ 114 ∷ 100 ∷ [], []))
+vcpu-ty = spell code.Mir.table (tyNamed (119 ∷ 111 ∷ 114 ∷ 100 ∷ 115 ∷ 58 ∷ 58 ∷ 82 ∷ 101 ∷ 99 ∷ 111 ∷ 114 ∷ 100 ∷ [], []))
 
 abbrev call-ty : Ty
 call-ty = spell code.Mir.table (tyNamed (97 ∷ 98 ∷ 105 ∷ 58 ∷ 58 ∷ 67 ∷ 97 ∷ 108 ∷ 108 ∷ 87 ∷ 111 ∷ 114 ∷ 100 ∷ 115 ∷ [], []))

@@ -1,5 +1,5 @@
 -- `entry::call` meets its contract.
-use Rattle.entry.specs.Entry.{calledOf}
+use Rattle.calls.specs.Entry.{calledOf}
 use borrow.Author.Needs.{needs}
 use Rattle.entry.proofs.call.Statement.{statement}
 use Rattle.entry.proofs.call.Tie as tie

@@ -1,5 +1,5 @@
 -- `entry::read` meets its contract.
-use Rattle.entry.specs.Entry.{readOf}
+use Rattle.calls.specs.Entry.{readOf}
 use borrow.Author.Needs.{needs}
 use Rattle.entry.proofs.read.Statement.{statement}
 use Rattle.entry.proofs.read.Tie as tie

@@ -43,17 +43,17 @@ use denote.Triple.Table.{entered, cited}
 use denote.Triple.Walked.{says, Stays, stay-ref, stay-none, walkOf, AllGo, goes-none, goes-ref, Walks, ends-at, walked, walk-meets}
 use denote.Triple.Clauses.{ensured, lasts}
 use denote.Exit.{yes}
-use Rattle.entry.specs.Entry.{calledOf}
+use Rattle.calls.specs.Entry.{calledOf}
 use Rattle.thin.specs.Thin.{restOf}
 use Rattle.regs.specs.declared.Vcpu.{Vcpu}
-use Rattle.entry.specs.declared.HostCall.{HostCall}
+use Rattle.calls.specs.declared.HostCall.{HostCall}
 use Rattle.regs.specs.declared.Outcome.{Outcome}
 use Rattle.thin.specs.declared.Given.{Given as Gave}
 use Rattle.thin.proofs.call_in_place.Key.{name as #in-place}
 use Rattle.regs.proofs.Vcpu as Vc
 use Rattle.regs.proofs.Vcpu.Laws as Vc′
-use Rattle.entry.proofs.HostCall as D
-use Rattle.entry.proofs.HostCall.Laws as D′
+use Rattle.calls.proofs.HostCall as D
+use Rattle.calls.proofs.HostCall.Laws as D′
 use Rattle.regs.proofs.Outcome as O
 use Rattle.regs.proofs.Outcome.Laws as O′
 use Rattle.thin.proofs.Given as R
@@ -76,7 +76,7 @@ abbrev vcpu-ty : Ty
 vcpu-ty = spell code.Mir.table (tyNamed (114 ∷ 101 ∷ 103 ∷ 115 ∷ 58 ∷ 58 ∷ 86 ∷ 99 ∷ 112 ∷ 117 ∷ [], []))
 
 abbrev call-ty : Ty
-call-ty = spell code.Mir.table (tyNamed (101 ∷ 110 ∷ 116 ∷ 114 ∷ 121 ∷ 58 ∷ 58 ∷ 72 ∷ 111 ∷ 115 ∷ 116 ∷ 67 ∷ 97 ∷ 108 ∷ 108 ∷ [], []))
+call-ty = spell code.Mir.table (tyNamed (99 ∷ 97 ∷ 108 ∷ 108 ∷ 115 ∷ 58 ∷ 58 ∷ 72 ∷ 111 ∷ 115 ∷ 116 ∷ 67 ∷ 97 ∷ 108 ∷ 108 ∷ [], []))
 
 abbrev outcome-ty : Ty
 outcome-ty = spell code.Mir.table (tyNamed (114 ∷ 101 ∷ 103 ∷ 115 ∷ 58 ∷ 58 ∷ 79 ∷ 117 ∷ 116 ∷ 99 ∷ 111 ∷ 109 ∷ 101 ∷ [], []))

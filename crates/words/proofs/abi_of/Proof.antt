@@ -1,0 +1,16 @@
+-- `words::abi_of` meets its contract.
+use borrow.Author.Tests.{ne-eqb}
+use Rattle.words.specs.Words.{abiOf}
+use Rattle.words.proofs.abi_of.Statement.{statement}
+use Rattle.words.proofs.abi_of.Tie as tie
+
+returns : tie.Need-returns
+unfolding abiOf
+returns c = simp (c .match .keys1)
+
+returns-2 : tie.Need-returns-2
+unfolding abiOf
+returns-2 c = simp (ne-eqb _ _ (c .match .rest .1))
+
+pub abi-of-spec : {M : Type 1} → statement M
+abi-of-spec = tie.close (tie.spec returns returns-2)

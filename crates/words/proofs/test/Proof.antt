@@ -1,0 +1,16 @@
+-- `words::test` meets its contract.
+use borrow.Author.Tests.{eq-eqb, ne-eqb}
+use Rattle.words.specs.Words.{tested}
+use Rattle.words.proofs.test.Statement.{statement}
+use Rattle.words.proofs.test.Tie as tie
+
+returns : tie.Need-returns
+unfolding tested
+returns c = simp (eq-eqb _ _ (c .if1 .taken))
+
+returns-2 : tie.Need-returns-2
+unfolding tested
+returns-2 c = simp (ne-eqb _ _ (c .if1 .left))
+
+pub test-spec : {M : Type 1} → statement M
+test-spec = tie.close (tie.spec returns returns-2)

@@ -1,0 +1,61 @@
+-- The words of any record read back as it, so no call makes an unknown kind.
+use mathlib.Core.Bool.{Bool, true, false}
+use mathlib.Core.Path.{_≡_, refl}
+use Rattle.types.specs.Numbers.{accessNumber, flagOf, widthBytes}
+use Rattle.types.specs.declared.Access.{Access}
+use Rattle.types.specs.declared.Access.the-variants as access
+use Rattle.types.specs.declared.Width.{Width}
+use Rattle.types.specs.declared.Width.the-variants as width
+use Rattle.regs.specs.declared.Csrs.{Csrs}
+use Rattle.regs.specs.declared.Vcpu.{Vcpu}
+use Rattle.regs.specs.declared.Waiting.{Waiting}
+use Rattle.regs.specs.declared.Waiting.the-variants as waiting
+use Rattle.words.specs.Words.{accessOf, csrsOf, csrsWords, packOf, tested, unpackOf, waitingBy, waitingOf, waitingWords, widthOf}
+
+-- a width is that of its bytes
+pub width-back : (w : Width) → widthOf (widthBytes w) ≡ w
+unfolding widthOf widthBytes
+width-back width.Byte = refl
+width-back width.Half = refl
+width-back width.Word = refl
+width-back width.Double = refl
+
+-- an access is that of its flag
+pub access-back : (a : Access) → accessOf (accessNumber a) ≡ a
+unfolding accessOf accessNumber
+access-back access.Read = refl
+access-back access.Write = refl
+access-back access.Execute = refl
+
+-- a test is that of its word
+pub flag-back : (b : Bool) → tested (flagOf b) ≡ b
+unfolding tested flagOf
+flag-back true = refl
+flag-back false = refl
+
+-- whatever waits, its words read back as it
+pub waiting-back : (w : Waiting) → waitingOf (waitingWords w) ≡ w
+unfolding waitingOf waitingWords waitingBy
+waiting-back waiting.Idle = refl
+waiting-back (waiting.Load r w s) = λ i. waiting.Load r (width-back w i) (flag-back s i)
+waiting-back waiting.FetchCsr = refl
+waiting-back (waiting.FetchFault a k) = λ i. waiting.FetchFault a (access-back k i)
+waiting-back waiting.CopyMask = refl
+waiting-back (waiting.CopyIn n) = refl
+waiting-back (waiting.Print n) = refl
+waiting-back (waiting.ReadConsole n a) = refl
+waiting-back (waiting.CopyOut n) = refl
+waiting-back waiting.PutChar = refl
+waiting-back waiting.PutByte = refl
+waiting-back waiting.GetChar = refl
+waiting-back waiting.Forward = refl
+
+-- the CSRs are those of their words
+pub csrs-back : (c : Csrs) → csrsOf (csrsWords c) ≡ c
+unfolding csrsOf csrsWords
+csrs-back c = refl
+
+-- a record that comes from words of a record is that record
+pub record-back : (v : Vcpu) → unpackOf (packOf v) ≡ v
+unfolding unpackOf packOf
+record-back v = λ i. record { x = v .x; csrs = csrs-back (v .csrs) i; counts = v .counts; waiting = waiting-back (v .waiting) i }
