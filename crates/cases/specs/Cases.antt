@@ -24,7 +24,7 @@ use Rattle.regs.specs.declared.Outcome.{Outcome}
 use Rattle.regs.specs.declared.Vcpu.{Vcpu}
 use Rattle.regs.specs.Record.{bumped, counted, eventNumber, isIdle, listed, moved, pended, stored, timed, valueOf, waitingAsk}
 use Rattle.regs.specs.Effects.{applied, askingOf, doneOf, failedOf, finishedOf, guardedOf, noArgs, refusedOf, unlessAsking}
-use Rattle.ecall.specs.Calls.{callOf, timeOf}
+use Rattle.sbi.specs.Calls.{callOf, timeOf}
 use Rattle.ecall_effect.specs.Doing.{callEffect}
 use Rattle.deeds.specs.Deeds.{movesOf, setTimerOf, staysOf}
 use Rattle.fetch.specs.Faults.{askFetchOf, injectedOf, missedEffect, missedOf, trapStatusOf}

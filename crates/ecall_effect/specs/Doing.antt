@@ -8,8 +8,8 @@ use Rattle.regs.specs.declared.Effect.{Effect}
 use Rattle.regs.specs.declared.Waiting.the-variants as waiting
 use Rattle.regs.specs.declared.Writes.the-variants as writes
 use Rattle.regs.specs.Effects.{askingOf}
-use Rattle.ecall.specs.declared.Call.{Call}
-use Rattle.ecall.specs.declared.Call.the-variants as call
+use Rattle.sbi.specs.declared.Call.{Call}
+use Rattle.sbi.specs.declared.Call.the-variants as call
 use Rattle.deeds.specs.Deeds.{returnsOf, movesOf, staysOf, asksOf, setTimerOf, clearIpiOf, hypercallOf}
 
 unfoldable pub callEffect : Csrs → ℕ → ℕ → Args → Call → Effect

@@ -1,11 +1,11 @@
 // The effect of an SBI call on the record.
 ghost use mathlib.Core.Path.{_≡_};
 ghost use Rattle.ecall_effect.specs.Doing.{callEffect};
-use ecall::Call;
 use regs::Csrs;
 use regs::Effect;
 use regs::Waiting;
 use regs::Writes;
+use sbi::Call;
 use types::Args;
 use types::Ask;
 use types::Exit;

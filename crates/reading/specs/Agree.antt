@@ -33,10 +33,10 @@ use Rattle.regs.specs.declared.Vcpu.{Vcpu}
 use Rattle.regs.specs.declared.Waiting.{Waiting}
 use Rattle.regs.specs.declared.Waiting.the-variants as waiting
 use Rattle.regs.specs.Record.{valueOf, isIdle}
-use Rattle.ecall.specs.declared.Call.the-variants as call
-use Rattle.ecall.specs.Calls.{timeOf, spiOf, hsmOf, srstOf, dbcnOf, spanOf, consoleOf, rfncOf, callOf, lesserOf, notSupportedOf}
+use Rattle.sbi.specs.declared.Call.the-variants as call
+use Rattle.sbi.specs.Calls.{timeOf, spiOf, hsmOf, srstOf, dbcnOf, spanOf, consoleOf, rfncOf, callOf, lesserOf, notSupportedOf}
 use Rattle.ecall_effect.specs.Doing.{callEffect}
-use Rattle.ecall.specs.declared.Call as ecalls
+use Rattle.sbi.specs.declared.Call as ecalls
 use Rattle.virtual_inst.specs.Stimecmp as virtual
 use Rattle.page_fault.specs.Mmio.{storeOf, faultOf, faultEffect}
 use Rattle.trap.specs.Traps.{argumentsOf, sbiOf, stimecmpOf, mmioOf, pageFaultOf, causeOf, trapOf, startedOf, startEffect}

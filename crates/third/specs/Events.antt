@@ -30,8 +30,8 @@ use Rattle.regs.specs.declared.Waiting.{Waiting}
 use Rattle.regs.specs.declared.Waiting.the-variants as waiting
 use Rattle.regs.specs.Record.{eventNumber, isIdle, waitingAsk}
 use Rattle.regs.specs.Effects.{finishedOf, askingOf, failedOf, refusedOf, doneOf, guardedOf}
-use Rattle.ecall.specs.declared.Call as ecalls
-use Rattle.ecall.specs.Calls.{timeOf, spiOf, hsmOf, srstOf, dbcnOf, spanOf, consoleOf, rfncOf, callOf, lesserOf, notSupportedOf}
+use Rattle.sbi.specs.declared.Call as ecalls
+use Rattle.sbi.specs.Calls.{timeOf, spiOf, hsmOf, srstOf, dbcnOf, spanOf, consoleOf, rfncOf, callOf, lesserOf, notSupportedOf}
 use Rattle.ecall_effect.specs.Doing.{callEffect}
 use Rattle.deeds.specs.Deeds.{returnsOf, movesOf, staysOf, asksOf, setTimerOf, clearIpiOf, hypercallOf}
 use Rattle.fetch.specs.declared.Missed.{Missed}

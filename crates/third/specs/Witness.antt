@@ -23,7 +23,7 @@ use Rattle.decoder.specs.Examples.{lw-x7, sw-x7, cut-5, cut-6, csrrw-opcode, cs
 use Rattle.regs.specs.declared.Vcpu.{Vcpu}
 use Rattle.regs.specs.Record.{valueOf, stored, moved, timed, pended, eventNumber, bumped, counted, waitingAsk, isIdle, listed}
 use Rattle.regs.specs.Effects.{applied, noArgs, finishedOf, askingOf, failedOf, refusedOf, doneOf}
-use Rattle.ecall.specs.Calls.{notSupportedOf, lesserOf, timeOf, spiOf, hsmOf, srstOf, spanOf, consoleOf, dbcnOf, rfncOf, callOf}
+use Rattle.sbi.specs.Calls.{notSupportedOf, lesserOf, timeOf, spiOf, hsmOf, srstOf, spanOf, consoleOf, dbcnOf, rfncOf, callOf}
 use Rattle.ecall_effect.specs.Doing.{callEffect}
 use Rattle.deeds.specs.Deeds.{returnsOf, movesOf, staysOf, asksOf, setTimerOf, hypercallOf}
 use Rattle.fetch.specs.Faults.{askFetchOf, missedOf, trapStatusOf, injectedOf, missedEffect}

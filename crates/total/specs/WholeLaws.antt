@@ -33,8 +33,8 @@ use Rattle.regs.specs.declared.Writes.{Writes}
 use Rattle.regs.specs.declared.Writes.the-variants as writes
 use Rattle.regs.specs.Record.{counted, bumped, eventNumber, isIdle, stored, waitingAsk}
 use Rattle.regs.specs.Effects.{applied, askingOf, failedOf, finishedOf, refusedOf}
-use Rattle.ecall.specs.declared.Call.{Call}
-use Rattle.ecall.specs.declared.Call.the-variants as call
+use Rattle.sbi.specs.declared.Call.{Call}
+use Rattle.sbi.specs.declared.Call.the-variants as call
 use Rattle.ecall_effect.specs.Doing.{callEffect}
 use Rattle.deeds.specs.Deeds.{asksOf, clearIpiOf, hypercallOf, movesOf, returnsOf, setTimerOf, staysOf}
 use Rattle.fetch.specs.declared.Missed.{Missed}

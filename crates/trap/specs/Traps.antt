@@ -24,7 +24,7 @@ use Rattle.regs.specs.declared.Waiting.{Waiting}
 use Rattle.regs.specs.declared.Writes.the-variants as writes
 use Rattle.regs.specs.Record.{valueOf, isIdle}
 use Rattle.regs.specs.Effects.{finishedOf, failedOf, refusedOf}
-use Rattle.ecall.specs.Calls.{callOf}
+use Rattle.sbi.specs.Calls.{callOf}
 use Rattle.ecall_effect.specs.Doing.{callEffect}
 use Rattle.virtual_inst.specs.Stimecmp.{startOf, csrEffect}
 use Rattle.page_fault.specs.Mmio.{faultOf, faultEffect}

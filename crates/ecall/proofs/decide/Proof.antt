@@ -1,6 +1,6 @@
 -- `ecall::decide` meets its contract.
 use borrow.Author.Tests.{ne-eqb}
-use Rattle.ecall.specs.Calls.{callOf}
+use Rattle.sbi.specs.Calls.{callOf}
 use borrow.Author.Needs.{needs}
 use Rattle.ecall.proofs.decide.Statement.{statement}
 use Rattle.ecall.proofs.decide.Tie as tie

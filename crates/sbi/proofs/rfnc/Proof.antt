@@ -1,8 +1,8 @@
--- `ecall::rfnc` meets its contract.
+-- `sbi::rfnc` meets its contract.
 use borrow.Author.Tests.{ne-eqb}
-use Rattle.ecall.specs.Calls.{rfncOf}
-use Rattle.ecall.proofs.rfnc.Statement.{statement}
-use Rattle.ecall.proofs.rfnc.Tie as tie
+use Rattle.sbi.specs.Calls.{rfncOf}
+use Rattle.sbi.proofs.rfnc.Statement.{statement}
+use Rattle.sbi.proofs.rfnc.Tie as tie
 
 returns : tie.Need-returns
 unfolding rfncOf

@@ -1,8 +1,8 @@
--- `ecall::lesser` meets its contract.
+-- `dbcn::lesser` meets its contract.
 use borrow.Author.Tests.{lt-ltb, lt-leb, le-ltb, le-leb}
-use Rattle.ecall.specs.Calls.{lesserOf}
-use Rattle.ecall.proofs.lesser.Statement.{statement}
-use Rattle.ecall.proofs.lesser.Tie as tie
+use Rattle.sbi.specs.Calls.{lesserOf}
+use Rattle.dbcn.proofs.lesser.Statement.{statement}
+use Rattle.dbcn.proofs.lesser.Tie as tie
 
 returns : tie.Need-returns
 unfolding lesserOf

@@ -1,9 +1,9 @@
--- `ecall::console` meets its contract.
+-- `dbcn::console` meets its contract.
 use borrow.Author.Tests.{eq-eqb, ne-eqb}
-use Rattle.ecall.specs.Calls.{consoleOf}
+use Rattle.sbi.specs.Calls.{consoleOf}
 use borrow.Author.Needs.{needs}
-use Rattle.ecall.proofs.console.Statement.{statement}
-use Rattle.ecall.proofs.console.Tie as tie
+use Rattle.dbcn.proofs.console.Statement.{statement}
+use Rattle.dbcn.proofs.console.Tie as tie
 
 returns : tie.Need-returns
 unfolding consoleOf

@@ -1,8 +1,8 @@
--- `ecall::span` meets its contract.
+-- `dbcn::span` meets its contract.
 use borrow.Author.Tests.{eq-eqb, ne-eqb}
-use Rattle.ecall.specs.Calls.{spanOf}
-use Rattle.ecall.proofs.span.Statement.{statement}
-use Rattle.ecall.proofs.span.Tie as tie
+use Rattle.sbi.specs.Calls.{spanOf}
+use Rattle.dbcn.proofs.span.Statement.{statement}
+use Rattle.dbcn.proofs.span.Tie as tie
 
 returns : tie.Need-returns
 unfolding spanOf

@@ -9,8 +9,8 @@ use Rattle.consts.specs.Csr.{consoleRoom}
 use Rattle.consts.specs.Sbi.{legacySetTimer, legacyPutchar, legacyGetchar, legacyClearIpi, legacySendIpi, legacyFenceI, legacySfenceVma, legacySfenceVmaAsid, legacyShutdown, eidTime, eidSpi, eidHsm, eidHvc, eidSrst, eidDbcn, eidRfnc, success, notSupported, invalidParam}
 use Rattle.sbi_ipi.specs.Ipi.{standardRequest}
 use Rattle.regs.specs.declared.Event.the-variants as event
-use Rattle.ecall.specs.declared.Call.{Call}
-use Rattle.ecall.specs.declared.Call.the-variants as call
+use Rattle.sbi.specs.declared.Call.{Call}
+use Rattle.sbi.specs.declared.Call.the-variants as call
 
 -- "other fids": return NOT_SUPPORTED, 0
 unfoldable pub notSupportedOf : Call

@@ -1,9 +1,9 @@
--- `ecall::spi` meets its contract.
+-- `sbi::spi` meets its contract.
 use borrow.Author.Tests.{eq-eqb, ne-eqb}
-use Rattle.ecall.specs.Calls.{spiOf}
+use Rattle.sbi.specs.Calls.{spiOf}
 use borrow.Author.Needs.{needs}
-use Rattle.ecall.proofs.spi.Statement.{statement}
-use Rattle.ecall.proofs.spi.Tie as tie
+use Rattle.sbi.proofs.spi.Statement.{statement}
+use Rattle.sbi.proofs.spi.Tie as tie
 
 standard-request-requires : tie.Need-standard-request-requires
 standard-request-requires c κs = search needs

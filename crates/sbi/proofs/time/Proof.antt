@@ -1,9 +1,9 @@
--- `ecall::time` meets its contract.
+-- `sbi::time` meets its contract.
 use borrow.Author.Tests.{eq-eqb, ne-eqb}
-use Rattle.ecall.specs.Calls.{timeOf}
+use Rattle.sbi.specs.Calls.{timeOf}
 use borrow.Author.Needs.{needs}
-use Rattle.ecall.proofs.time.Statement.{statement}
-use Rattle.ecall.proofs.time.Tie as tie
+use Rattle.sbi.proofs.time.Statement.{statement}
+use Rattle.sbi.proofs.time.Tie as tie
 
 returns : tie.Need-returns
 unfolding timeOf

@@ -1,9 +1,9 @@
--- `ecall::dbcn` meets its contract.
+-- `dbcn::dbcn` meets its contract.
 use borrow.Author.Tests.{eq-eqb, ne-eqb}
-use Rattle.ecall.specs.Calls.{dbcnOf}
+use Rattle.sbi.specs.Calls.{dbcnOf}
 use borrow.Author.Needs.{needs}
-use Rattle.ecall.proofs.dbcn.Statement.{statement}
-use Rattle.ecall.proofs.dbcn.Tie as tie
+use Rattle.dbcn.proofs.dbcn.Statement.{statement}
+use Rattle.dbcn.proofs.dbcn.Tie as tie
 
 console-requires : tie.Need-console-requires
 console-requires c κs = search needs

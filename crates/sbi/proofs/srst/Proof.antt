@@ -1,9 +1,9 @@
--- `ecall::srst` meets its contract.
+-- `sbi::srst` meets its contract.
 use borrow.Author.Tests.{eq-eqb, ne-eqb}
-use Rattle.ecall.specs.Calls.{srstOf}
+use Rattle.sbi.specs.Calls.{srstOf}
 use borrow.Author.Needs.{needs}
-use Rattle.ecall.proofs.srst.Statement.{statement}
-use Rattle.ecall.proofs.srst.Tie as tie
+use Rattle.sbi.proofs.srst.Statement.{statement}
+use Rattle.sbi.proofs.srst.Tie as tie
 
 returns : tie.Need-returns
 unfolding srstOf

@@ -1,9 +1,9 @@
--- `ecall::hsm` meets its contract.
+-- `sbi::hsm` meets its contract.
 use borrow.Author.Tests.{eq-eqb, ne-eqb}
-use Rattle.ecall.specs.Calls.{hsmOf}
+use Rattle.sbi.specs.Calls.{hsmOf}
 use borrow.Author.Needs.{needs}
-use Rattle.ecall.proofs.hsm.Statement.{statement}
-use Rattle.ecall.proofs.hsm.Tie as tie
+use Rattle.sbi.proofs.hsm.Statement.{statement}
+use Rattle.sbi.proofs.hsm.Tie as tie
 
 returns : tie.Need-returns
 unfolding hsmOf
