@@ -13,9 +13,9 @@ use Rattle.lines.specs.declared.Got.{Got}
 use Rattle.lines.specs.declared.Got.the-variants as got
 use Rattle.lines.specs.declared.Part.{Part}
 use Rattle.lines.specs.Keys.{bytes, keyOf}
-use Rattle.lines.specs.Lines.{Read, Taken, after, lineOf, lineText, takenOf}
-use Rattle.lines.specs.Put.{Put, PutLine}
-use Rattle.lines.specs.PutLaws.{line-length, put-both, put-front, put-none, put-same}
+use Rattle.lines.specs.Lines.{Read, Taken, after, lineOf, takenOf}
+use Rattle.put.specs.Put.{Put, PutLine, lineText}
+use Rattle.put.specs.PutLaws.{line-length, put-both, put-front, put-none, put-same}
 use Rattle.steps.specs.declared.Gives.{Gives}
 use Rattle.steps.specs.declared.Gives.the-variants as gives
 use Rattle.steps.specs.declared.State.{State}

@@ -3,7 +3,8 @@ use Prim.Native.Nat.{ℕ}
 use mathlib.Core.List.{List, [], _∷_, _++_}
 use Rattle.types.specs.Pick.{pick}
 use Rattle.lines.specs.Keys.{bytes, keyOf}
-use Rattle.lines.specs.Lines.{lineOf, lineText}
+use Rattle.lines.specs.Lines.{lineOf}
+use Rattle.put.specs.Put.{lineText}
 use Rattle.steps.specs.declared.Gives.{Gives}
 use Rattle.steps.specs.declared.Gives.the-variants as gives
 use Rattle.steps.specs.declared.State.{State}

@@ -3,7 +3,7 @@
 ghost use mathlib.Core.Path.{_≡_};
 ghost use Prim.Native.Nat.{_+_, _≤_};
 ghost use lib.ListN.{length};
-ghost use Rattle.lines.specs.Put.{Put};
+ghost use Rattle.put.specs.Put.{Put};
 ghost use Rattle.capture.specs.Replay.{textOf};
 ghost use Rattle.capture.specs.Feeds.{Feeds, Fills};
 use steps::Gives;
@@ -88,11 +88,11 @@ fn put(g: Gives, out: &mut [u8], at: usize) -> usize
     match g {
         Gives::Nothing => at,
         Gives::Trap { exit, sepc, a0, a1 } => {
-            let p = lines::put(b"exit=", exit, out, at);
-            let q = lines::put(b"sepc=", sepc, out, p);
-            let r = lines::put(b"a0=", a0, out, q);
-            lines::put(b"a1=", a1, out, r)
+            let p = put::put(b"exit=", exit, out, at);
+            let q = put::put(b"sepc=", sepc, out, p);
+            let r = put::put(b"a0=", a0, out, q);
+            put::put(b"a1=", a1, out, r)
         }
-        Gives::Bad { line } => lines::put(b"bad=", line, out, at),
+        Gives::Bad { line } => put::put(b"bad=", line, out, at),
     }
 }

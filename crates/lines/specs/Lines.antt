@@ -9,7 +9,7 @@ use Rattle.types.specs.Pick.{and, pick}
 use Rattle.lines.specs.declared.Got.{Got}
 use Rattle.lines.specs.declared.Got.the-variants as got
 use Rattle.lines.specs.declared.Part.{Part}
-use Rattle.lines.specs.Hex.{nibbleOf, pushOf, sixteen}
+use Rattle.digits.specs.Hex.{nibbleOf, pushOf}
 
 -- a byte where the key has x
 unfoldable pub inKeyOf : ℕ → ℕ → ℕ → ℕ → Got
@@ -56,7 +56,3 @@ abbrev pub begins : List ℕ → List ℕ → Bool
 begins [] l = true
 begins (x ∷ key) [] = false
 begins (x ∷ key) (b ∷ l) = and (eqb b x) (begins key l)
-
--- the text of a line
-unfoldable pub lineText : List ℕ → ℕ → List ℕ
-lineText key v = key ++ (sixteen v ++ (10 ∷ []))

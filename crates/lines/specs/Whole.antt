@@ -10,11 +10,11 @@ use lib.ListN.{length, length-append}
 use lib.Seq.{getD-append-seam}
 use borrow.Author.Tests.{eq-eqb, le-ltb, lt-ltb}
 use Rattle.types.specs.Pick.{pick}
-use Rattle.lines.specs.declared.Digits.{Digits}
-use Rattle.lines.specs.declared.Digits.the-variants as digits
+use Rattle.digits.specs.declared.Digits.{Digits}
+use Rattle.digits.specs.declared.Digits.the-variants as digits
 use Rattle.lines.specs.declared.Got.{Got}
 use Rattle.lines.specs.declared.Got.the-variants as got
-use Rattle.lines.specs.Hex.{digitOf, nibbleOf, pushOf, pushedOf}
+use Rattle.digits.specs.Hex.{digitOf, nibbleOf, pushOf, pushedOf}
 use Rattle.lines.specs.Lines.{after, atEndOf, inDigitsOf, inKeyOf, lineOf, takenOf}
 
 -- the key's next byte

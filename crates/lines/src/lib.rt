@@ -1,18 +1,9 @@
-// The lines of a capture and of a replay's output: a key, sixteen lowercase hex digits, LF (01, Replay program).
-// Keys and digits are read and written here and nowhere else.
+// The lines of a capture, read: a key, sixteen lowercase hex digits, LF (01, Replay program). Keys are read here and
+// nowhere else; crate digits reads the digits, crate put writes lines.
 ghost use mathlib.Core.Path.{_≡_};
-ghost use Prim.Native.Nat.{_+_, _≤_, _<_};
 ghost use lib.ListN.{length};
-ghost use Rattle.lines.specs.Hex.{digitOf, glyph as glyphOf, nibbleOf, pushOf, pushedOf, readOf, sixteen};
 ghost use Rattle.lines.specs.Keys.{fourAt, keyOf};
-ghost use Rattle.lines.specs.Lines.{atEndOf, inDigitsOf, inKeyOf, lineOf, lineText, Read};
-ghost use Rattle.lines.specs.Put.{Put, PutLine, putAt};
-
-// What sixteen bytes are as hex digits.
-pub enum Digits {
-    Number(u64),
-    Bad,
-}
+ghost use Rattle.lines.specs.Lines.{atEndOf, inDigitsOf, inKeyOf, lineOf, Read};
 
 // What is known of a line after some of its bytes.
 pub enum Got {
@@ -110,7 +101,7 @@ fn line(key: &[u8], at: usize, v: u64, b: u8) -> Got
         return in_key(at + 1, v, b, key[at]);
     }
     if at - key.len() < 16 {
-        return in_digits(at + 1, v, nibble(b));
+        return in_digits(at + 1, v, digits::nibble(b));
     }
     at_end(v, b)
 }
@@ -130,7 +121,7 @@ fn in_digits(next: usize, v: u64, d: u64) -> Got
     ensures { λ r. ⌜ r ≡ inDigitsOf next v d ⌝ }
 {
     if d < 16 {
-        return Got::More(next, push(v, d));
+        return Got::More(next, digits::push(v, d));
     }
     Got::Unfit
 }
@@ -143,137 +134,4 @@ fn at_end(v: u64, b: u8) -> Got
         return Got::Whole(v);
     }
     Got::Unfit
-}
-
-// A byte as a lowercase hex digit; 16 if it is none.
-fn nibble(b: u8) -> u64
-    ensures { λ r. ⌜ r ≡ nibbleOf b ⌝ }
-{
-    if b < 48 {
-        return 16;
-    }
-    if b < 58 {
-        return b as u64 - 48;
-    }
-    if b < 97 {
-        return 16;
-    }
-    if b < 103 {
-        return b as u64 - 87;
-    }
-    16
-}
-
-// One digit more behind a number, in 64 bits.
-fn push(v: u64, d: u64) -> u64
-    requires { ⌜ d < 16 ⌝ }
-    ensures { λ r. ⌜ r ≡ pushOf v d ⌝ }
-{
-    v % 0x1000000000000000 * 16 + d
-}
-
-// The same where the digit may be none.
-fn pushed(v: u64, d: u64) -> Digits
-    ensures { λ r. ⌜ r ≡ pushedOf v d ⌝ }
-{
-    if d < 16 {
-        return Digits::Number(push(v, d));
-    }
-    Digits::Bad
-}
-
-// One byte more behind what was read.
-fn digit(x: Digits, b: u8) -> Digits
-    ensures { λ r. ⌜ r ≡ digitOf x b ⌝ }
-{
-    match x {
-        Digits::Number(v) => pushed(v, nibble(b)),
-        Digits::Bad => Digits::Bad,
-    }
-}
-
-// The number of sixteen digits.
-pub fn read_digits(s: &[u8]) -> Digits
-    ensures { λ r. ⌜ r ≡ readOf (now (s .entry)) ⌝ }
-{
-    if s.len() == 16 {
-        let mut x = Digits::Number(0);
-        let mut i = 0;
-        while i < s.len() {
-            x = digit(x, s[i]);
-            i += 1;
-        }
-        return x;
-    }
-    Digits::Bad
-}
-
-// Writes a line's text at a place of the buffer, and says where it ends. The other bytes stay. Where the line has no
-// room nothing is written, and the place itself is given.
-pub fn put(key: &[u8], v: u64, out: &mut [u8], at: usize) -> usize
-    ensures { λ r. ⌜ PutLine (now (out .entry)) at (now (key .entry)) v r (now (out .exit)) ⌝ }
-{
-    let n = out.len();
-    if n < at {
-        return at;
-    }
-    if n - at < key.len() {
-        return at;
-    }
-    if n - at - key.len() < 17 {
-        return at;
-    }
-    put_line(key, v, out, at)
-}
-
-// The same where it has room.
-fn put_line(key: &[u8], v: u64, out: &mut [u8], at: usize) -> usize
-    requires { ⌜ at + length (now key) + 17 ≤ length (now out) ⌝ }
-    ensures { λ r. ⌜ Put (now (out .entry)) at (lineText (now (key .entry)) v) r (now (out .exit)) ⌝ }
-{
-    put_key(key, out, at);
-    let a = at + key.len();
-    put_digits(v, out, a);
-    let e = a + 16;
-    out[e] = 10;
-    e + 1
-}
-
-// The key's bytes, in order.
-fn put_key(key: &[u8], out: &mut [u8], at: usize)
-    requires { ⌜ at + length (now key) ≤ length (now out) ⌝ }
-    ensures { λ _. ⌜ now (out .exit) ≡ putAt (now (out .entry)) at (now (key .entry)) ⌝ }
-{
-    let mut i: usize = 0;
-    while i < key.len() {
-        let j = at + i;
-        out[j] = key[i];
-        i += 1;
-    }
-}
-
-// From the last digit to the first.
-fn put_digits(v: u64, out: &mut [u8], at: usize)
-    requires { ⌜ at + 16 ≤ length (now out) ⌝ }
-    ensures { λ _. ⌜ now (out .exit) ≡ putAt (now (out .entry)) at (sixteen v) ⌝ }
-{
-    let mut i: usize = 16;
-    let mut rest = v;
-    while 0 < i {
-        i -= 1;
-        let j = at + i;
-        out[j] = glyph(rest % 16);
-        rest = rest / 16;
-    }
-}
-
-// The byte of a digit.
-fn glyph(d: u64) -> u8
-    requires { ⌜ d < 16 ⌝ }
-    ensures { λ r. ⌜ r ≡ glyphOf d ⌝ }
-{
-    if d < 10 {
-        return 48 + d as u8;
-    }
-    87 + d as u8
 }

@@ -5,8 +5,8 @@ use mathlib.Core.List.{List, [], _++_, append-nil}
 use mathlib.Core.Path.{_≡_, sym, ap, _∙_, subst}
 use lib.ListN.{drop, drop-of-length-le, length, length-drop, take, take-append-drop}
 use lib.Seq.{length-take-le, take-all}
-use Rattle.lines.specs.Put.{Put}
-use Rattle.lines.specs.PutLaws.{put-front}
+use Rattle.put.specs.Put.{Put}
+use Rattle.put.specs.PutLaws.{put-front}
 use Rattle.steps.specs.declared.Gives.{Gives}
 use Rattle.steps.specs.declared.State.{State}
 use Rattle.order.specs.Order.{begun, endOf}

@@ -1,9 +1,9 @@
--- `lines::push` meets its contract.
+-- `digits::push` meets its contract.
 use mathlib.Core.Path.{refl}
-use Rattle.lines.specs.Hex.{pushOf}
+use Rattle.digits.specs.Hex.{pushOf}
 use borrow.Author.Needs.{needs}
-use Rattle.lines.proofs.push.Statement.{statement}
-use Rattle.lines.proofs.push.Tie as tie
+use Rattle.digits.proofs.push.Statement.{statement}
+use Rattle.digits.proofs.push.Tie as tie
 
 mul-result : tie.Need-mul-result
 mul-result c = search needs

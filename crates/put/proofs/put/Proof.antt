@@ -1,9 +1,9 @@
--- `lines::put` meets its contract.
-use Rattle.lines.specs.PutLaws.{no-room, has-room}
+-- `put::put` meets its contract.
+use Rattle.put.specs.PutLaws.{no-room, has-room}
 use native.Mathlib.Omega.{arith}
 use borrow.Author.Needs.{needs}
-use Rattle.lines.proofs.put.Statement.{statement}
-use Rattle.lines.proofs.put.Tie as tie
+use Rattle.put.proofs.put.Statement.{statement}
+use Rattle.put.proofs.put.Tie as tie
 
 returns : tie.Need-returns
 returns c = no-room _ _ _ _ (omega (arith, c .if1 .taken))

@@ -1,8 +1,8 @@
--- `lines::glyph` meets its contract.
+-- `put::glyph` meets its contract.
 use borrow.Author.Tests.{lt-ltb, lt-leb, le-ltb, le-leb}
 use borrow.Author.Needs.{needs}
-use Rattle.lines.proofs.glyph.Statement.{statement}
-use Rattle.lines.proofs.glyph.Tie as tie
+use Rattle.put.proofs.glyph.Statement.{statement}
+use Rattle.put.proofs.glyph.Tie as tie
 
 cast-result : tie.Need-cast-result
 cast-result c = search needs

@@ -1,9 +1,9 @@
--- `lines::nibble` meets its contract.
+-- `digits::nibble` meets its contract.
 use borrow.Author.Tests.{lt-ltb, lt-leb, le-ltb, le-leb}
-use Rattle.lines.specs.Hex.{nibbleOf}
+use Rattle.digits.specs.Hex.{nibbleOf}
 use borrow.Author.Needs.{needs}
-use Rattle.lines.proofs.nibble.Statement.{statement}
-use Rattle.lines.proofs.nibble.Tie as tie
+use Rattle.digits.proofs.nibble.Statement.{statement}
+use Rattle.digits.proofs.nibble.Tie as tie
 
 returns : tie.Need-returns
 unfolding nibbleOf

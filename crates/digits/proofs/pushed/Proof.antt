@@ -1,9 +1,9 @@
--- `lines::pushed` meets its contract.
+-- `digits::pushed` meets its contract.
 use borrow.Author.Tests.{lt-ltb, lt-leb, le-ltb, le-leb}
-use Rattle.lines.specs.Hex.{pushedOf}
+use Rattle.digits.specs.Hex.{pushedOf}
 use borrow.Author.Needs.{needs}
-use Rattle.lines.proofs.pushed.Statement.{statement}
-use Rattle.lines.proofs.pushed.Tie as tie
+use Rattle.digits.proofs.pushed.Statement.{statement}
+use Rattle.digits.proofs.pushed.Tie as tie
 
 push-requires : tie.Need-push-requires
 push-requires c κs = search needs

@@ -1,14 +1,14 @@
--- `lines::read_digits` meets its contract.
+-- `digits::read_digits` meets its contract.
 use borrow.Author.Needs.{needs}
 use borrow.Author.Tests.{eq-eqb, ne-eqb}
-use Rattle.lines.specs.Hex.{readOf, digitOf}
+use Rattle.digits.specs.Hex.{readOf, digitOf}
 use Prim.Native.Nat.{_-_, _≤_}
 use mathlib.Core.List.{foldl}
 use mathlib.Core.Path.{_≡_, _∙_}
 use lib.ListN.{length, take}
-use Rattle.lines.specs.Fold.{fold-next, fold-all}
-use Rattle.lines.proofs.read_digits.Statement.{statement}
-use Rattle.lines.proofs.read_digits.Tie as tie
+use Rattle.digits.specs.Fold.{fold-next, fold-all}
+use Rattle.digits.proofs.read_digits.Statement.{statement}
+use Rattle.digits.proofs.read_digits.Tie as tie
 
 abbrev Inv-loop : tie.InvT-loop
 unfolding readOf

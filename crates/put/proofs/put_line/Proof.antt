@@ -1,8 +1,8 @@
--- `lines::put_line` meets its contract.
-use Rattle.lines.specs.PutLaws.{put-same, line-put, line-fits}
+-- `put::put_line` meets its contract.
+use Rattle.put.specs.PutLaws.{put-same, line-put, line-fits}
 use borrow.Author.Needs.{needs}
-use Rattle.lines.proofs.put_line.Statement.{statement}
-use Rattle.lines.proofs.put_line.Tie as tie
+use Rattle.put.proofs.put_line.Statement.{statement}
+use Rattle.put.proofs.put_line.Tie as tie
 
 put-key-requires : tie.Need-put-key-requires
 put-key-requires c κs = search needs

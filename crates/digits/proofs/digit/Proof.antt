@@ -1,8 +1,8 @@
--- `lines::digit` meets its contract.
-use Rattle.lines.specs.Hex.{digitOf}
+-- `digits::digit` meets its contract.
+use Rattle.digits.specs.Hex.{digitOf}
 use borrow.Author.Needs.{needs}
-use Rattle.lines.proofs.digit.Statement.{statement}
-use Rattle.lines.proofs.digit.Tie as tie
+use Rattle.digits.proofs.digit.Statement.{statement}
+use Rattle.digits.proofs.digit.Tie as tie
 
 enum-known-x : tie.Need-enum-known-x
 enum-known-x c = search needs

@@ -4,16 +4,16 @@ use mathlib.Core.List.{List, [], _∷_, _++_, foldl}
 use lib.Dec.{eqb, ltb}
 use lib.ListN.{length}
 use Rattle.types.specs.Pick.{pick}
-use Rattle.lines.specs.declared.Digits.{Digits}
-use Rattle.lines.specs.declared.Digits.the-variants as digits
+use Rattle.digits.specs.declared.Digits.{Digits}
+use Rattle.digits.specs.declared.Digits.the-variants as digits
 
 -- what a byte is as a digit: 0 to 9 stand from 48 on, a to f from 97 on; 16 if it is none
 unfoldable pub nibbleOf : ℕ → ℕ
 nibbleOf b = pick (ltb b 48) 16 (pick (ltb b 58) (b - 48) (pick (ltb b 97) 16 (pick (ltb b 103) (b - 87) 16)))
 
--- one digit more behind a number, in 64 bits
+-- one digit more behind a number, in 64 bits; of d its low four
 unfoldable pub pushOf : ℕ → ℕ → ℕ
-pushOf v d = v % 2 ^ 60 * 16 + d
+pushOf v d = v % 2 ^ 60 * 16 + d % 16
 
 -- the same where the digit may be none
 unfoldable pub pushedOf : ℕ → ℕ → Digits
