@@ -15,7 +15,7 @@ pub fn exit_values(e: Exit) -> [u64; 3]
         Exit::ExternalInterrupt { vector } => [vector, 0, 0],
         Exit::SendIpi(r) => {
             let abi = r.abi;
-            [r.mask, r.base, numbers::abi_number(abi)]
+            [r.mask, r.base, codes::abi_number(abi)]
         }
         Exit::CpuUp {
             target_cpu,
@@ -26,9 +26,9 @@ pub fn exit_values(e: Exit) -> [u64; 3]
         Exit::Halt => [0, 0, 0],
         Exit::Hypercall { nr } => [nr, 0, 0],
         Exit::SystemDown => [0, 0, 0],
-        Exit::NestedPageFault { addr, access } => [addr.0, numbers::access_number(access), 0],
-        Exit::MmioRead { addr, width } => [addr.0, numbers::width_bytes(width), 0],
-        Exit::MmioWrite { addr, width, data } => [addr.0, numbers::width_bytes(width), data],
+        Exit::NestedPageFault { addr, access } => [addr.0, codes::access_number(access), 0],
+        Exit::MmioRead { addr, width } => [addr.0, codes::width_bytes(width), 0],
+        Exit::MmioWrite { addr, width, data } => [addr.0, codes::width_bytes(width), data],
     }
 }
 

@@ -113,11 +113,11 @@ fn of_decoded(d: Decoded) -> u64
 {
     match d {
         Decoded::Load { width, signed, rd } => 0x1_0000
-            + numbers::width_bytes(width) % 16 * 0x1000
+            + codes::width_bytes(width) % 16 * 0x1000
             + sign(signed)
             + (rd % 256) as u64,
         Decoded::Store { width, rs2 } => 0x2_0000
-            + numbers::width_bytes(width) % 16 * 0x1000
+            + codes::width_bytes(width) % 16 * 0x1000
             + (rs2 % 256) as u64,
         Decoded::Neither => 0,
     }

@@ -151,11 +151,11 @@ pub fn waiting_words(w: Waiting) -> [u64; 4]
         Waiting::Load { rd, width, signed } => [
             1,
             rd as u64,
-            numbers::width_bytes(width),
+            codes::width_bytes(width),
             flag(signed),
         ],
         Waiting::FetchCsr => [2, 0, 0, 0],
-        Waiting::FetchFault { at, access } => [3, at.0, numbers::access_number(access), 0],
+        Waiting::FetchFault { at, access } => [3, at.0, codes::access_number(access), 0],
         Waiting::CopyMask => [4, 0, 0, 0],
         Waiting::CopyIn { count } => [5, count, 0, 0],
         Waiting::Print { count } => [6, count, 0, 0],

@@ -1,11 +1,11 @@
--- `vcpu::first` meets its contract.
+-- `printing::first` meets its contract.
 use borrow.Author.Tests.{lt-ltb, lt-leb, le-ltb, le-leb}
 use Rattle.calls.specs.Calls.{firstOf}
 use mathlib.Core.Path.{sym}
 use lib.Seq.{length-take-le}
 use borrow.Author.Needs.{needs}
-use Rattle.vcpu.proofs.first.Statement.{statement}
-use Rattle.vcpu.proofs.first.Tie as tie
+use Rattle.printing.proofs.first.Statement.{statement}
+use Rattle.printing.proofs.first.Tie as tie
 
 slice-aggregate-result : tie.Need-slice-aggregate-result
 unfolding firstOf

@@ -1,8 +1,8 @@
--- `numbers::fetch_number` meets its contract.
+-- `codes::fetch_number` meets its contract.
 use Rattle.types.specs.Numbers.{fetchNumber}
 use borrow.Author.Needs.{needs}
-use Rattle.numbers.proofs.fetch_number.Statement.{statement}
-use Rattle.numbers.proofs.fetch_number.Tie as tie
+use Rattle.codes.proofs.fetch_number.Statement.{statement}
+use Rattle.codes.proofs.fetch_number.Tie as tie
 
 enum-told : tie.Need-enum-told
 enum-told c = search needs

@@ -1,8 +1,8 @@
--- `vcpu::print_count` meets its contract.
+-- `printing::print_count` meets its contract.
 use Rattle.calls.specs.Calls.{printCount}
 use borrow.Author.Needs.{needs}
-use Rattle.vcpu.proofs.print_count.Statement.{statement}
-use Rattle.vcpu.proofs.print_count.Tie as tie
+use Rattle.printing.proofs.print_count.Statement.{statement}
+use Rattle.printing.proofs.print_count.Tie as tie
 
 enum-told : tie.Need-enum-told
 enum-told c = search needs

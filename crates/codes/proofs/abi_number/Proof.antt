@@ -1,8 +1,8 @@
--- `numbers::abi_number` meets its contract.
+-- `codes::abi_number` meets its contract.
 use Rattle.types.specs.Numbers.{abiNumber}
 use borrow.Author.Needs.{needs}
-use Rattle.numbers.proofs.abi_number.Statement.{statement}
-use Rattle.numbers.proofs.abi_number.Tie as tie
+use Rattle.codes.proofs.abi_number.Statement.{statement}
+use Rattle.codes.proofs.abi_number.Tie as tie
 
 enum-told : tie.Need-enum-told
 enum-told c = search needs

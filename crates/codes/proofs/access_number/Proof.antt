@@ -1,8 +1,8 @@
--- `numbers::access_number` meets its contract.
+-- `codes::access_number` meets its contract.
 use Rattle.types.specs.Numbers.{accessNumber}
 use borrow.Author.Needs.{needs}
-use Rattle.numbers.proofs.access_number.Statement.{statement}
-use Rattle.numbers.proofs.access_number.Tie as tie
+use Rattle.codes.proofs.access_number.Statement.{statement}
+use Rattle.codes.proofs.access_number.Tie as tie
 
 enum-told : tie.Need-enum-told
 enum-told c = search needs

@@ -1,8 +1,8 @@
--- `numbers::width_bytes` meets its contract.
+-- `codes::width_bytes` meets its contract.
 use Rattle.types.specs.Numbers.{widthBytes}
 use borrow.Author.Needs.{needs}
-use Rattle.numbers.proofs.width_bytes.Statement.{statement}
-use Rattle.numbers.proofs.width_bytes.Tie as tie
+use Rattle.codes.proofs.width_bytes.Statement.{statement}
+use Rattle.codes.proofs.width_bytes.Tie as tie
 
 enum-told : tie.Need-enum-told
 enum-told c = search needs

@@ -1,8 +1,8 @@
--- `vcpu::to_print` meets its contract.
+-- `printing::to_print` meets its contract.
 use Rattle.calls.specs.Calls.{printedOf}
 use borrow.Author.Needs.{needs}
-use Rattle.vcpu.proofs.to_print.Statement.{statement}
-use Rattle.vcpu.proofs.to_print.Tie as tie
+use Rattle.printing.proofs.to_print.Statement.{statement}
+use Rattle.printing.proofs.to_print.Tie as tie
 
 print-count-requires : tie.Need-print-count-requires
 print-count-requires c κs = search needs
