@@ -474,21 +474,17 @@ pub fn by_model(record: &Record, call: &Call, fill: u64) -> (Reply, Record) {
     if kind == 14 {
         return (Reply { code: 0x40, out }, model::Vcpu::new(a, b).to_words([0; 4]));
     }
-    let waits = model_waiting(&before);
+    let waits = model::Waiting::from_words([before[54], before[55], before[56], before[57]]);
     let mut vcpu = model::Vcpu::from_words(&before, waits);
     // A fetch for a fault of neither direction, which no trap leaves: it counts as execute, and no word is a load or store
     // under it. The model has no such state, so it gets a word of the same length that is neither.
     let neither = before[54] == 3 && before[56] == 4;
     let b = if neither && kind == 11 && a == 1 && c == 0 { (b & 0x1f) | 0x60 } else { b };
-    let reply = match model_call(kind, a, b, c, d, e) {
-        Some(call) => vcpu.call(&call),
-        // an answer of no ask's number: crate abi reads it as a read of register 32
-        None => model::Reply::Error(model::Error::InvalidInput),
-    };
+    let reply = vcpu.call(&model::Call::from_words(kind, [a, b, c, d, e]));
     let waiting = if vcpu.waiting == waits {
         [before[54], before[55], before[56], before[57]]
     } else {
-        waiting_words(vcpu.waiting)
+        vcpu.waiting.to_words()
     };
     let after = vcpu.to_words(waiting);
     let code = reply_words(reply, &mut out);
@@ -496,98 +492,6 @@ pub fn by_model(record: &Record, call: &Call, fill: u64) -> (Reply, Record) {
         out[1] = 4;
     }
     (Reply { code, out }, after)
-}
-
-fn model_waiting(words: &Record) -> model::Waiting {
-    use model::{EmitFor, FetchFor, GuestPhysAddr, Waiting, Width};
-    let (a, b) = (words[55], words[56]);
-    match words[54] {
-        1 => Waiting::Load {
-            rd: a,
-            width: match b {
-                1 => Width::One,
-                2 => Width::Two,
-                4 => Width::Four,
-                _ => Width::Eight,
-            },
-            signed: words[57] != 0,
-        },
-        2 => Waiting::Fetch(FetchFor::VirtualInstruction),
-        3 => Waiting::Fetch(FetchFor::GuestPageFault { addr: GuestPhysAddr(a), write: b == 2 }),
-        4 => Waiting::Mask,
-        5 => Waiting::CopyIn { n: a },
-        6 => Waiting::Print { n: a },
-        7 => Waiting::Read { n: a, at: GuestPhysAddr(b) },
-        8 => Waiting::CopyOut { v: a },
-        9 => Waiting::Emit(EmitFor::Legacy),
-        10 => Waiting::Emit(EmitFor::Byte),
-        11 => Waiting::GetChar,
-        12 => Waiting::Forward,
-        _ => Waiting::Nothing,
-    }
-}
-
-fn waiting_words(waiting: model::Waiting) -> [u64; 4] {
-    use model::{EmitFor, FetchFor, Waiting};
-    match waiting {
-        Waiting::Nothing => [0; 4],
-        Waiting::Load { rd, width, signed } => [1, rd, width.bytes(), signed as u64],
-        Waiting::Fetch(FetchFor::VirtualInstruction) => [2, 0, 0, 0],
-        Waiting::Fetch(FetchFor::GuestPageFault { addr, write }) => [3, addr.0, 1 + write as u64, 0],
-        Waiting::Mask => [4, 0, 0, 0],
-        Waiting::CopyIn { n } => [5, n, 0, 0],
-        Waiting::Print { n } => [6, n, 0, 0],
-        Waiting::Read { n, at } => [7, n, at.0, 0],
-        Waiting::CopyOut { v } => [8, v, 0, 0],
-        Waiting::Emit(EmitFor::Legacy) => [9, 0, 0, 0],
-        Waiting::Emit(EmitFor::Byte) => [10, 0, 0, 0],
-        Waiting::GetChar => [11, 0, 0, 0],
-        Waiting::Forward => [12, 0, 0, 0],
-    }
-}
-
-fn model_call(kind: u64, a: u64, b: u64, c: u64, d: u64, e: u64) -> Option<model::Call> {
-    use model::{Answer, Call, FetchAnswer, GuestPhysAddr, GuestVirtAddr};
-    Some(match kind {
-        1 => Call::Setup,
-        2 => Call::SetEntry { entry: a },
-        3 => Call::GetGpr { index: a },
-        4 => Call::SetGpr { index: a, value: b },
-        5 => Call::SetReturnValue { value: a },
-        6 => Call::SetNestedPageTable { levels: a, mode: b, root: c },
-        7 => Call::SetVirtualInterruptPending { vector: a, pending: b != 0 },
-        8 => Call::LatchHvip { bits: a },
-        9 => Call::CompleteIpi {
-            abi: if a == 0 { model::IpiAbi::Legacy } else { model::IpiAbi::SbiV02 },
-            completion: match b {
-                0 => model::IpiCompletion::Success,
-                1 => model::IpiCompletion::InvalidParameter,
-                _ => model::IpiCompletion::Failed,
-            },
-        },
-        10 => Call::Start(model::Trap { scause: a, stval: b, htval: c, htinst: d, room: e }),
-        11 => Call::Answer(match a {
-            1 => Answer::Fetch(match c {
-                0 => FetchAnswer::Word(b as u32),
-                1 => FetchAnswer::Page(GuestVirtAddr(b)),
-                2 => FetchAnswer::Access(GuestVirtAddr(b)),
-                3 => FetchAnswer::Misaligned(GuestVirtAddr(b)),
-                4 => FetchAnswer::GuestPage(GuestPhysAddr(b)),
-                _ => FetchAnswer::Unhandled,
-            }),
-            2 => Answer::Mask { count: b, bytes: c },
-            3 => Answer::CopyIn { count: b },
-            4 => Answer::Print { error: b, value: c },
-            5 => Answer::Read { error: b, value: c },
-            6 => Answer::CopyOut { count: b },
-            7 => Answer::Emit,
-            8 => Answer::GetChar { number: b },
-            9 => Answer::Forward { error: b, value: c },
-            _ => return None,
-        }),
-        12 => Call::CompleteLoad { number: a },
-        _ => unreachable!(),
-    })
 }
 
 fn reply_words(reply: model::Reply, out: &mut [u64; 8]) -> u64 {

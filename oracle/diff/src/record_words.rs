@@ -1,5 +1,5 @@
 //! The record, the waiting part and the replies as the words of the proved
-//! library. crates/abi/specs/Words.antt says what each word means.
+//! library. crates/words/specs/Words.antt says what each word means.
 
 use model::*;
 
@@ -7,7 +7,7 @@ use model::*;
 pub type Words = [u64; 58];
 
 pub fn words_of(record: &Vcpu) -> Words {
-    record.to_words(waiting_words(&record.waiting))
+    record.to_words(record.waiting.to_words())
 }
 
 /// The record that the words stand for. Words that what waits doesn't carry
@@ -23,26 +23,6 @@ pub fn record_of_whole(words: &Words) -> Vcpu {
         stray("waiting part", &words[54..]);
     }
     record
-}
-
-fn waiting_words(waiting: &Waiting) -> [u64; 4] {
-    match *waiting {
-        Waiting::Nothing => [0; 4],
-        Waiting::Load { rd, width, signed } => [1, rd, width.bytes(), signed as u64],
-        Waiting::Fetch(FetchFor::VirtualInstruction) => [2, 0, 0, 0],
-        Waiting::Fetch(FetchFor::GuestPageFault { addr, write }) => {
-            [3, addr.0, if write { 2 } else { 1 }, 0]
-        }
-        Waiting::Mask => [4, 0, 0, 0],
-        Waiting::CopyIn { n } => [5, n, 0, 0],
-        Waiting::Print { n } => [6, n, 0, 0],
-        Waiting::Read { n, at } => [7, n, at.0, 0],
-        Waiting::CopyOut { v } => [8, v, 0, 0],
-        Waiting::Emit(EmitFor::Legacy) => [9, 0, 0, 0],
-        Waiting::Emit(EmitFor::Byte) => [10, 0, 0, 0],
-        Waiting::GetChar => [11, 0, 0, 0],
-        Waiting::Forward => [12, 0, 0, 0],
-    }
 }
 
 /// What waits by its words. A kind or number that no call leaves is a fault

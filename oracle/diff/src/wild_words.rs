@@ -1,6 +1,6 @@
 //! Calls of the proved library by words, sound and unsound: unknown kinds and
 //! numbers, and waiting parts that no call leaves. The model judges the
-//! meaning that crates/abi gives them.
+//! meaning that crates/words and crates/calls give them.
 
 use model::*;
 
@@ -43,7 +43,7 @@ pub fn one(r: &mut Random, tally: &mut Tally) -> Result<(), String> {
     let wild = [kind(r), number(r), number(r), number(r)];
     // A waiting fetch for a fault has READ or WRITE: 01 has no third.
     let wild = if wild[0] == 3 { [3, wild[1], 1 + r.below(2), wild[3]] } else { wild };
-    judge.waiting = waiting_of(wild);
+    judge.waiting = Waiting::from_words(wild);
     let mut words: Words = judge.to_words(wild);
     let call_kind = kind(r);
     let mut numbers: [u64; 5] = std::array::from_fn(|_| number(r));
@@ -63,7 +63,7 @@ pub fn one(r: &mut Random, tally: &mut Tally) -> Result<(), String> {
     if call_kind == 11 {
         tally.answers[at(numbers[0])] += 1;
     }
-    let due = judge.call(&call_of(call_kind, numbers));
+    let due = judge.call(&Call::from_words(call_kind, numbers));
     let is = reply_of(&call_words(&mut words, call_kind, numbers));
     if due == is && words == words_of(&judge) {
         return Ok(());
@@ -90,81 +90,4 @@ fn number(r: &mut Random) -> u64 {
     } else {
         r.edgy()
     }
-}
-
-fn waiting_of([kind, a, b, c]: [u64; 4]) -> Waiting {
-    match kind {
-        1 => Waiting::Load { rd: a, width: width_of(b), signed: c != 0 },
-        2 => Waiting::Fetch(FetchFor::VirtualInstruction),
-        3 => Waiting::Fetch(FetchFor::GuestPageFault { addr: GuestPhysAddr(a), write: b == 2 }),
-        4 => Waiting::Mask,
-        5 => Waiting::CopyIn { n: a },
-        6 => Waiting::Print { n: a },
-        7 => Waiting::Read { n: a, at: GuestPhysAddr(b) },
-        8 => Waiting::CopyOut { v: a },
-        9 => Waiting::Emit(EmitFor::Legacy),
-        10 => Waiting::Emit(EmitFor::Byte),
-        11 => Waiting::GetChar,
-        12 => Waiting::Forward,
-        _ => Waiting::Nothing,
-    }
-}
-
-fn width_of(bytes: u64) -> Width {
-    match bytes {
-        1 => Width::One,
-        2 => Width::Two,
-        4 => Width::Four,
-        _ => Width::Eight,
-    }
-}
-
-/// A call that can't be read is a read of register 32, which is refused.
-const NOWHERE: Call = Call::GetGpr { index: 32 };
-
-fn call_of(kind: u64, [a, b, c, d, e]: [u64; 5]) -> Call {
-    match kind {
-        1 => Call::Setup,
-        2 => Call::SetEntry { entry: a },
-        3 => Call::GetGpr { index: a },
-        4 => Call::SetGpr { index: a, value: b },
-        5 => Call::SetReturnValue { value: a },
-        6 => Call::SetNestedPageTable { levels: a, mode: b, root: c },
-        7 => Call::SetVirtualInterruptPending { vector: a, pending: b != 0 },
-        8 => Call::LatchHvip { bits: a },
-        9 => Call::CompleteIpi {
-            abi: if a == 0 { IpiAbi::Legacy } else { IpiAbi::SbiV02 },
-            completion: match b {
-                0 => IpiCompletion::Success,
-                1 => IpiCompletion::InvalidParameter,
-                _ => IpiCompletion::Failed,
-            },
-        },
-        10 => Call::Start(Trap { scause: a, stval: b, htval: c, htinst: d, room: e }),
-        11 => answer_of(a, b, c).map_or(NOWHERE, Call::Answer),
-        12 => Call::CompleteLoad { number: a },
-        _ => NOWHERE,
-    }
-}
-
-fn answer_of(ask: u64, a: u64, b: u64) -> Option<Answer> {
-    Some(match ask {
-        1 => Answer::Fetch(match b {
-            0 => FetchAnswer::Word(a as u32),
-            1 => FetchAnswer::Page(GuestVirtAddr(a)),
-            2 => FetchAnswer::Access(GuestVirtAddr(a)),
-            3 => FetchAnswer::Misaligned(GuestVirtAddr(a)),
-            4 => FetchAnswer::GuestPage(GuestPhysAddr(a)),
-            _ => FetchAnswer::Unhandled,
-        }),
-        2 => Answer::Mask { count: a, bytes: b },
-        3 => Answer::CopyIn { count: a },
-        4 => Answer::Print { error: a, value: b },
-        5 => Answer::Read { error: a, value: b },
-        6 => Answer::CopyOut { count: a },
-        7 => Answer::Emit,
-        8 => Answer::GetChar { number: a },
-        9 => Answer::Forward { error: a, value: b },
-        _ => return None,
-    })
 }
