@@ -4,7 +4,7 @@ use mathlib.Core.Bool.{Bool, true, false}
 use mathlib.Core.List.{List}
 use mathlib.Core.Path.{_≡_, refl, ap, sym, subst, _∙_}
 use native.Mathlib.Omega.{arith}
-use lib.ListN.{getD, length, set}
+use lib.ListN.{drop, getD, length, set}
 use lib.Dec.{eqb}
 use borrow.Author.Tests.{eqb-false, eqb-true, ne-eqb}
 use Rattle.types.specs.Pick.{pick}
@@ -41,15 +41,16 @@ use Rattle.calls.specs.Calls.{getGprOf}
 use Rattle.entry.specs.declared.HostCall.{HostCall}
 use Rattle.entry.specs.declared.HostCall.the-variants as hostCall
 use Rattle.entry.specs.Entry.{calledOf, readOf}
-use Rattle.abi.specs.Words.{answerOf, csrsOf, fetchOf, nowhere, unpackOf, waitingBy, waitingOf}
-use Rattle.place.specs.View.{Done, Made, besideOf, exitCount, outOf, recordOf, replyWord, viewOf}
+use Rattle.abi.specs.Words.{answerOf, csrsOf, fetchOf, nowhere, unpackOf, waitingBy, waitingOf, waitingWords}
+use Rattle.place.specs.View.{Done, Made, besideOf, exitCount, outOf, recordOf, refusalWord, replyWord, trapLeaves, viewOf, waitingCount}
 use Rattle.place.specs.Deeds.{Leaves, answeredLeft, argsWords, callLeft, csrLeft, faultLeft, left, missedLeft, readWord}
 use Rattle.place.specs.Laws.{On, answered-made, call-made, csr-made, csrs-words, fault-made, made-by, missed-made, over, read-shows, same}
 use Rattle.place.specs.Spelled.{spelled}
 
 -- words that show an outcome, left by a function
-pub done-by : {outcome : Outcome} {r s : List ℕ} {w n : ℕ} → Done outcome r w → (s ≡ r) × (n ≡ w) → Done outcome s n
-done-by d e = record { shows = ap viewOf (e .0) ∙ d .shows; says = e .1 ∙ d .says }
+pub done-by : {leaves : Outcome → List ℕ} {outcome : Outcome} {r s : List ℕ} {w n : ℕ} → Done leaves outcome r w → (s ≡ r) × (n ≡ w) → Done leaves outcome s n
+done-by d e =
+    record { shows = ap viewOf (e .0) ∙ d .shows; waits = ap (λ (k : List ℕ). drop 54 k) (e .0) ∙ d .waits; says = e .1 ∙ d .says }
 
 -- an ecall
 
@@ -97,34 +98,34 @@ mmio-made r o e at k i =
 -- the classes that are handled at once
 
 external-spelled : (k o : List ℕ) (v : ℕ) → let r : List ℕ = spelled 58 0 k in On r o (externalOf (viewOf r .csrs) v) (left (set r 54 0) (set o 0 v) 1)
-unfolding viewOf recordOf unpackOf csrsOf waitingOf waitingBy applied externalOf finishedOf noArgs stored counted bumped eventNumber listed replyWord outOf exitCount besideOf exitNumber exitValues
-external-spelled k o v = record { shows = refl; says = refl; gives = refl }
+unfolding viewOf recordOf unpackOf csrsOf waitingOf waitingBy applied externalOf finishedOf noArgs stored counted bumped eventNumber listed replyWord outOf exitCount besideOf exitNumber exitValues trapLeaves refusalWord waitingCount waitingWords
+external-spelled k o v = record { shows = refl; waits = refl; says = refl; gives = refl }
 
 pub external-made : (r o : List ℕ) → length r ≡ 58 → (v : ℕ) → On r o (externalOf (viewOf r .csrs) v) (left (set r 54 0) (set o 0 v) 1)
 external-made r o e v = over (λ r. On r o (externalOf (viewOf r .csrs) v) (left (set r 54 0) (set o 0 v) 1)) (λ k. external-spelled k o v) r e
 
 known-spelled : (k o : List ℕ) → let r : List ℕ = spelled 58 0 k in On r o (otherOf (viewOf r .csrs) true) (left (set r 54 0) o 0x103)
-unfolding viewOf recordOf unpackOf csrsOf waitingOf waitingBy applied otherOf failedOf noArgs stored counted bumped eventNumber listed replyWord outOf errorNumber
-known-spelled k o = record { shows = refl; says = refl; gives = refl }
+unfolding viewOf recordOf unpackOf csrsOf waitingOf waitingBy applied otherOf failedOf noArgs stored counted bumped eventNumber listed replyWord outOf errorNumber trapLeaves refusalWord waitingCount waitingWords
+known-spelled k o = record { shows = refl; waits = refl; says = refl; gives = refl }
 
 pub known-made : (r o : List ℕ) → length r ≡ 58 → On r o (otherOf (viewOf r .csrs) true) (left (set r 54 0) o 0x103)
 known-made r o e = over (λ r. On r o (otherOf (viewOf r .csrs) true) (left (set r 54 0) o 0x103)) (λ k. known-spelled k o) r e
 
 unknown-spelled : (k o : List ℕ) → let r : List ℕ = spelled 58 0 k in On r o (otherOf (viewOf r .csrs) false) (left (set r 54 0) o 0x104)
-unfolding viewOf recordOf unpackOf csrsOf waitingOf waitingBy applied otherOf failedOf noArgs stored counted bumped eventNumber listed replyWord outOf errorNumber
-unknown-spelled k o = record { shows = refl; says = refl; gives = refl }
+unfolding viewOf recordOf unpackOf csrsOf waitingOf waitingBy applied otherOf failedOf noArgs stored counted bumped eventNumber listed replyWord outOf errorNumber trapLeaves refusalWord waitingCount waitingWords
+unknown-spelled k o = record { shows = refl; waits = refl; says = refl; gives = refl }
 
 pub unknown-made : (r o : List ℕ) → length r ≡ 58 → On r o (otherOf (viewOf r .csrs) false) (left (set r 54 0) o 0x104)
 unknown-made r o e = over (λ r. On r o (otherOf (viewOf r .csrs) false) (left (set r 54 0) o 0x104)) (λ k. unknown-spelled k o) r e
 
 -- a refusal leaves every word
-pub refused-made : (r o : List ℕ) (w : Waiting) → w ≡ viewOf r .waiting → Made o (applied (viewOf r) (refusedOf (viewOf r .csrs) w error.WrongAnswer)) r o 0x107
-unfolding applied refusedOf noArgs stored counted bumped eventNumber listed replyWord outOf errorNumber
-refused-made r o w e = record { shows = same refl refl refl (sym e); says = refl; gives = refl }
+pub refused-made : (r o : List ℕ) (w : Waiting) → w ≡ viewOf r .waiting → Made (trapLeaves r) o (applied (viewOf r) (refusedOf (viewOf r .csrs) w error.WrongAnswer)) r o 0x107
+unfolding applied refusedOf noArgs stored counted bumped eventNumber listed replyWord outOf errorNumber trapLeaves refusalWord
+refused-made r o w e = record { shows = same refl refl refl (sym e); waits = refl; says = refl; gives = refl }
 
-pub busy-made : (r o : List ℕ) → Made o (applied (viewOf r) (refusedOf (viewOf r .csrs) (viewOf r .waiting) error.BadState)) r o 0x102
-unfolding applied refusedOf noArgs stored counted bumped eventNumber listed replyWord outOf errorNumber
-busy-made r o = record { shows = refl; says = refl; gives = refl }
+pub busy-made : (r o : List ℕ) → Made (trapLeaves r) o (applied (viewOf r) (refusedOf (viewOf r .csrs) (viewOf r .waiting) error.BadState)) r o 0x102
+unfolding applied refusedOf noArgs stored counted bumped eventNumber listed replyWord outOf errorNumber trapLeaves refusalWord
+busy-made r o = record { shows = refl; waits = refl; says = refl; gives = refl }
 
 -- a fetch's answer that is no word
 
@@ -144,9 +145,9 @@ missed-fetch x c w a b e = rw e (missed-by x c w a (eqb b 1) (eqb b 2) (eqb b 3)
 
 -- an answer of a number that is no ask's: the read of a register that isn't there
 
-pub nowhere-made : (r o : List ℕ) → Made o (calledOf (viewOf r) nowhere) r o 0x101
-unfolding calledOf readOf getGprOf replyWord outOf errorNumber
-nowhere-made r o = record { shows = refl; says = refl; gives = refl }
+pub nowhere-made : (r o : List ℕ) → Made (trapLeaves r) o (calledOf (viewOf r) nowhere) r o 0x101
+unfolding calledOf readOf getGprOf replyWord outOf errorNumber trapLeaves refusalWord
+nowhere-made r o = record { shows = refl; waits = refl; says = refl; gives = refl }
 
 above : (ask k : ℕ) → 9 < ask → k ≤ 9 → eqb ask k ≡ false
 above ask k h l = ne-eqb ask k (λ e. omega arith)
@@ -209,7 +210,7 @@ known-ask ask a b h l =
     known-by ask a b h l (eqb ask 1) (eqb ask 2) (eqb ask 3) (eqb ask 4) (eqb ask 5) (eqb ask 6) (eqb ask 7) (eqb ask 8) (eqb ask 9) refl refl refl refl refl refl refl refl refl
 
 -- of another ask's kind, or to no ask
-pub wrong-made : (r o : List ℕ) (ask a b : ℕ) → 0 < ask → ask ≤ 9 → eqb (waitingAsk (viewOf r .waiting)) ask ≡ false → Made o (calledOf (viewOf r) (answerOf ask a b)) r o 0x107
+pub wrong-made : (r o : List ℕ) (ask a b : ℕ) → 0 < ask → ask ≤ 9 → eqb (waitingAsk (viewOf r .waiting)) ask ≡ false → Made (trapLeaves r) o (calledOf (viewOf r) (answerOf ask a b)) r o 0x107
 unfolding calledOf calls.answerOf answerEffect matchedOf
 wrong-made r o ask a b h l e =
     let k : Known ask a b = known-ask ask a b h l in
@@ -246,36 +247,36 @@ plain-called v ask a b e h = plain-by (v .x) (v .counts) (v .csrs) (v .waiting) 
 -- the same, as the functions come by it
 
 pub fetch-made : (r o s p : List ℕ) (w : Waiting) (waits ask a b c : ℕ) → w ≡ viewOf r .waiting → waits ≡ waitingAsk w → waits ≡ ask → ask ≡ 1
-    → Made o (applied (viewOf r) (fetchedOf (viewOf r .x) (viewOf r .csrs) w (fetchOf a b))) s p c → Made o (calledOf (viewOf r) (answerOf ask a b)) s p c
+    → Made (trapLeaves r) o (applied (viewOf r) (fetchedOf (viewOf r .x) (viewOf r .csrs) w (fetchOf a b))) s p c → Made (trapLeaves r) o (calledOf (viewOf r) (answerOf ask a b)) s p c
 fetch-made r o s p w waits ask a b c e f g h m =
-    subst (λ (n : ℕ). Made o (calledOf (viewOf r) (answerOf n a b)) s p c) (sym h)
-    (subst (λ (q : Outcome). Made o q s p c) (fetch-called (viewOf r) a b (ap waitingAsk (sym e) ∙ sym f ∙ g ∙ h))
-    (subst (λ (n : Waiting). Made o (applied (viewOf r) (fetchedOf (viewOf r .x) (viewOf r .csrs) n (fetchOf a b))) s p c) e m))
+    subst (λ (n : ℕ). Made (trapLeaves r) o (calledOf (viewOf r) (answerOf n a b)) s p c) (sym h)
+    (subst (λ (q : Outcome). Made (trapLeaves r) o q s p c) (fetch-called (viewOf r) a b (ap waitingAsk (sym e) ∙ sym f ∙ g ∙ h))
+    (subst (λ (n : Waiting). Made (trapLeaves r) o (applied (viewOf r) (fetchedOf (viewOf r .x) (viewOf r .csrs) n (fetchOf a b))) s p c) e m))
 
 pub plain-made : (r o s p : List ℕ) (w : Waiting) (waits ask a b c : ℕ) → length r ≡ 58 → w ≡ viewOf r .waiting → waits ≡ waitingAsk w → waits ≡ ask → 1 < ask
-    → Leaves (answeredLeft r o (answeredOf w a b)) s p c → Made o (calledOf (viewOf r) (answerOf ask a b)) s p c
+    → Leaves (answeredLeft r o (answeredOf w a b)) s p c → Made (trapLeaves r) o (calledOf (viewOf r) (answerOf ask a b)) s p c
 plain-made r o s p w waits ask a b c n e f g h l =
-    subst (λ (q : Outcome). Made o q s p c) (plain-called (viewOf r) ask a b (ap waitingAsk (sym e) ∙ sym f ∙ g) h)
+    subst (λ (q : Outcome). Made (trapLeaves r) o q s p c) (plain-called (viewOf r) ask a b (ap waitingAsk (sym e) ∙ sym f ∙ g) h)
     (made-by (answered-made r o n (answeredOf (viewOf r .waiting) a b)) (subst (λ (k : Waiting). Leaves (answeredLeft r o (answeredOf k a b)) s p c) e l))
 
 pub mismatch-made : (r o : List ℕ) (w : Waiting) (waits ask a b : ℕ) → w ≡ viewOf r .waiting → waits ≡ waitingAsk w → eqb waits ask ≡ false → 0 < ask → ask ≤ 9
-    → Made o (calledOf (viewOf r) (answerOf ask a b)) r o 0x107
+    → Made (trapLeaves r) o (calledOf (viewOf r) (answerOf ask a b)) r o 0x107
 mismatch-made r o w waits ask a b e f g h l =
     wrong-made r o ask a b h l (ap (λ (n : ℕ). eqb n ask) (ap waitingAsk (sym e) ∙ sym f) ∙ g)
 
-pub beyond-made : (r o : List ℕ) (ask a b : ℕ) → 9 < ask → Made o (calledOf (viewOf r) (answerOf ask a b)) r o 0x101
+pub beyond-made : (r o : List ℕ) (ask a b : ℕ) → 9 < ask → Made (trapLeaves r) o (calledOf (viewOf r) (answerOf ask a b)) r o 0x101
 beyond-made r o ask a b h = rw (no-ask ask a b h) (nowhere-made r o)
 
-pub zero-made : (r o : List ℕ) (a b : ℕ) → Made o (calledOf (viewOf r) (answerOf 0 a b)) r o 0x101
+pub zero-made : (r o : List ℕ) (a b : ℕ) → Made (trapLeaves r) o (calledOf (viewOf r) (answerOf 0 a b)) r o 0x101
 zero-made r o a b = rw (ask-zero a b) (nowhere-made r o)
 
 pub missed-answer : (r o s p : List ℕ) (w : Waiting) (a b c : ℕ) → length r ≡ 58 → eqb b 0 ≡ false
-    → Leaves (missedLeft r o (missedOf (fetchOf a b))) s p c → Made o (applied (viewOf r) (fetchedOf (viewOf r .x) (viewOf r .csrs) w (fetchOf a b))) s p c
+    → Leaves (missedLeft r o (missedOf (fetchOf a b))) s p c → Made (trapLeaves r) o (applied (viewOf r) (fetchedOf (viewOf r .x) (viewOf r .csrs) w (fetchOf a b))) s p c
 missed-answer r o s p w a b c n e l =
-    subst (λ (q : Effect). Made o (applied (viewOf r) q) s p c) (missed-fetch (viewOf r .x) (viewOf r .csrs) w a b e)
+    subst (λ (q : Effect). Made (trapLeaves r) o (applied (viewOf r) q) s p c) (missed-fetch (viewOf r .x) (viewOf r .csrs) w a b e)
     (made-by (missed-made r o n (missedOf (fetchOf a b))) l)
 
 pub word-answer : (r o s p : List ℕ) (w : Waiting) (a b c : ℕ) → b ≡ 0
-    → Made o (applied (viewOf r) (resumedOf (viewOf r .x) (viewOf r .csrs) w (a % 2 ^ 32))) s p c → Made o (applied (viewOf r) (fetchedOf (viewOf r .x) (viewOf r .csrs) w (fetchOf a b))) s p c
+    → Made (trapLeaves r) o (applied (viewOf r) (resumedOf (viewOf r .x) (viewOf r .csrs) w (a % 2 ^ 32))) s p c → Made (trapLeaves r) o (applied (viewOf r) (fetchedOf (viewOf r .x) (viewOf r .csrs) w (fetchOf a b))) s p c
 unfolding fetchedOf fetchOf
 word-answer r o s p w a b c e m = rw e m

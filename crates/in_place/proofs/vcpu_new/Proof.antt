@@ -8,7 +8,7 @@ new-requires : tie.Need-new-requires
 new-requires c κs = search needs
 
 returns : tie.Need-returns
-returns c = (c .new .ensures, refl)
+returns c = (c .new .ensures .0, c .new .ensures .1, refl)
 
 pub vcpu-new-spec : {M : Type 1} → statement M
 vcpu-new-spec = tie.close (tie.spec new-requires returns)
