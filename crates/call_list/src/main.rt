@@ -56,29 +56,29 @@ fn made(r: &mut [u64; 58], out: &mut [u64; 8], c: [u64; 8]) -> u64 {
     let kind = c[0];
     match kind {
         0 => written(r, c[1], c[2]),
-        1 => in_place::vcpu_setup(r),
-        2 => in_place::vcpu_set_entry(r, c[1]),
-        3 => in_place::vcpu_get_gpr(r, c[1], out),
-        4 => in_place::vcpu_set_gpr(r, c[1], c[2]),
-        5 => in_place::vcpu_set_return_value(r, c[1]),
-        6 => in_place::vcpu_set_nested_page_table(r, c[1], c[2], c[3]),
-        7 => in_place::vcpu_set_pending(r, c[1], c[2]),
-        8 => in_place::vcpu_latch_hvip(r, c[1]),
-        9 => in_place::vcpu_complete_ipi(r, c[1], c[2]),
+        1 => in_place_setup::vcpu_setup(r),
+        2 => in_place_setup::vcpu_set_entry(r, c[1]),
+        3 => in_place_gprs::vcpu_get_gpr(r, c[1], out),
+        4 => in_place_gprs::vcpu_set_gpr(r, c[1], c[2]),
+        5 => in_place_gprs::vcpu_set_return_value(r, c[1]),
+        6 => in_place_setup::vcpu_set_nested_page_table(r, c[1], c[2], c[3]),
+        7 => in_place_interrupts::vcpu_set_pending(r, c[1], c[2]),
+        8 => in_place_interrupts::vcpu_latch_hvip(r, c[1]),
+        9 => in_place_interrupts::vcpu_complete_ipi(r, c[1], c[2]),
         10 => {
             let t = [c[1], c[2], c[3], c[4], c[5]];
-            in_place::vcpu_start(r, &t, out)
+            in_place_trap::vcpu_start(r, &t, out)
         }
         11 => {
             let a = [c[1], c[2], c[3]];
-            in_place::vcpu_answer(r, &a, out)
+            in_place_trap::vcpu_answer(r, &a, out)
         }
-        12 => in_place::vcpu_complete_load(r, c[1]),
+        12 => in_place_trap::vcpu_complete_load(r, c[1]),
         13 => {
-            out[0] = in_place::vcpu_to_print(r);
+            out[0] = in_place_trap::vcpu_to_print(r);
             0x41
         }
-        14 => in_place::vcpu_new(r, c[1], c[2]),
+        14 => in_place_setup::vcpu_new(r, c[1], c[2]),
         _ => 0x101,
     }
 }
@@ -93,7 +93,7 @@ fn written(r: &mut [u64; 58], i: u64, n: u64) -> u64 {
 
 // The sum of what was given and of the record. What waits goes in by its meaning.
 fn sum(r: &[u64; 58], out: &[u64; 8]) -> u64 {
-    let w = abi::waiting_words(abi::waiting_of([r[54], r[55], r[56], r[57]]));
+    let w = words::waiting_words(words::waiting_of([r[54], r[55], r[56], r[57]]));
     all(kept(all(0, out), r), &w)
 }
 

@@ -17,8 +17,8 @@ use Rattle.registers.specs.Bits.{spvpOf, withBits}
 use Rattle.regs.specs.declared.Csrs.{Csrs}
 use Rattle.regs.specs.declared.Event.{Event}
 use Rattle.regs.specs.Record.{eventNumber}
-use Rattle.ecall.specs.declared.Call.{Call}
-use Rattle.ecall.specs.declared.Call.the-variants as call
+use Rattle.sbi.specs.declared.Call.{Call}
+use Rattle.sbi.specs.declared.Call.the-variants as call
 use Rattle.fetch.specs.Faults.{injectedOf}
 use Rattle.fetch.specs.declared.Missed.{Missed}
 use Rattle.fetch.specs.declared.Missed.the-variants as missed

@@ -1,12 +1,13 @@
 -- The lent record as 58 words, and what words are left when a call is done on it in place. The record that words stand
 -- for is the one that crate abi reads off its four arrays, which lie in this order.
 use Prim.Native.Nat.{ℕ, _+_}
+use mathlib.Core.Bool.{Bool}
 use mathlib.Core.List.{List, []}
 use mathlib.Core.Path.{_≡_}
 use lib.ListN.{drop, set, take}
 use lib.Dec.{eqb}
 use lib.Seq.{sets}
-use Rattle.types.specs.Pick.{pick}
+use Rattle.types.specs.Pick.{or, pick}
 use Rattle.types.specs.Numbers.{askNumber, errorNumber, exitNumber}
 use Rattle.types.specs.Values.{askValues, exitValues}
 use Rattle.types.specs.declared.Ask.{Ask}
@@ -17,8 +18,10 @@ use Rattle.types.specs.declared.Reply.{Reply}
 use Rattle.types.specs.declared.Reply.the-variants as reply
 use Rattle.regs.specs.declared.Outcome.{Outcome}
 use Rattle.regs.specs.declared.Vcpu.{Vcpu}
-use Rattle.abi.specs.declared.Record.{Record}
-use Rattle.abi.specs.Words.{unpackOf}
+use Rattle.regs.specs.declared.Waiting.{Waiting}
+use Rattle.regs.specs.declared.Waiting.the-variants as waiting
+use Rattle.words.specs.declared.Record.{Record}
+use Rattle.words.specs.Words.{unpackOf, waitingWords}
 
 -- x0 to x31, 13 CSRs, nine counts, the waiting part's kind and three numbers
 unfoldable pub recordOf : List ℕ → Record
@@ -75,14 +78,48 @@ outOf out reply.Done args = out
 outOf out (reply.Value n) args = set out 0 n
 outOf out (reply.Error e) args = out
 
--- the promise of a call done in place: the words r that it leaves show the outcome's record, the word that it returns is
--- the reply's, and of out, which held o, exactly the reply's words are set
-pub record Made (o : List ℕ) (outcome : Outcome) (r out : List ℕ) (word : ℕ) : Type 0 where
+-- refusals 1, 2 and 7, by the word returned
+unfoldable pub refusalWord : ℕ → Bool
+refusalWord w = or (eqb w 0x101) (or (eqb w 0x102) (eqb w 0x107))
+
+-- how many of the four waiting words a kind has a use for: its own, and the numbers that it carries
+unfoldable pub waitingCount : Waiting → ℕ
+waitingCount waiting.Idle = 1
+waitingCount (waiting.Load r w s) = 4
+waitingCount waiting.FetchCsr = 1
+waitingCount (waiting.FetchFault a k) = 3
+waitingCount waiting.CopyMask = 1
+waitingCount (waiting.CopyIn n) = 2
+waitingCount (waiting.Print n) = 2
+waitingCount (waiting.ReadConsole n a) = 3
+waitingCount (waiting.CopyOut n) = 2
+waitingCount waiting.PutChar = 1
+waitingCount waiting.PutByte = 1
+waitingCount waiting.GetChar = 1
+waitingCount waiting.Forward = 1
+
+-- the waiting words that a trap, an answer or a load's completion leaves: a refusal leaves them as they were; else those
+-- that the kind has a use for are written, and the others stay
+unfoldable pub trapLeaves : List ℕ → Outcome → List ℕ
+trapLeaves entry outcome =
+    pick (refusalWord (replyWord (outcome .reply))) (drop 54 entry)
+    (sets (drop 54 entry) 0 (take (waitingCount (outcome .vcpu .waiting)) (waitingWords (outcome .vcpu .waiting))))
+
+-- the waiting words that a host's own call leaves: as they were, whatever they hold
+unfoldable pub hostLeaves : List ℕ → Outcome → List ℕ
+hostLeaves entry outcome = drop 54 entry
+
+-- the promise of a call done in place: the words r that it leaves show the outcome's record, its waiting words are those
+-- that the rule leaves, the word that it returns is the reply's, and of out, which held o, exactly the reply's words are
+-- set. So all 58 words are told: Told.antt
+pub record Made (leaves : Outcome → List ℕ) (o : List ℕ) (outcome : Outcome) (r out : List ℕ) (word : ℕ) : Type 0 where
   pub shows : viewOf r ≡ outcome .vcpu
+  pub waits : drop 54 r ≡ leaves outcome
   pub says : word ≡ replyWord (outcome .reply)
   pub gives : out ≡ outOf o (outcome .reply) (outcome .args)
 
 -- the same of a call whose reply carries nothing
-pub record Done (outcome : Outcome) (r : List ℕ) (word : ℕ) : Type 0 where
+pub record Done (leaves : Outcome → List ℕ) (outcome : Outcome) (r : List ℕ) (word : ℕ) : Type 0 where
   pub shows : viewOf r ≡ outcome .vcpu
+  pub waits : drop 54 r ≡ leaves outcome
   pub says : word ≡ replyWord (outcome .reply)

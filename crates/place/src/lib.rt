@@ -77,7 +77,7 @@ pub fn waiting(r: &[u64; 58]) -> Waiting
     ensures { λ w. ⌜ w ≡ viewOf (now (r .entry)) .waiting ⌝ }
 {
     sized(r);
-    abi::waiting_by(r[KIND], r[FIRST], r[SECOND], r[THIRD])
+    words::waiting_by(r[KIND], r[FIRST], r[SECOND], r[THIRD])
 }
 
 // A general register; x0 reads 0.
@@ -239,7 +239,7 @@ pub fn ask_fetch(r: &[u64; 58], out: &mut [u64; 8])
     ensures { λ _. ⌜ now (out .exit) ≡ fetchOut (now (r .entry)) (now (out .entry)) ⌝ }
 {
     out[0] = r[SEPC];
-    out[1] = abi::flag(registers::spvp(r[HSTATUS]));
+    out[1] = words::flag(registers::spvp(r[HSTATUS]));
 }
 
 pub fn csrs(r: &[u64; 58]) -> Csrs

@@ -7,8 +7,8 @@ use lib.Seq.{drop-at, drop-drop, take-at}
 use Rattle.regs.specs.declared.Vcpu.{Vcpu}
 use Rattle.regs.specs.declared.Waiting.{Waiting}
 use Rattle.regs.specs.declared.Waiting.the-variants as waiting
-use Rattle.abi.specs.Words.{csrsOf, csrsWords, unpackOf, waitingOf, waitingWords}
-use Rattle.abi.specs.Laws.{csrs-back, waiting-back}
+use Rattle.words.specs.Words.{csrsOf, csrsWords, unpackOf, waitingOf, waitingWords}
+use Rattle.words.specs.Laws.{csrs-back, waiting-back}
 use Rattle.place.specs.View.{recordOf, viewOf}
 use Rattle.place.specs.Laws.{same}
 

@@ -4,9 +4,9 @@ use native.Mathlib.Omega.{arith}
 use mathlib.Core.Bool.{Bool, true, false}
 use mathlib.Core.List.{List, [], _∷_}
 use mathlib.Core.Path.{_≡_, refl, ap, ap₂, sym, subst, _∙_}
-use lib.ListN.{getD, take}
+use lib.ListN.{drop, getD, length, take}
 use lib.Seq.{sets}
-use Rattle.types.specs.Pick.{wrapped}
+use Rattle.types.specs.Pick.{pick, wrapped}
 use Rattle.types.specs.Numbers.{askNumber, errorNumber, exitNumber}
 use Rattle.types.specs.Values.{askValues, exitValues}
 use Rattle.types.specs.declared.Ask.{Ask}
@@ -20,8 +20,8 @@ use Rattle.types.specs.declared.Reply.the-variants as reply
 use Rattle.regs.specs.declared.Outcome.{Outcome}
 use Rattle.regs.specs.declared.Vcpu.{Vcpu}
 use Rattle.thin.specs.declared.Given.{Given}
-use Rattle.entry.specs.declared.HostCall.{HostCall}
-use Rattle.entry.specs.Entry.{calledOf}
+use Rattle.calls.specs.declared.HostCall.{HostCall}
+use Rattle.calls.specs.Entry.{calledOf}
 use Rattle.thin.specs.Thin.{restOf}
 use Rattle.reading.specs.Alike.{Alike}
 use Rattle.reading.specs.Runs.{Untouched, written}
@@ -31,8 +31,9 @@ use Rattle.total.specs.Demand1.{Pending, ask-waits, refusal-keeps-the-record, r
 use Rattle.bridge.specs.Entries as entries
 use Rattle.bridge.specs.Entries.{Entries, callsFor}
 use Rattle.bridge.specs.Demands.{EntryThird, called-honest, entry-counts, entry-third}
-use Rattle.place.specs.View.{Done, Made, askCount, besideOf, exitCount, outOf, replyWord, viewOf}
-use Rattle.place_bridge.specs.Places.{Places, Shown, lent, next, none, refusalWord, tellsOf}
+use Rattle.place.specs.View.{Done, Made, askCount, besideOf, exitCount, hostLeaves, outOf, refusalWord, replyWord, trapLeaves, viewOf}
+use Rattle.place.specs.Told.{all-there, host-four, told as words-told}
+use Rattle.place_bridge.specs.Places.{Places, Shown, lent, next, none, tellsOf}
 
 -- a call that takes no words for its reply is one that takes an empty list of them
 
@@ -48,8 +49,8 @@ none-out reply.Done args = refl
 none-out (reply.Value n) args = refl
 none-out (reply.Error e) args = refl
 
-pub done-made : (o : Outcome) (r : List ℕ) (w : ℕ) → Done o r w → Made [] o r [] w
-done-made o r w d = record { shows = d .shows; says = d .says; gives = sym (none-out (o .reply) (o .args)) }
+pub done-made : (leaves : Outcome → List ℕ) (o : Outcome) (r : List ℕ) (w : ℕ) → Done leaves o r w → Made leaves [] o r [] w
+done-made leaves o r w d = record { shows = d .shows; waits = d .waits; says = d .says; gives = sym (none-out (o .reply) (o .args)) }
 
 -- the thin entry, called the same, leaves the record that the words show, and gives what they tell
 
@@ -67,7 +68,7 @@ unfolding gives tellsOf lent
 told none = refl
 told (next {o = o} m p) = ap₂ _∷_ (λ i. record { before = o; after = m .gives i; word = m .says i }) (told p)
 
--- demand 1: a refusal leaves the record as it was, and the reply's words too
+-- demand 1: a refusal leaves all 58 words as they were, and the reply's words too
 
 refusal-word : (p : Reply) → refusalWord (replyWord p) ≡ refuses p
 unfolding refusalWord replyWord refuses exitNumber askNumber errorNumber
@@ -112,16 +113,36 @@ refused-out o reply.Done args h = refl
 refused-out o (reply.Value n) args h = never h
 refused-out o (reply.Error e) args h = refl
 
-pub place-refusal-keeps-the-record : (r o s p : List ℕ) (c : HostCall) (w : ℕ) → Made o (calledOf (viewOf r) c) s p w → refusalWord w ≡ true → (viewOf s ≡ viewOf r) × (p ≡ o)
-place-refusal-keeps-the-record r o s p c w m h =
-    let q : refuses (calledOf (viewOf r) c .reply) ≡ true = sym (refusal-word (calledOf (viewOf r) c .reply)) ∙ ap refusalWord (sym (m .says)) ∙ h in (
-      m .shows ∙ refusal-keeps-the-record (viewOf r) (calledOf (viewOf r) c) (called-honest (viewOf r) c) q,
+refusal-by : (leaves : Outcome → List ℕ) (r o s p : List ℕ) (c : HostCall) (w : ℕ) → length r ≡ 58
+    → (refusalWord (replyWord (calledOf (viewOf r) c .reply)) ≡ true → leaves (calledOf (viewOf r) c) ≡ drop 54 r)
+    → Made leaves o (calledOf (viewOf r) c) s p w → refusalWord w ≡ true → (s ≡ r) × (p ≡ o)
+unfolding hostLeaves
+refusal-by leaves r o s p c w e k m h =
+    let g : refusalWord (replyWord (calledOf (viewOf r) c .reply)) ≡ true = ap refusalWord (sym (m .says)) ∙ h in
+    let q : refuses (calledOf (viewOf r) c .reply) ≡ true = sym (refusal-word (calledOf (viewOf r) c .reply)) ∙ g in
+    let t : drop 54 s ≡ drop 54 r = m .waits ∙ k g in (
+      words-told s r (all-there s (drop 54 r) (host-four r (calledOf (viewOf r) c) e) t) e
+          (m .shows ∙ refusal-keeps-the-record (viewOf r) (calledOf (viewOf r) c) (called-honest (viewOf r) c) q) t,
       m .gives ∙ refused-out o (calledOf (viewOf r) c .reply) (calledOf (viewOf r) c .args) q,
     )
 
+picked : (b : Bool) (l m : List ℕ) → b ≡ true → pick b l m ≡ l
+picked b l m e = rw e refl
+
+-- of a start, an answer and a load's completion
+pub place-refusal-keeps-the-record : (r o s p : List ℕ) (c : HostCall) (w : ℕ) → length r ≡ 58 → Made (trapLeaves r) o (calledOf (viewOf r) c) s p w → refusalWord w ≡ true → (s ≡ r) × (p ≡ o)
+unfolding trapLeaves
+place-refusal-keeps-the-record r o s p c w e m h =
+    refusal-by (trapLeaves r) r o s p c w e (λ g. picked (refusalWord (replyWord (calledOf (viewOf r) c .reply))) _ _ g) m h
+
+-- of a host's own call
+pub host-refusal-keeps-the-record : (r o s p : List ℕ) (c : HostCall) (w : ℕ) → length r ≡ 58 → Made (hostLeaves r) o (calledOf (viewOf r) c) s p w → refusalWord w ≡ true → (s ≡ r) × (p ≡ o)
+unfolding hostLeaves
+host-refusal-keeps-the-record r o s p c w e m h = refusal-by (hostLeaves r) r o s p c w e (λ g. refl) m h
+
 -- demand 1: an ask leaves exactly that ask waiting
-pub place-ask-waits : (r o s p : List ℕ) (c : HostCall) (w : ℕ) → Made o (calledOf (viewOf r) c) s p w → (a : Ask) → calledOf (viewOf r) c .reply ≡ reply.Ask a → Pending (viewOf r) a (viewOf s)
-place-ask-waits r o s p c w m a e =
+pub place-ask-waits : (leaves : Outcome → List ℕ) (r o s p : List ℕ) (c : HostCall) (w : ℕ) → Made leaves o (calledOf (viewOf r) c) s p w → (a : Ask) → calledOf (viewOf r) c .reply ≡ reply.Ask a → Pending (viewOf r) a (viewOf s)
+place-ask-waits leaves r o s p c w m a e =
     subst (λ (v : Vcpu). Pending (viewOf r) a v) (sym (m .shows)) (ask-waits (viewOf r) (calledOf (viewOf r) c) (called-honest (viewOf r) c) a e)
 
 -- demand 3: two records of words that are alike except in register k, and the same calls and reply words on both, none of

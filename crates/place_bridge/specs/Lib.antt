@@ -1,3 +1,4 @@
+pub mod One
 pub mod Back
 pub mod Places
 pub mod Demands

@@ -1,13 +1,10 @@
 -- Sequences of calls on one record of 58 words, by the promise alone.
 use Prim.Native.Nat.{ℕ}
-use mathlib.Core.Bool.{Bool}
 use mathlib.Core.List.{List, [], _∷_}
-use mathlib.Core.Path.{_≡_}
-use lib.Dec.{eqb}
-use Rattle.types.specs.Pick.{or}
+use Rattle.regs.specs.declared.Outcome.{Outcome}
 use Rattle.thin.specs.declared.Given.{Given}
-use Rattle.entry.specs.declared.HostCall.{HostCall}
-use Rattle.entry.specs.Entry.{calledOf}
+use Rattle.calls.specs.declared.HostCall.{HostCall}
+use Rattle.calls.specs.Entry.{calledOf}
 use Rattle.place.specs.View.{Made, outOf, replyWord, viewOf}
 
 -- what one call shows: the reply's words before and after it, and the word returned
@@ -16,11 +13,12 @@ pub record Shown : Type 0 where
   pub after : List ℕ
   pub word : ℕ
 
--- the words r after these calls are u, and these were shown: each step meets the promise. (A call that takes no words for
+-- the words r after these calls are u, and these were shown: each step meets the promise,
+-- whatever its rule for the waiting words. (A call that takes no words for
 -- its reply is one with none: done-made, Demands.antt.)
 pub data Places : List ℕ → List HostCall → List Shown → List ℕ → Type 0 where
   none : {r : List ℕ} → Places r [] [] r
-  next : {r s u o p : List ℕ} {w : ℕ} {c : HostCall} {cs : List HostCall} {ws : List Shown} → Made o (calledOf (viewOf r) c) s p w → Places s cs ws u
+  next : {leaves : Outcome → List ℕ} {r s u o p : List ℕ} {w : ℕ} {c : HostCall} {cs : List HostCall} {ws : List Shown} → Made leaves o (calledOf (viewOf r) c) s p w → Places s cs ws u
       → Places r (c ∷ cs) (record { before = o; after = p; word = w } ∷ ws) u
 
 -- the words that the host lent for the replies
@@ -33,7 +31,3 @@ unfoldable pub tellsOf : List (List ℕ) → List Given → List Shown
 tellsOf [] gs = []
 tellsOf (o ∷ os) [] = []
 tellsOf (o ∷ os) (g ∷ gs) = record { before = o; after = outOf o (g .reply) (g .args); word = replyWord (g .reply) } ∷ tellsOf os gs
-
--- refusals 1, 2 and 7, by the word returned
-unfoldable pub refusalWord : ℕ → Bool
-refusalWord w = or (eqb w 0x101) (or (eqb w 0x102) (eqb w 0x107))

@@ -1,6 +1,6 @@
 // An SBI call, done on the lent words once it is decided.
 ghost use Rattle.place.specs.Deeds.{Leaves, callLeft};
-use ecall::Call;
+use sbi::Call;
 
 // Does an SBI call.
 pub fn do_call(r: &mut [u64; 58], out: &mut [u64; 8], d: Call) -> u64
@@ -48,7 +48,7 @@ pub fn do_call(r: &mut [u64; 58], out: &mut [u64; 8], d: Call) -> u64
             let abi = request.abi;
             out[0] = request.mask;
             out[1] = request.base;
-            out[2] = numbers::abi_number(abi);
+            out[2] = codes::abi_number(abi);
             place::step(r, 4);
             2
         }

@@ -47,7 +47,7 @@ pub fn do_fault(
             place::ask_fetch(r, out);
             r[place::KIND] = 3;
             r[place::FIRST] = at.0;
-            r[place::SECOND] = numbers::access_number(access);
+            r[place::SECOND] = codes::access_number(access);
             0x21
         }
         Fault::Walk => {
@@ -60,7 +60,7 @@ pub fn do_fault(
         }
         Fault::Nested => {
             out[0] = at.0;
-            out[1] = numbers::access_number(access);
+            out[1] = codes::access_number(access);
             r[place::KIND] = 0;
             8
         }
@@ -70,13 +70,13 @@ pub fn do_fault(
             rd,
             length,
         } => {
-            let bytes = numbers::width_bytes(width);
+            let bytes = codes::width_bytes(width);
             out[0] = at.0;
             out[1] = bytes;
             r[place::KIND] = 1;
             r[place::FIRST] = rd as u64;
             r[place::SECOND] = bytes;
-            r[place::THIRD] = abi::flag(signed);
+            r[place::THIRD] = words::flag(signed);
             place::advance(r, length);
             9
         }
@@ -86,7 +86,7 @@ pub fn do_fault(
             length,
         } => {
             out[0] = at.0;
-            out[1] = numbers::width_bytes(width);
+            out[1] = codes::width_bytes(width);
             out[2] = data;
             place::step(r, length);
             10
@@ -139,7 +139,7 @@ pub fn do_answered(r: &mut [u64; 58], out: &mut [u64; 8], d: Answered) -> u64
             let abi = request.abi;
             out[0] = request.mask;
             out[1] = request.base;
-            out[2] = numbers::abi_number(abi);
+            out[2] = codes::abi_number(abi);
             place::step(r, 4);
             2
         }

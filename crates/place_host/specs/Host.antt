@@ -11,7 +11,7 @@ use Rattle.regs.specs.declared.Event.the-variants as event
 use Rattle.regs.specs.declared.Waiting.{Waiting}
 use Rattle.regs.specs.declared.Writes.{Writes}
 use Rattle.regs.specs.declared.Writes.the-variants as writes
-use Rattle.abi.specs.Words.{csrsWords}
+use Rattle.words.specs.Words.{csrsWords}
 use Rattle.place.specs.Deeds.{putWord}
 
 -- the registers that an effect writes

@@ -3,8 +3,9 @@ use Prim.Native.Nat.{ℕ, _%_, _^_}
 use mathlib.Core.Bool.{Bool, true, false}
 use mathlib.Core.List.{List}
 use mathlib.Core.Path.{_≡_, refl, ap, sym, subst, _∙_}
-use lib.ListN.{getD, length, replicate, set}
-use lib.Seq.{sets}
+use lib.ListN.{drop, getD, length, replicate, set}
+use lib.Seq.{drop-set-lt, sets}
+use native.Mathlib.Omega.{arith}
 use lib.Dec.{eqb, ltb}
 use borrow.Author.Tests.{eqb-true}
 use Rattle.types.specs.Numbers.{errorNumber}
@@ -28,11 +29,11 @@ use Rattle.host_calls.specs.HostCalls.{pagingBy, pagingEffect, pendingBy, pendi
 use Rattle.registers.specs.Bits.{withBits}
 use Rattle.calls.specs.Calls.{getGprOf, newOf, printCount}
 use Rattle.regs.specs.Effects.{unlessAsking}
-use Rattle.abi.specs.Words.{csrsOf, csrsWords, unpackOf, waitingBy, waitingOf}
-use Rattle.entry.specs.Entry.{readOf}
-use Rattle.place.specs.View.{Done, Made, outOf, recordOf, replyWord, viewOf}
+use Rattle.words.specs.Words.{csrsOf, csrsWords, unpackOf, waitingBy, waitingOf}
+use Rattle.calls.specs.Entry.{readOf}
+use Rattle.place.specs.View.{Done, Made, hostLeaves, outOf, recordOf, replyWord, viewOf}
 use Rattle.place.specs.Deeds.{readWord}
-use Rattle.place.specs.Laws.{over, put-shows, read-shows, same, waiting-words}
+use Rattle.place.specs.Laws.{over, put-keeps, put-shows, read-shows, same, waiting-words}
 use Rattle.place.specs.Spelled.{spelled}
 use Rattle.place_host.specs.Host.{Keeps, hostWords, printedBy, writeWords}
 
@@ -68,18 +69,39 @@ write-show r e c (writes.One i n) =
     ∙ ap (λ (v : Vcpu). record { x = stored (v .x) (writes.One i n); csrs = v .csrs; counts = v .counts; waiting = v .waiting }) (csrs-show r e c)
 write-show r e c (writes.Pair a b) = pair-show r e c a b
 
+-- and the waiting words stay
+
+csrs-keep-spelled : (k : List ℕ) (c : Csrs) → let r : List ℕ = spelled 58 0 k in drop 54 (sets r 32 (csrsWords c)) ≡ drop 54 r
+unfolding csrsWords
+csrs-keep-spelled k c = refl
+
+csrs-keep : (r : List ℕ) → length r ≡ 58 → (c : Csrs) → drop 54 (sets r 32 (csrsWords c)) ≡ drop 54 r
+csrs-keep r e c = over (λ r. drop 54 (sets r 32 (csrsWords c)) ≡ drop 54 r) (λ k. csrs-keep-spelled k c) r e
+
+pair-keeps : (r : List ℕ) → length r ≡ 58 → (c : Csrs) (a b : ℕ) → drop 54 (set (set (sets r 32 (csrsWords c)) 10 a) 11 b) ≡ drop 54 r
+pair-keeps r e c a b =
+    drop-set-lt 54 (set (sets r 32 (csrsWords c)) 10 a) 11 b (omega arith) ∙ drop-set-lt 54 (sets r 32 (csrsWords c)) 10 a (omega arith)
+    ∙ csrs-keep r e c
+
+write-keep : (r : List ℕ) → length r ≡ 58 → (c : Csrs) (w : Writes) → drop 54 (writeWords (sets r 32 (csrsWords c)) w) ≡ drop 54 r
+unfolding writeWords
+write-keep r e c writes.Keep = csrs-keep r e c
+write-keep r e c (writes.One i n) = put-keeps (sets r 32 (csrsWords c)) i n ∙ csrs-keep r e c
+write-keep r e c (writes.Pair a b) = pair-keeps r e c a b
+
 quiet-counts : (k : List ℕ) → counted k event.Quiet ≡ k
 unfolding counted bumped eventNumber
 quiet-counts k = refl
 
 -- an effect that counts nothing and leaves what waits, written to the words, shows as applied
-pub host-done : (r : List ℕ) → length r ≡ 58 → (e : Effect) → Keeps e (viewOf r .waiting) → Done (applied (viewOf r) e) (hostWords r e) (replyWord (e .reply))
-unfolding hostWords applied
+pub host-done : (r : List ℕ) → length r ≡ 58 → (e : Effect) → Keeps e (viewOf r .waiting) → Done (hostLeaves r) (applied (viewOf r) e) (hostWords r e) (replyWord (e .reply))
+unfolding hostWords applied hostLeaves
 host-done r n e k =
     record {
       shows =
           write-show r n (e .csrs) (e .writes)
           ∙ same refl refl (sym (ap (λ v. counted (viewOf r .counts) v) (k .quiet) ∙ quiet-counts (viewOf r .counts))) (sym (k .waits));
+      waits = write-keep r n (e .csrs) (e .writes);
       says = refl;
     }
 
@@ -104,13 +126,13 @@ guarded-keeps ask c w e k = pick-keeps (eqb ask 0) k (refused-keeps c w error.Ba
 -- a call that is refused while an ask waits
 pub guarded-by : (r s : List ℕ) (n : ℕ) → length r ≡ 58 → (e : Effect) → Keeps e (viewOf r .waiting)
     → let g : Effect = guardedOf (waitingAsk (viewOf r .waiting)) (viewOf r .csrs) (viewOf r .waiting) e in
-    (s ≡ hostWords r g) × (n ≡ replyWord (g .reply)) → Done (unlessAsking (viewOf r) e) s n
+    (s ≡ hostWords r g) × (n ≡ replyWord (g .reply)) → Done (hostLeaves r) (unlessAsking (viewOf r) e) s n
 unfolding unlessAsking
 guarded-by r s n l e k h =
     let g : Effect = guardedOf (waitingAsk (viewOf r .waiting)) (viewOf r .csrs) (viewOf r .waiting) e in
-    let d : Done (applied (viewOf r) g) (hostWords r g) (replyWord (g .reply)) =
+    let d : Done (hostLeaves r) (applied (viewOf r) g) (hostWords r g) (replyWord (g .reply)) =
     host-done r l g (guarded-keeps (waitingAsk (viewOf r .waiting)) (viewOf r .csrs) (viewOf r .waiting) e k) in
-    record { shows = ap viewOf (h .0) ∙ d .shows; says = h .1 ∙ d .says }
+    record { shows = ap viewOf (h .0) ∙ d .shows; waits = ap (λ (k : List ℕ). drop 54 k) (h .0) ∙ d .waits; says = h .1 ∙ d .says }
 
 pub write-keeps : (c : Csrs) (w : Waiting) (i n : ℕ) → Keeps (writeEffect c w i n) w
 unfolding writeEffect
@@ -133,19 +155,19 @@ pending-keeps c w vector on =
     (pick-keeps (eqb vector supervisorTimer) (done-keeps (pended c (withBits (c .hs .hvip) vstip on)) writes.Keep w)
     (pick-keeps (supervisorExternal vector) (done-keeps (pended c (withBits (c .hs .hvip) vseip on)) writes.Keep w) (refused-keeps c w error.InvalidInput)))
 
--- zeros but for a0 and a1 show as the record that a guest starts with
-pub new-shows : (hart tree : ℕ) → viewOf (set (set (replicate 58 0) 10 hart) 11 tree) ≡ newOf hart tree
+-- zeros but for a0 and a1 show as the record that a guest starts with, and nothing stands in the waiting words
+pub new-shows : (hart tree : ℕ) → let r : List ℕ = set (set (replicate 58 0) 10 hart) 11 tree in (viewOf r ≡ newOf hart tree) × (drop 54 r ≡ replicate 4 0)
 unfolding viewOf recordOf unpackOf csrsOf waitingOf waitingBy newOf
-new-shows hart tree = refl
+new-shows hart tree = (refl, refl)
 
 -- a register read: the value in word 0
-pub get-made : (r o : List ℕ) (i : ℕ) → ltb i 32 ≡ true → Made o (readOf (viewOf r) i) r (set o 0 (readWord r i)) 0x41
-unfolding readOf getGprOf replyWord outOf
-get-made r o i e = rw e (record { shows = refl; says = refl; gives = ap (λ (n : ℕ). set o 0 n) (read-shows r i) })
+pub get-made : (r o : List ℕ) (i : ℕ) → ltb i 32 ≡ true → Made (hostLeaves r) o (readOf (viewOf r) i) r (set o 0 (readWord r i)) 0x41
+unfolding hostLeaves readOf getGprOf replyWord outOf
+get-made r o i e = rw e (record { shows = refl; waits = refl; says = refl; gives = ap (λ (n : ℕ). set o 0 n) (read-shows r i) })
 
-pub get-refused : (r o : List ℕ) (i : ℕ) → ltb i 32 ≡ false → Made o (readOf (viewOf r) i) r o 0x101
-unfolding readOf getGprOf replyWord outOf errorNumber
-get-refused r o i e = rw e (record { shows = refl; says = refl; gives = refl })
+pub get-refused : (r o : List ℕ) (i : ℕ) → ltb i 32 ≡ false → Made (hostLeaves r) o (readOf (viewOf r) i) r o 0x101
+unfolding hostLeaves readOf getGprOf replyWord outOf errorNumber
+get-refused r o i e = rw e (record { shows = refl; waits = refl; says = refl; gives = refl })
 
 -- the n of ask 4, where it waits
 

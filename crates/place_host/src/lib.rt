@@ -1,10 +1,11 @@
 // The host's own calls on the lent words: their effect is that of the by-value call, written where the record lies.
 ghost use mathlib.Core.Path.{_≡_};
 ghost use Prim.Native.Nat.{_+_};
+ghost use lib.ListN.{drop, replicate};
 ghost use Rattle.types.specs.Numbers.{askNumber, errorNumber};
 ghost use Rattle.calls.specs.Calls.{completeIpiOf, latchOf, newOf, printCount, pagingOf, pendingOf, setEntryOf, setGprOf, setReturnOf, setupOf};
-ghost use Rattle.entry.specs.Entry.{readOf};
-ghost use Rattle.place.specs.View.{Done, Made, replyWord, viewOf};
+ghost use Rattle.calls.specs.Entry.{readOf};
+ghost use Rattle.place.specs.View.{Done, Made, hostLeaves, replyWord, viewOf};
 ghost use Rattle.place_host.specs.Host.{hostWords, printedBy, writeWords};
 use regs::Effect;
 use regs::Writes;
@@ -17,7 +18,7 @@ use types::Reply;
 
 // The state that a guest starts with.
 pub fn setup(r: &mut [u64; 58]) -> u64
-    ensures { λ n. ⌜ Done (setupOf (viewOf (now (r .entry)))) (now (r .exit)) n ⌝ }
+    ensures { λ n. ⌜ Done (hostLeaves (now (r .entry))) (setupOf (viewOf (now (r .entry)))) (now (r .exit)) n ⌝ }
 {
     place::sized(r);
     let c = place::csrs(r);
@@ -28,7 +29,7 @@ pub fn setup(r: &mut [u64; 58]) -> u64
 
 // Where the guest starts.
 pub fn set_entry(r: &mut [u64; 58], entry: GuestPhysAddr) -> u64
-    ensures { λ n. ⌜ Done (setEntryOf (viewOf (now (r .entry))) entry) (now (r .exit)) n ⌝ }
+    ensures { λ n. ⌜ Done (hostLeaves (now (r .entry))) (setEntryOf (viewOf (now (r .entry))) entry) (now (r .exit)) n ⌝ }
 {
     place::sized(r);
     let c = place::csrs(r);
@@ -39,7 +40,7 @@ pub fn set_entry(r: &mut [u64; 58], entry: GuestPhysAddr) -> u64
 
 // Writes a general register; x0 stays.
 pub fn set_gpr(r: &mut [u64; 58], index: usize, value: u64) -> u64
-    ensures { λ n. ⌜ Done (setGprOf (viewOf (now (r .entry))) index value) (now (r .exit)) n ⌝ }
+    ensures { λ n. ⌜ Done (hostLeaves (now (r .entry))) (setGprOf (viewOf (now (r .entry))) index value) (now (r .exit)) n ⌝ }
 {
     place::sized(r);
     let c = place::csrs(r);
@@ -50,7 +51,7 @@ pub fn set_gpr(r: &mut [u64; 58], index: usize, value: u64) -> u64
 
 // Writes a0.
 pub fn set_return_value(r: &mut [u64; 58], value: u64) -> u64
-    ensures { λ n. ⌜ Done (setReturnOf (viewOf (now (r .entry))) value) (now (r .exit)) n ⌝ }
+    ensures { λ n. ⌜ Done (hostLeaves (now (r .entry))) (setReturnOf (viewOf (now (r .entry))) value) (now (r .exit)) n ⌝ }
 {
     place::sized(r);
     let c = place::csrs(r);
@@ -61,7 +62,7 @@ pub fn set_return_value(r: &mut [u64; 58], value: u64) -> u64
 
 // Sets the guest-stage page table.
 pub fn set_nested_page_table(r: &mut [u64; 58], levels: u64, mode: u64, root: u64) -> u64
-    ensures { λ n. ⌜ Done (pagingOf (viewOf (now (r .entry))) levels mode root) (now (r .exit)) n ⌝ }
+    ensures { λ n. ⌜ Done (hostLeaves (now (r .entry))) (pagingOf (viewOf (now (r .entry))) levels mode root) (now (r .exit)) n ⌝ }
 {
     place::sized(r);
     let c = place::csrs(r);
@@ -72,7 +73,7 @@ pub fn set_nested_page_table(r: &mut [u64; 58], levels: u64, mode: u64, root: u6
 
 // Sets or clears a pending interrupt of the guest.
 pub fn set_pending(r: &mut [u64; 58], vector: u64, level: bool) -> u64
-    ensures { λ n. ⌜ Done (pendingOf (viewOf (now (r .entry))) vector level) (now (r .exit)) n ⌝ }
+    ensures { λ n. ⌜ Done (hostLeaves (now (r .entry))) (pendingOf (viewOf (now (r .entry))) vector level) (now (r .exit)) n ⌝ }
 {
     place::sized(r);
     let c = place::csrs(r);
@@ -83,7 +84,7 @@ pub fn set_pending(r: &mut [u64; 58], vector: u64, level: bool) -> u64
 
 // Latches pending bits that the hardware raised.
 pub fn latch_hvip(r: &mut [u64; 58], bits: u64) -> u64
-    ensures { λ n. ⌜ Done (latchOf (viewOf (now (r .entry))) bits) (now (r .exit)) n ⌝ }
+    ensures { λ n. ⌜ Done (hostLeaves (now (r .entry))) (latchOf (viewOf (now (r .entry))) bits) (now (r .exit)) n ⌝ }
 {
     place::sized(r);
     let c = place::csrs(r);
@@ -94,7 +95,7 @@ pub fn latch_hvip(r: &mut [u64; 58], bits: u64) -> u64
 
 // Gives the guest the result of an IPI request.
 pub fn complete_ipi(r: &mut [u64; 58], abi: IpiAbi, completion: IpiCompletion) -> u64
-    ensures { λ n. ⌜ Done (completeIpiOf (viewOf (now (r .entry))) abi completion) (now (r .exit)) n ⌝ }
+    ensures { λ n. ⌜ Done (hostLeaves (now (r .entry))) (completeIpiOf (viewOf (now (r .entry))) abi completion) (now (r .exit)) n ⌝ }
 {
     place::sized(r);
     let c = place::csrs(r);
@@ -109,7 +110,7 @@ pub fn complete_ipi(r: &mut [u64; 58], abi: IpiAbi, completion: IpiCompletion) -
 
 // Reads a general register.
 pub fn get_gpr(r: &[u64; 58], out: &mut [u64; 8], index: usize) -> u64
-    ensures { λ n. ⌜ Made (now (out .entry)) (readOf (viewOf (now (r .entry))) index) (now (r .entry)) (now (out .exit)) n ⌝ }
+    ensures { λ n. ⌜ Made (hostLeaves (now (r .entry))) (now (out .entry)) (readOf (viewOf (now (r .entry))) index) (now (r .entry)) (now (out .exit)) n ⌝ }
 {
     if index < 32 {
         out[0] = place::read(r, index);
@@ -128,7 +129,7 @@ pub fn to_print(r: &[u64; 58]) -> u64
 
 // A record of zeros but for what a guest finds at its start.
 pub fn new(r: &mut [u64; 58], hart_id: u64, dtb_addr: u64)
-    ensures { λ _. ⌜ viewOf (now (r .exit)) ≡ newOf «hart_id» «dtb_addr» ⌝ }
+    ensures { λ _. ⌜ (viewOf (now (r .exit)) ≡ newOf «hart_id» «dtb_addr») × (drop 54 (now (r .exit)) ≡ replicate 4 0) ⌝ }
 {
     *r = [0u64; 58];
     r[place::A0] = hart_id;

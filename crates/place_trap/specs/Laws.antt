@@ -4,7 +4,7 @@ use mathlib.Core.Bool.{Bool, true, false}
 use mathlib.Core.List.{List}
 use mathlib.Core.Path.{_≡_, refl, ap, sym, subst, _∙_}
 use native.Mathlib.Omega.{arith}
-use lib.ListN.{getD, length, set}
+use lib.ListN.{drop, getD, length, set}
 use lib.Dec.{eqb}
 use borrow.Author.Tests.{eqb-false, eqb-true, ne-eqb}
 use Rattle.types.specs.Pick.{pick}
@@ -28,7 +28,7 @@ use Rattle.regs.specs.declared.Waiting.{Waiting}
 use Rattle.regs.specs.declared.Waiting.the-variants as waiting
 use Rattle.regs.specs.Record.{bumped, counted, eventNumber, listed, stored, valueOf, waitingAsk}
 use Rattle.regs.specs.Effects.{applied, failedOf, finishedOf, noArgs, refusedOf}
-use Rattle.ecall.specs.Calls.{callOf}
+use Rattle.sbi.specs.Calls.{callOf}
 use Rattle.fetch.specs.Faults.{missedEffect, missedOf}
 use Rattle.virtual_inst.specs.declared.Csr.{Csr}
 use Rattle.virtual_inst.specs.Stimecmp.{csrEffect, csrOf, startOf}
@@ -38,18 +38,20 @@ use Rattle.trap.specs.Traps.{argumentsOf, externalOf, mmioOf, otherOf, sbiOf, s
 use Rattle.resume.specs.Resume.{answerEffect, continuedOf, fetchedOf, matchedOf, plainOf, resumedOf}
 use Rattle.calls.specs.Calls as calls
 use Rattle.calls.specs.Calls.{getGprOf}
-use Rattle.entry.specs.declared.HostCall.{HostCall}
-use Rattle.entry.specs.declared.HostCall.the-variants as hostCall
-use Rattle.entry.specs.Entry.{calledOf, readOf}
-use Rattle.abi.specs.Words.{answerOf, csrsOf, fetchOf, nowhere, unpackOf, waitingBy, waitingOf}
-use Rattle.place.specs.View.{Done, Made, besideOf, exitCount, outOf, recordOf, replyWord, viewOf}
+use Rattle.calls.specs.declared.HostCall.{HostCall}
+use Rattle.calls.specs.declared.HostCall.the-variants as hostCall
+use Rattle.calls.specs.Entry.{calledOf, readOf}
+use Rattle.calls.specs.Kinds.{answerBy, nowhere}
+use Rattle.words.specs.Words.{csrsOf, fetchOf, unpackOf, waitingBy, waitingOf, waitingWords}
+use Rattle.place.specs.View.{Done, Made, besideOf, exitCount, outOf, recordOf, refusalWord, replyWord, trapLeaves, viewOf, waitingCount}
 use Rattle.place.specs.Deeds.{Leaves, answeredLeft, argsWords, callLeft, csrLeft, faultLeft, left, missedLeft, readWord}
 use Rattle.place.specs.Laws.{On, answered-made, call-made, csr-made, csrs-words, fault-made, made-by, missed-made, over, read-shows, same}
 use Rattle.place.specs.Spelled.{spelled}
 
 -- words that show an outcome, left by a function
-pub done-by : {outcome : Outcome} {r s : List ℕ} {w n : ℕ} → Done outcome r w → (s ≡ r) × (n ≡ w) → Done outcome s n
-done-by d e = record { shows = ap viewOf (e .0) ∙ d .shows; says = e .1 ∙ d .says }
+pub done-by : {leaves : Outcome → List ℕ} {outcome : Outcome} {r s : List ℕ} {w n : ℕ} → Done leaves outcome r w → (s ≡ r) × (n ≡ w) → Done leaves outcome s n
+done-by d e =
+    record { shows = ap viewOf (e .0) ∙ d .shows; waits = ap (λ (k : List ℕ). drop 54 k) (e .0) ∙ d .waits; says = e .1 ∙ d .says }
 
 -- an ecall
 
@@ -97,34 +99,34 @@ mmio-made r o e at k i =
 -- the classes that are handled at once
 
 external-spelled : (k o : List ℕ) (v : ℕ) → let r : List ℕ = spelled 58 0 k in On r o (externalOf (viewOf r .csrs) v) (left (set r 54 0) (set o 0 v) 1)
-unfolding viewOf recordOf unpackOf csrsOf waitingOf waitingBy applied externalOf finishedOf noArgs stored counted bumped eventNumber listed replyWord outOf exitCount besideOf exitNumber exitValues
-external-spelled k o v = record { shows = refl; says = refl; gives = refl }
+unfolding viewOf recordOf unpackOf csrsOf waitingOf waitingBy applied externalOf finishedOf noArgs stored counted bumped eventNumber listed replyWord outOf exitCount besideOf exitNumber exitValues trapLeaves refusalWord waitingCount waitingWords
+external-spelled k o v = record { shows = refl; waits = refl; says = refl; gives = refl }
 
 pub external-made : (r o : List ℕ) → length r ≡ 58 → (v : ℕ) → On r o (externalOf (viewOf r .csrs) v) (left (set r 54 0) (set o 0 v) 1)
 external-made r o e v = over (λ r. On r o (externalOf (viewOf r .csrs) v) (left (set r 54 0) (set o 0 v) 1)) (λ k. external-spelled k o v) r e
 
 known-spelled : (k o : List ℕ) → let r : List ℕ = spelled 58 0 k in On r o (otherOf (viewOf r .csrs) true) (left (set r 54 0) o 0x103)
-unfolding viewOf recordOf unpackOf csrsOf waitingOf waitingBy applied otherOf failedOf noArgs stored counted bumped eventNumber listed replyWord outOf errorNumber
-known-spelled k o = record { shows = refl; says = refl; gives = refl }
+unfolding viewOf recordOf unpackOf csrsOf waitingOf waitingBy applied otherOf failedOf noArgs stored counted bumped eventNumber listed replyWord outOf errorNumber trapLeaves refusalWord waitingCount waitingWords
+known-spelled k o = record { shows = refl; waits = refl; says = refl; gives = refl }
 
 pub known-made : (r o : List ℕ) → length r ≡ 58 → On r o (otherOf (viewOf r .csrs) true) (left (set r 54 0) o 0x103)
 known-made r o e = over (λ r. On r o (otherOf (viewOf r .csrs) true) (left (set r 54 0) o 0x103)) (λ k. known-spelled k o) r e
 
 unknown-spelled : (k o : List ℕ) → let r : List ℕ = spelled 58 0 k in On r o (otherOf (viewOf r .csrs) false) (left (set r 54 0) o 0x104)
-unfolding viewOf recordOf unpackOf csrsOf waitingOf waitingBy applied otherOf failedOf noArgs stored counted bumped eventNumber listed replyWord outOf errorNumber
-unknown-spelled k o = record { shows = refl; says = refl; gives = refl }
+unfolding viewOf recordOf unpackOf csrsOf waitingOf waitingBy applied otherOf failedOf noArgs stored counted bumped eventNumber listed replyWord outOf errorNumber trapLeaves refusalWord waitingCount waitingWords
+unknown-spelled k o = record { shows = refl; waits = refl; says = refl; gives = refl }
 
 pub unknown-made : (r o : List ℕ) → length r ≡ 58 → On r o (otherOf (viewOf r .csrs) false) (left (set r 54 0) o 0x104)
 unknown-made r o e = over (λ r. On r o (otherOf (viewOf r .csrs) false) (left (set r 54 0) o 0x104)) (λ k. unknown-spelled k o) r e
 
 -- a refusal leaves every word
-pub refused-made : (r o : List ℕ) (w : Waiting) → w ≡ viewOf r .waiting → Made o (applied (viewOf r) (refusedOf (viewOf r .csrs) w error.WrongAnswer)) r o 0x107
-unfolding applied refusedOf noArgs stored counted bumped eventNumber listed replyWord outOf errorNumber
-refused-made r o w e = record { shows = same refl refl refl (sym e); says = refl; gives = refl }
+pub refused-made : (r o : List ℕ) (w : Waiting) → w ≡ viewOf r .waiting → Made (trapLeaves r) o (applied (viewOf r) (refusedOf (viewOf r .csrs) w error.WrongAnswer)) r o 0x107
+unfolding applied refusedOf noArgs stored counted bumped eventNumber listed replyWord outOf errorNumber trapLeaves refusalWord
+refused-made r o w e = record { shows = same refl refl refl (sym e); waits = refl; says = refl; gives = refl }
 
-pub busy-made : (r o : List ℕ) → Made o (applied (viewOf r) (refusedOf (viewOf r .csrs) (viewOf r .waiting) error.BadState)) r o 0x102
-unfolding applied refusedOf noArgs stored counted bumped eventNumber listed replyWord outOf errorNumber
-busy-made r o = record { shows = refl; says = refl; gives = refl }
+pub busy-made : (r o : List ℕ) → Made (trapLeaves r) o (applied (viewOf r) (refusedOf (viewOf r .csrs) (viewOf r .waiting) error.BadState)) r o 0x102
+unfolding applied refusedOf noArgs stored counted bumped eventNumber listed replyWord outOf errorNumber trapLeaves refusalWord
+busy-made r o = record { shows = refl; waits = refl; says = refl; gives = refl }
 
 -- a fetch's answer that is no word
 
@@ -144,20 +146,20 @@ missed-fetch x c w a b e = rw e (missed-by x c w a (eqb b 1) (eqb b 2) (eqb b 3)
 
 -- an answer of a number that is no ask's: the read of a register that isn't there
 
-pub nowhere-made : (r o : List ℕ) → Made o (calledOf (viewOf r) nowhere) r o 0x101
-unfolding calledOf readOf getGprOf replyWord outOf errorNumber
-nowhere-made r o = record { shows = refl; says = refl; gives = refl }
+pub nowhere-made : (r o : List ℕ) → Made (trapLeaves r) o (calledOf (viewOf r) nowhere) r o 0x101
+unfolding calledOf readOf getGprOf replyWord outOf errorNumber trapLeaves refusalWord
+nowhere-made r o = record { shows = refl; waits = refl; says = refl; gives = refl }
 
 above : (ask k : ℕ) → 9 < ask → k ≤ 9 → eqb ask k ≡ false
 above ask k h l = ne-eqb ask k (λ e. omega arith)
 
-pub no-ask : (ask a b : ℕ) → 9 < ask → answerOf ask a b ≡ nowhere
-unfolding answerOf
+pub no-ask : (ask a b : ℕ) → 9 < ask → answerBy ask a b ≡ nowhere
+unfolding answerBy
 no-ask ask a b h =
     simp (above ask 1 h (omega arith), above ask 2 h (omega arith), above ask 3 h (omega arith), above ask 4 h (omega arith), above ask 5 h (omega arith), above ask 6 h (omega arith), above ask 7 h (omega arith), above ask 8 h (omega arith), above ask 9 h (omega arith))
 
-pub ask-zero : (a b : ℕ) → answerOf 0 a b ≡ nowhere
-unfolding answerOf
+pub ask-zero : (a b : ℕ) → answerBy 0 a b ≡ nowhere
+unfolding answerBy
 ask-zero a b = refl
 
 -- an answer of an ask's number
@@ -185,13 +187,13 @@ none ask h l n₁ n₂ n₃ n₄ n₅ n₆ n₇ n₈ n₉ =
 
 record Known (ask a b : ℕ) : Type 0 where
   answer : Answer
-  is : answerOf ask a b ≡ hostCall.Answer answer
+  is : answerBy ask a b ≡ hostCall.Answer answer
   number : answerNumber answer ≡ ask
 
 known-by : (ask a b : ℕ) → 0 < ask → ask ≤ 9 → (t₁ t₂ t₃ t₄ t₅ t₆ t₇ t₈ t₉ : Bool)
     → eqb ask 1 ≡ t₁ → eqb ask 2 ≡ t₂ → eqb ask 3 ≡ t₃ → eqb ask 4 ≡ t₄ → eqb ask 5 ≡ t₅ → eqb ask 6 ≡ t₆ → eqb ask 7 ≡ t₇ → eqb ask 8 ≡ t₈ → eqb ask 9 ≡ t₉
     → Known ask a b
-unfolding answerOf answerNumber
+unfolding answerBy answerNumber
 known-by ask a b h l true t₂ t₃ t₄ t₅ t₆ t₇ t₈ t₉ e₁ e₂ e₃ e₄ e₅ e₆ e₇ e₈ e₉ = record { answer = answer.Fetched (fetchOf a b); is = simp e₁; number = sym (eqb-true ask 1 e₁) }
 known-by ask a b h l false true t₃ t₄ t₅ t₆ t₇ t₈ t₉ e₁ e₂ e₃ e₄ e₅ e₆ e₇ e₈ e₉ = record { answer = answer.MaskCopied a b; is = simp (e₁, e₂); number = sym (eqb-true ask 2 e₂) }
 known-by ask a b h l false false true t₄ t₅ t₆ t₇ t₈ t₉ e₁ e₂ e₃ e₄ e₅ e₆ e₇ e₈ e₉ = record { answer = answer.CopiedIn a; is = simp (e₁, e₂, e₃); number = sym (eqb-true ask 3 e₃) }
@@ -209,23 +211,23 @@ known-ask ask a b h l =
     known-by ask a b h l (eqb ask 1) (eqb ask 2) (eqb ask 3) (eqb ask 4) (eqb ask 5) (eqb ask 6) (eqb ask 7) (eqb ask 8) (eqb ask 9) refl refl refl refl refl refl refl refl refl
 
 -- of another ask's kind, or to no ask
-pub wrong-made : (r o : List ℕ) (ask a b : ℕ) → 0 < ask → ask ≤ 9 → eqb (waitingAsk (viewOf r .waiting)) ask ≡ false → Made o (calledOf (viewOf r) (answerOf ask a b)) r o 0x107
-unfolding calledOf calls.answerOf answerEffect matchedOf
+pub wrong-made : (r o : List ℕ) (ask a b : ℕ) → 0 < ask → ask ≤ 9 → eqb (waitingAsk (viewOf r .waiting)) ask ≡ false → Made (trapLeaves r) o (calledOf (viewOf r) (answerBy ask a b)) r o 0x107
+unfolding calledOf calls.answerBy answerEffect matchedOf
 wrong-made r o ask a b h l e =
     let k : Known ask a b = known-ask ask a b h l in
     rw (k .is) (rw (k .number) (rw e (refused-made r o (viewOf r .waiting) refl)))
 
 -- to the fetch that waits
-pub fetch-called : (v : Vcpu) (a b : ℕ) → waitingAsk (v .waiting) ≡ 1 → applied v (fetchedOf (v .x) (v .csrs) (v .waiting) (fetchOf a b)) ≡ calledOf v (answerOf 1 a b)
-unfolding calledOf calls.answerOf answerEffect matchedOf answerNumber continuedOf answerOf
+pub fetch-called : (v : Vcpu) (a b : ℕ) → waitingAsk (v .waiting) ≡ 1 → applied v (fetchedOf (v .x) (v .csrs) (v .waiting) (fetchOf a b)) ≡ calledOf v (answerBy 1 a b)
+unfolding calledOf calls.answerBy answerEffect matchedOf answerNumber continuedOf answerBy
 fetch-called v a b e = rw e
 
 -- to any other ask that waits
 
 plain-by : (x k : List ℕ) (c : Csrs) (w : Waiting) (ask a b : ℕ) → waitingAsk w ≡ ask → 1 < ask →
     let v : Vcpu = record { x = x; csrs = c; counts = k; waiting = w } in
-    applied v (answeredEffect c w (answeredOf w a b)) ≡ calledOf v (answerOf ask a b)
-unfolding calledOf calls.answerOf answerEffect matchedOf answerNumber continuedOf answerOf waitingAsk plainOf answeredOf
+    applied v (answeredEffect c w (answeredOf w a b)) ≡ calledOf v (answerBy ask a b)
+unfolding calledOf calls.answerBy answerEffect matchedOf answerNumber continuedOf answerBy waitingAsk plainOf answeredOf
 plain-by x k c waiting.Idle ask a b e h = absurd (low ask 0 e h (omega arith))
 plain-by x k c (waiting.Load rd w s) ask a b e h = absurd (low ask 0 e h (omega arith))
 plain-by x k c waiting.FetchCsr ask a b e h = absurd (low ask 1 e h (omega arith))
@@ -240,42 +242,42 @@ plain-by x k c waiting.PutByte ask a b e h = rw (← e) refl
 plain-by x k c waiting.GetChar ask a b e h = rw (← e) refl
 plain-by x k c waiting.Forward ask a b e h = rw (← e) refl
 
-pub plain-called : (v : Vcpu) (ask a b : ℕ) → waitingAsk (v .waiting) ≡ ask → 1 < ask → applied v (answeredEffect (v .csrs) (v .waiting) (answeredOf (v .waiting) a b)) ≡ calledOf v (answerOf ask a b)
+pub plain-called : (v : Vcpu) (ask a b : ℕ) → waitingAsk (v .waiting) ≡ ask → 1 < ask → applied v (answeredEffect (v .csrs) (v .waiting) (answeredOf (v .waiting) a b)) ≡ calledOf v (answerBy ask a b)
 plain-called v ask a b e h = plain-by (v .x) (v .counts) (v .csrs) (v .waiting) ask a b e h
 
 -- the same, as the functions come by it
 
 pub fetch-made : (r o s p : List ℕ) (w : Waiting) (waits ask a b c : ℕ) → w ≡ viewOf r .waiting → waits ≡ waitingAsk w → waits ≡ ask → ask ≡ 1
-    → Made o (applied (viewOf r) (fetchedOf (viewOf r .x) (viewOf r .csrs) w (fetchOf a b))) s p c → Made o (calledOf (viewOf r) (answerOf ask a b)) s p c
+    → Made (trapLeaves r) o (applied (viewOf r) (fetchedOf (viewOf r .x) (viewOf r .csrs) w (fetchOf a b))) s p c → Made (trapLeaves r) o (calledOf (viewOf r) (answerBy ask a b)) s p c
 fetch-made r o s p w waits ask a b c e f g h m =
-    subst (λ (n : ℕ). Made o (calledOf (viewOf r) (answerOf n a b)) s p c) (sym h)
-    (subst (λ (q : Outcome). Made o q s p c) (fetch-called (viewOf r) a b (ap waitingAsk (sym e) ∙ sym f ∙ g ∙ h))
-    (subst (λ (n : Waiting). Made o (applied (viewOf r) (fetchedOf (viewOf r .x) (viewOf r .csrs) n (fetchOf a b))) s p c) e m))
+    subst (λ (n : ℕ). Made (trapLeaves r) o (calledOf (viewOf r) (answerBy n a b)) s p c) (sym h)
+    (subst (λ (q : Outcome). Made (trapLeaves r) o q s p c) (fetch-called (viewOf r) a b (ap waitingAsk (sym e) ∙ sym f ∙ g ∙ h))
+    (subst (λ (n : Waiting). Made (trapLeaves r) o (applied (viewOf r) (fetchedOf (viewOf r .x) (viewOf r .csrs) n (fetchOf a b))) s p c) e m))
 
 pub plain-made : (r o s p : List ℕ) (w : Waiting) (waits ask a b c : ℕ) → length r ≡ 58 → w ≡ viewOf r .waiting → waits ≡ waitingAsk w → waits ≡ ask → 1 < ask
-    → Leaves (answeredLeft r o (answeredOf w a b)) s p c → Made o (calledOf (viewOf r) (answerOf ask a b)) s p c
+    → Leaves (answeredLeft r o (answeredOf w a b)) s p c → Made (trapLeaves r) o (calledOf (viewOf r) (answerBy ask a b)) s p c
 plain-made r o s p w waits ask a b c n e f g h l =
-    subst (λ (q : Outcome). Made o q s p c) (plain-called (viewOf r) ask a b (ap waitingAsk (sym e) ∙ sym f ∙ g) h)
+    subst (λ (q : Outcome). Made (trapLeaves r) o q s p c) (plain-called (viewOf r) ask a b (ap waitingAsk (sym e) ∙ sym f ∙ g) h)
     (made-by (answered-made r o n (answeredOf (viewOf r .waiting) a b)) (subst (λ (k : Waiting). Leaves (answeredLeft r o (answeredOf k a b)) s p c) e l))
 
 pub mismatch-made : (r o : List ℕ) (w : Waiting) (waits ask a b : ℕ) → w ≡ viewOf r .waiting → waits ≡ waitingAsk w → eqb waits ask ≡ false → 0 < ask → ask ≤ 9
-    → Made o (calledOf (viewOf r) (answerOf ask a b)) r o 0x107
+    → Made (trapLeaves r) o (calledOf (viewOf r) (answerBy ask a b)) r o 0x107
 mismatch-made r o w waits ask a b e f g h l =
     wrong-made r o ask a b h l (ap (λ (n : ℕ). eqb n ask) (ap waitingAsk (sym e) ∙ sym f) ∙ g)
 
-pub beyond-made : (r o : List ℕ) (ask a b : ℕ) → 9 < ask → Made o (calledOf (viewOf r) (answerOf ask a b)) r o 0x101
+pub beyond-made : (r o : List ℕ) (ask a b : ℕ) → 9 < ask → Made (trapLeaves r) o (calledOf (viewOf r) (answerBy ask a b)) r o 0x101
 beyond-made r o ask a b h = rw (no-ask ask a b h) (nowhere-made r o)
 
-pub zero-made : (r o : List ℕ) (a b : ℕ) → Made o (calledOf (viewOf r) (answerOf 0 a b)) r o 0x101
+pub zero-made : (r o : List ℕ) (a b : ℕ) → Made (trapLeaves r) o (calledOf (viewOf r) (answerBy 0 a b)) r o 0x101
 zero-made r o a b = rw (ask-zero a b) (nowhere-made r o)
 
 pub missed-answer : (r o s p : List ℕ) (w : Waiting) (a b c : ℕ) → length r ≡ 58 → eqb b 0 ≡ false
-    → Leaves (missedLeft r o (missedOf (fetchOf a b))) s p c → Made o (applied (viewOf r) (fetchedOf (viewOf r .x) (viewOf r .csrs) w (fetchOf a b))) s p c
+    → Leaves (missedLeft r o (missedOf (fetchOf a b))) s p c → Made (trapLeaves r) o (applied (viewOf r) (fetchedOf (viewOf r .x) (viewOf r .csrs) w (fetchOf a b))) s p c
 missed-answer r o s p w a b c n e l =
-    subst (λ (q : Effect). Made o (applied (viewOf r) q) s p c) (missed-fetch (viewOf r .x) (viewOf r .csrs) w a b e)
+    subst (λ (q : Effect). Made (trapLeaves r) o (applied (viewOf r) q) s p c) (missed-fetch (viewOf r .x) (viewOf r .csrs) w a b e)
     (made-by (missed-made r o n (missedOf (fetchOf a b))) l)
 
 pub word-answer : (r o s p : List ℕ) (w : Waiting) (a b c : ℕ) → b ≡ 0
-    → Made o (applied (viewOf r) (resumedOf (viewOf r .x) (viewOf r .csrs) w (a % 2 ^ 32))) s p c → Made o (applied (viewOf r) (fetchedOf (viewOf r .x) (viewOf r .csrs) w (fetchOf a b))) s p c
+    → Made (trapLeaves r) o (applied (viewOf r) (resumedOf (viewOf r .x) (viewOf r .csrs) w (a % 2 ^ 32))) s p c → Made (trapLeaves r) o (applied (viewOf r) (fetchedOf (viewOf r .x) (viewOf r .csrs) w (fetchOf a b))) s p c
 unfolding fetchedOf fetchOf
 word-answer r o s p w a b c e m = rw e m

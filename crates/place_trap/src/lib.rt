@@ -11,9 +11,10 @@ ghost use Rattle.virtual_inst.specs.Stimecmp.{csrEffect, csrOf};
 ghost use Rattle.trap.specs.Traps.{argumentsOf, mmioOf, pageFaultOf, sbiOf, startedOf, stimecmpOf};
 ghost use Rattle.resume.specs.Resume.{fetchedOf, resumedOf};
 ghost use Rattle.calls.specs.Calls.{completeLoadOf, startOf};
-ghost use Rattle.entry.specs.Entry.{calledOf};
-ghost use Rattle.abi.specs.Words.{answerOf, fetchOf};
-ghost use Rattle.place.specs.View.{Done, Made, viewOf};
+ghost use Rattle.calls.specs.Entry.{calledOf};
+ghost use Rattle.calls.specs.Kinds.{answerBy};
+ghost use Rattle.words.specs.Words.{fetchOf};
+ghost use Rattle.place.specs.View.{Done, Made, trapLeaves, viewOf};
 ghost use Rattle.place_trap.specs.Classes.{classEffect, classOf, otherClass};
 use decoder::Trapped;
 use regs::Waiting;
@@ -34,7 +35,7 @@ pub enum Class {
 
 // Starts a trap.
 pub fn start(r: &mut [u64; 58], out: &mut [u64; 8], t: Trap) -> u64
-    ensures { λ w. ⌜ Made (now (out .entry)) (startOf (viewOf (now (r .entry))) t) (now (r .exit)) (now (out .exit)) w ⌝ }
+    ensures { λ w. ⌜ Made (trapLeaves (now (r .entry))) (now (out .entry)) (startOf (viewOf (now (r .entry))) t) (now (r .exit)) (now (out .exit)) w ⌝ }
 {
     let idle = regs::is_idle(place::waiting(r));
     started(idle, r, out, t)
@@ -42,7 +43,7 @@ pub fn start(r: &mut [u64; 58], out: &mut [u64; 8], t: Trap) -> u64
 
 // Answers the ask that waits.
 pub fn answer(r: &mut [u64; 58], out: &mut [u64; 8], ask: u64, word: u64, more: u64) -> u64
-    ensures { λ w. ⌜ Made (now (out .entry)) (calledOf (viewOf (now (r .entry))) (answerOf ask word more)) (now (r .exit)) (now (out .exit)) w ⌝ }
+    ensures { λ w. ⌜ Made (trapLeaves (now (r .entry))) (now (out .entry)) (calledOf (viewOf (now (r .entry))) (answerBy ask word more)) (now (r .exit)) (now (out .exit)) w ⌝ }
 {
     let w = place::waiting(r);
     matched(regs::ask_of(w), r, out, w, ask, word, more)
@@ -50,7 +51,7 @@ pub fn answer(r: &mut [u64; 58], out: &mut [u64; 8], ask: u64, word: u64, more: 
 
 // Completes the load that waits.
 pub fn complete_load(r: &mut [u64; 58], n: u64) -> u64
-    ensures { λ w. ⌜ Done (completeLoadOf (viewOf (now (r .entry))) n) (now (r .exit)) w ⌝ }
+    ensures { λ w. ⌜ Done (trapLeaves (now (r .entry))) (completeLoadOf (viewOf (now (r .entry))) n) (now (r .exit)) w ⌝ }
 {
     place::sized(r);
     let w = place::waiting(r);
@@ -58,7 +59,7 @@ pub fn complete_load(r: &mut [u64; 58], n: u64) -> u64
 }
 
 fn started(idle: bool, r: &mut [u64; 58], out: &mut [u64; 8], t: Trap) -> u64
-    ensures { λ w. ⌜ Made (now (out .entry)) (applied (viewOf (now (r .entry))) (startedOf idle (viewOf (now (r .entry)) .x) (viewOf (now (r .entry)) .csrs) (viewOf (now (r .entry)) .waiting) t)) (now (r .exit)) (now (out .exit)) w ⌝ }
+    ensures { λ w. ⌜ Made (trapLeaves (now (r .entry))) (now (out .entry)) (applied (viewOf (now (r .entry))) (startedOf idle (viewOf (now (r .entry)) .x) (viewOf (now (r .entry)) .csrs) (viewOf (now (r .entry)) .waiting) t)) (now (r .exit)) (now (out .exit)) w ⌝ }
 {
     if idle {
         return trapped(class_of(t.scause), r, out, t);
@@ -92,7 +93,7 @@ fn other(known: bool) -> Class
 
 // Each class at one place.
 fn trapped(class: Class, r: &mut [u64; 58], out: &mut [u64; 8], t: Trap) -> u64
-    ensures { λ w. ⌜ Made (now (out .entry)) (applied (viewOf (now (r .entry))) (classEffect class (viewOf (now (r .entry)) .x) (viewOf (now (r .entry)) .csrs) t)) (now (r .exit)) (now (out .exit)) w ⌝ }
+    ensures { λ w. ⌜ Made (trapLeaves (now (r .entry))) (now (out .entry)) (applied (viewOf (now (r .entry))) (classEffect class (viewOf (now (r .entry)) .x) (viewOf (now (r .entry)) .csrs) t)) (now (r .exit)) (now (out .exit)) w ⌝ }
 {
     place::sized(r);
     match class {
@@ -116,7 +117,7 @@ fn trapped(class: Class, r: &mut [u64; 58], out: &mut [u64; 8], t: Trap) -> u64
 }
 
 fn sbi(r: &mut [u64; 58], out: &mut [u64; 8], room: u64) -> u64
-    ensures { λ w. ⌜ Made (now (out .entry)) (applied (viewOf (now (r .entry))) (sbiOf (viewOf (now (r .entry)) .csrs) (getD (viewOf (now (r .entry)) .x) 17 0) (getD (viewOf (now (r .entry)) .x) 16 0) (argumentsOf (viewOf (now (r .entry)) .x)) room)) (now (r .exit)) (now (out .exit)) w ⌝ }
+    ensures { λ w. ⌜ Made (trapLeaves (now (r .entry))) (now (out .entry)) (applied (viewOf (now (r .entry))) (sbiOf (viewOf (now (r .entry)) .csrs) (getD (viewOf (now (r .entry)) .x) 17 0) (getD (viewOf (now (r .entry)) .x) 16 0) (argumentsOf (viewOf (now (r .entry)) .x)) room)) (now (r .exit)) (now (out .exit)) w ⌝ }
 {
     place::sized(r);
     let a = place::args(r);
@@ -125,7 +126,7 @@ fn sbi(r: &mut [u64; 58], out: &mut [u64; 8], room: u64) -> u64
 }
 
 fn stimecmp(r: &mut [u64; 58], out: &mut [u64; 8], stval: u64) -> u64
-    ensures { λ w. ⌜ Made (now (out .entry)) (applied (viewOf (now (r .entry))) (stimecmpOf (viewOf (now (r .entry)) .csrs) stval (valueOf (viewOf (now (r .entry)) .x) (rs1Field (stval % 2 ^ 32))))) (now (r .exit)) (now (out .exit)) w ⌝ }
+    ensures { λ w. ⌜ Made (trapLeaves (now (r .entry))) (now (out .entry)) (applied (viewOf (now (r .entry))) (stimecmpOf (viewOf (now (r .entry)) .csrs) stval (valueOf (viewOf (now (r .entry)) .x) (rs1Field (stval % 2 ^ 32))))) (now (r .exit)) (now (out .exit)) w ⌝ }
 {
     place::sized(r);
     let rs1 = place::read(r, fields::rs1(stval % 0x1_0000_0000));
@@ -134,7 +135,7 @@ fn stimecmp(r: &mut [u64; 58], out: &mut [u64; 8], stval: u64) -> u64
 }
 
 fn page_fault_trap(r: &mut [u64; 58], out: &mut [u64; 8], t: Trap, access: Access) -> u64
-    ensures { λ w. ⌜ Made (now (out .entry)) (applied (viewOf (now (r .entry))) (pageFaultOf (viewOf (now (r .entry)) .x) (viewOf (now (r .entry)) .csrs) t access)) (now (r .exit)) (now (out .exit)) w ⌝ }
+    ensures { λ w. ⌜ Made (trapLeaves (now (r .entry))) (now (out .entry)) (applied (viewOf (now (r .entry))) (pageFaultOf (viewOf (now (r .entry)) .x) (viewOf (now (r .entry)) .csrs) t access)) (now (r .exit)) (now (out .exit)) w ⌝ }
 {
     let at = registers::guest_page_fault_addr(t.htval, t.stval);
     mmio(r, out, at, access, decoder::from_htinst(t.htinst))
@@ -143,7 +144,7 @@ fn page_fault_trap(r: &mut [u64; 58], out: &mut [u64; 8], t: Trap, access: Acces
 // A load or store of a device, once its instruction is known. It has one caller, and mmio_word does the same for the word
 // of a fetch: a function with one caller is always put in its place, so that the instruction passes in registers.
 fn mmio(r: &mut [u64; 58], out: &mut [u64; 8], at: GuestPhysAddr, access: Access, i: Trapped) -> u64
-    ensures { λ w. ⌜ Made (now (out .entry)) (applied (viewOf (now (r .entry))) (mmioOf (viewOf (now (r .entry)) .x) (viewOf (now (r .entry)) .csrs) at access i)) (now (r .exit)) (now (out .exit)) w ⌝ }
+    ensures { λ w. ⌜ Made (trapLeaves (now (r .entry))) (now (out .entry)) (applied (viewOf (now (r .entry))) (mmioOf (viewOf (now (r .entry)) .x) (viewOf (now (r .entry)) .csrs) at access i)) (now (r .exit)) (now (out .exit)) w ⌝ }
 {
     place::sized(r);
     let source = place::read(r, decoder::store_source(i));
@@ -160,7 +161,7 @@ fn matched(
     word: u64,
     more: u64,
 ) -> u64
-    ensures { λ c. ⌜ (w ≡ viewOf (now (r .entry)) .waiting → waits ≡ waitingAsk w → Made (now (out .entry)) (calledOf (viewOf (now (r .entry))) (answerOf ask word more)) (now (r .exit)) (now (out .exit)) c) ⌝ }
+    ensures { λ c. ⌜ (w ≡ viewOf (now (r .entry)) .waiting → waits ≡ waitingAsk w → Made (trapLeaves (now (r .entry))) (now (out .entry)) (calledOf (viewOf (now (r .entry))) (answerBy ask word more)) (now (r .exit)) (now (out .exit)) c) ⌝ }
 {
     place::sized(r);
     if ask == 0 {
@@ -180,18 +181,18 @@ fn matched(
 
 // A fetch gave a word, or its fault is handled.
 fn fetched(r: &mut [u64; 58], out: &mut [u64; 8], w: Waiting, word: u64, more: u64) -> u64
-    ensures { λ c. ⌜ (w ≡ viewOf (now (r .entry)) .waiting → Made (now (out .entry)) (applied (viewOf (now (r .entry))) (fetchedOf (viewOf (now (r .entry)) .x) (viewOf (now (r .entry)) .csrs) w (fetchOf word more))) (now (r .exit)) (now (out .exit)) c) ⌝ }
+    ensures { λ c. ⌜ (w ≡ viewOf (now (r .entry)) .waiting → Made (trapLeaves (now (r .entry))) (now (out .entry)) (applied (viewOf (now (r .entry))) (fetchedOf (viewOf (now (r .entry)) .x) (viewOf (now (r .entry)) .csrs) w (fetchOf word more))) (now (r .exit)) (now (out .exit)) c) ⌝ }
 {
     place::sized(r);
     if more == 0 {
         return resumed(r, out, w, (word % 0x1_0000_0000) as u32);
     }
-    place_deed::do_missed(r, out, fetch::decide(abi::fetch_of(word, more)))
+    place_deed::do_missed(r, out, fetch::decide(words::fetch_of(word, more)))
 }
 
 // The trap goes on with the word that was fetched.
 fn resumed(r: &mut [u64; 58], out: &mut [u64; 8], w: Waiting, word: u32) -> u64
-    ensures { λ c. ⌜ (w ≡ viewOf (now (r .entry)) .waiting → Made (now (out .entry)) (applied (viewOf (now (r .entry))) (resumedOf (viewOf (now (r .entry)) .x) (viewOf (now (r .entry)) .csrs) w word)) (now (r .exit)) (now (out .exit)) c) ⌝ }
+    ensures { λ c. ⌜ (w ≡ viewOf (now (r .entry)) .waiting → Made (trapLeaves (now (r .entry))) (now (out .entry)) (applied (viewOf (now (r .entry))) (resumedOf (viewOf (now (r .entry)) .x) (viewOf (now (r .entry)) .csrs) w word)) (now (r .exit)) (now (out .exit)) c) ⌝ }
 {
     match w {
         Waiting::Idle => 0x107,
@@ -222,7 +223,7 @@ fn mmio_word(
     access: Access,
     word: u32,
 ) -> u64
-    ensures { λ w. ⌜ Made (now (out .entry)) (applied (viewOf (now (r .entry))) (mmioOf (viewOf (now (r .entry)) .x) (viewOf (now (r .entry)) .csrs) at access (fetchedWord word))) (now (r .exit)) (now (out .exit)) w ⌝ }
+    ensures { λ w. ⌜ Made (trapLeaves (now (r .entry))) (now (out .entry)) (applied (viewOf (now (r .entry))) (mmioOf (viewOf (now (r .entry)) .x) (viewOf (now (r .entry)) .csrs) at access (fetchedWord word))) (now (r .exit)) (now (out .exit)) w ⌝ }
 {
     place::sized(r);
     let i = decoder::from_fetched(word);
@@ -232,7 +233,7 @@ fn mmio_word(
 
 // A CSR instruction that was fetched.
 fn stimecmp_word(r: &mut [u64; 58], out: &mut [u64; 8], word: u64) -> u64
-    ensures { λ w. ⌜ Made (now (out .entry)) (applied (viewOf (now (r .entry))) (csrEffect (viewOf (now (r .entry)) .csrs) (csrOf word (viewOf (now (r .entry)) .csrs .vs .vstimecmp) (valueOf (viewOf (now (r .entry)) .x) (rs1Field word))))) (now (r .exit)) (now (out .exit)) w ⌝ }
+    ensures { λ w. ⌜ Made (trapLeaves (now (r .entry))) (now (out .entry)) (applied (viewOf (now (r .entry))) (csrEffect (viewOf (now (r .entry)) .csrs) (csrOf word (viewOf (now (r .entry)) .csrs .vs .vstimecmp) (valueOf (viewOf (now (r .entry)) .x) (rs1Field word))))) (now (r .exit)) (now (out .exit)) w ⌝ }
 {
     place::sized(r);
     let rs1 = place::read(r, fields::rs1(word));

@@ -1,4 +1,4 @@
-//! The proved library by crate in_place's exported functions: a record of
+//! The proved library by the exported functions of crates in_place_*: a record of
 //! words that is changed where it lies, and a word for what a call came to.
 
 use model::{Call, Reply, Vcpu};

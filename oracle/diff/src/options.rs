@@ -27,7 +27,7 @@ pub enum SubjectName {
     Model,
     /// The proved library by crate abi's one exported function.
     Abi,
-    /// The proved library by crate in_place's exported functions.
+    /// The proved library by the exported functions of crates in_place_*.
     InPlace,
 }
 

@@ -2,7 +2,7 @@
 use borrow.Author.Needs.{needs}
 use mathlib.Core.Path.{refl}
 use Rattle.place_host.specs.Host.{hostWords}
-use Rattle.abi.specs.Words.{csrsWords}
+use Rattle.words.specs.Words.{csrsWords}
 use Rattle.place_host.proofs.host.Statement.{statement}
 use Rattle.place_host.proofs.host.Tie as tie
 

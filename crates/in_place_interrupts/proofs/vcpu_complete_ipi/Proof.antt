@@ -1,0 +1,22 @@
+-- `in_place_interrupts::vcpu_complete_ipi` meets its contract.
+use Rattle.calls.specs.Entry.{calledOf}
+use Rattle.calls.specs.Kinds.{callBy}
+use borrow.Author.Needs.{needs}
+use Rattle.in_place_interrupts.proofs.vcpu_complete_ipi.Statement.{statement}
+use Rattle.in_place_interrupts.proofs.vcpu_complete_ipi.Tie as tie
+
+abi-of-requires : tie.Need-abi-of-requires
+abi-of-requires c κs = search needs
+
+completion-of-requires : tie.Need-completion-of-requires
+completion-of-requires c κs = search needs
+
+complete-ipi-requires : tie.Need-complete-ipi-requires
+complete-ipi-requires c κs = search needs
+
+returns : tie.Need-returns
+unfolding calledOf callBy
+returns c = simp (c .before .completion-of .ensures, c .before .before .abi-of .ensures) at (c .complete-ipi .ensures)
+
+pub vcpu-complete-ipi-spec : {M : Type 1} → statement M
+vcpu-complete-ipi-spec = tie.close (tie.spec abi-of-requires completion-of-requires complete-ipi-requires returns)
