@@ -212,14 +212,14 @@ known-ask ask a b h l =
 
 -- of another ask's kind, or to no ask
 pub wrong-made : (r o : List ℕ) (ask a b : ℕ) → 0 < ask → ask ≤ 9 → eqb (waitingAsk (viewOf r .waiting)) ask ≡ false → Made (trapLeaves r) o (calledOf (viewOf r) (answerBy ask a b)) r o 0x107
-unfolding calledOf calls.answerBy answerEffect matchedOf
+unfolding calledOf calls.answerOf answerEffect matchedOf
 wrong-made r o ask a b h l e =
     let k : Known ask a b = known-ask ask a b h l in
     rw (k .is) (rw (k .number) (rw e (refused-made r o (viewOf r .waiting) refl)))
 
 -- to the fetch that waits
 pub fetch-called : (v : Vcpu) (a b : ℕ) → waitingAsk (v .waiting) ≡ 1 → applied v (fetchedOf (v .x) (v .csrs) (v .waiting) (fetchOf a b)) ≡ calledOf v (answerBy 1 a b)
-unfolding calledOf calls.answerBy answerEffect matchedOf answerNumber continuedOf answerBy
+unfolding calledOf calls.answerOf answerEffect matchedOf answerNumber continuedOf answerBy
 fetch-called v a b e = rw e
 
 -- to any other ask that waits
@@ -227,7 +227,7 @@ fetch-called v a b e = rw e
 plain-by : (x k : List ℕ) (c : Csrs) (w : Waiting) (ask a b : ℕ) → waitingAsk w ≡ ask → 1 < ask →
     let v : Vcpu = record { x = x; csrs = c; counts = k; waiting = w } in
     applied v (answeredEffect c w (answeredOf w a b)) ≡ calledOf v (answerBy ask a b)
-unfolding calledOf calls.answerBy answerEffect matchedOf answerNumber continuedOf answerBy waitingAsk plainOf answeredOf
+unfolding calledOf calls.answerOf answerEffect matchedOf answerNumber continuedOf answerBy waitingAsk plainOf answeredOf
 plain-by x k c waiting.Idle ask a b e h = absurd (low ask 0 e h (omega arith))
 plain-by x k c (waiting.Load rd w s) ask a b e h = absurd (low ask 0 e h (omega arith))
 plain-by x k c waiting.FetchCsr ask a b e h = absurd (low ask 1 e h (omega arith))
