@@ -43,11 +43,11 @@ fn run(fd: i32) {
 
 // Makes a line's call. The line must be spelled as its own six words and what the call gave are.
 fn line_on(r: &mut [u64; 58], line: &[u8; 136]) -> bool {
-    let c = call_lines::words(line);
+    let mut w = call_lines::words(line);
     let mut out = [0u64; 8];
-    let code = made(r, &mut out, c);
-    let all = sum(r, &out);
-    call_lines::spelled(line, [c[0], c[1], c[2], c[3], c[4], c[5], code, all])
+    w[6] = made(r, &mut out, w);
+    w[7] = sum(r, &out);
+    call_lines::spelled(line, w)
 }
 
 // The call: crate abi's kinds 1 to 12, and three more. 0 writes a word of the record, 13 is to_print, 14 is new.
