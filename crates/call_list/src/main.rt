@@ -1,7 +1,6 @@
 // Runs the fixed list of calls in data/ on the entry that hosts call and counts the lines on which it gives something else.
 // A line is a call's six words, what it returns, and the sum of what it gives and of the record after it, each of 16 hex digits;
 // docs/CALLS.md says what they mean.
-ghost use Prim.Native.Nat.{_≤_, _<_};
 use libc::STDOUT_FILENO;
 
 // A list that never ends is cut here.
@@ -44,11 +43,11 @@ fn run(fd: i32) {
 
 // Makes a line's call. The line must be spelled as its own six words and what the call gave are.
 fn line_on(r: &mut [u64; 58], line: &[u8; 136]) -> bool {
-    let c = words(line);
+    let mut w = call_lines::words(line);
     let mut out = [0u64; 8];
-    let code = made(r, &mut out, c);
-    let all = sum(r, &out);
-    spelled(line, [c[0], c[1], c[2], c[3], c[4], c[5], code, all])
+    w[6] = made(r, &mut out, w);
+    w[7] = sum(r, &out);
+    call_lines::spelled(line, w)
 }
 
 // The call: crate abi's kinds 1 to 12, and three more. 0 writes a word of the record, 13 is to_print, 14 is new.
@@ -94,99 +93,7 @@ fn written(r: &mut [u64; 58], i: u64, n: u64) -> u64 {
 // The sum of what was given and of the record. What waits goes in by its meaning.
 fn sum(r: &[u64; 58], out: &[u64; 8]) -> u64 {
     let w = words::waiting_words(words::waiting_of([r[54], r[55], r[56], r[57]]));
-    all(kept(all(0, out), r), &w)
-}
-
-// The sum with every word in it that stands for itself: all but the waiting part.
-fn kept(start: u64, r: &[u64; 58]) -> u64 {
-    let mut s = start;
-    let mut i: usize = 0;
-    while i < 54 {
-        s = one(s, r[i]);
-        i += 1;
-    }
-    s
-}
-
-// The sum with every word of a part in it.
-fn all(start: u64, part: &[u64]) -> u64 {
-    let mut s = start;
-    let mut i: usize = 0;
-    while i < part.len() {
-        s = one(s, part[i]);
-        i += 1;
-    }
-    s
-}
-
-// The sum with one word in it: turned by 7 bits, the word XORed in, a constant added, and the high bits XORed onto the low.
-fn one(s: u64, word: u64) -> u64 {
-    let turned = s % 0x200_0000_0000_0000 * 128 | s / 0x200_0000_0000_0000;
-    let z = std::num::wrapping_add_u64(turned ^ word, 0x9E37_79B9_7F4A_7C15);
-    z ^ (z / 0x2000_0000)
-}
-
-// The eight words of a line.
-fn words(line: &[u8; 136]) -> [u64; 8] {
-    let mut w = [0u64; 8];
-    let mut i: usize = 0;
-    while i < 8 {
-        w[i] = number(line, 17 * i);
-        i += 1;
-    }
-    w
-}
-
-// Whether a line spells eight words.
-fn spelled(line: &[u8; 136], w: [u64; 8]) -> bool {
-    let mut i: usize = 0;
-    while i < 8 {
-        if !says(line, 17 * i, w[i], i == 7) {
-            return false;
-        }
-        i += 1;
-    }
-    true
-}
-
-// The number that 16 bytes of a line spell, if they spell one.
-fn number(line: &[u8; 136], at: usize) -> u64
-    requires { ⌜ at ≤ 119 ⌝ }
-{
-    let mut n: u64 = 0;
-    let mut i: usize = 0;
-    while i < 16 {
-        n = n % 0x1000_0000_0000_0000 * 16 + hex_digit(line[at + i]);
-        i += 1;
-    }
-    n
-}
-
-fn hex_digit(b: u8) -> u64
-    ensures { λ r. ⌜ r < 16 ⌝ }
-{
-    if b < b'a' {
-        b as u64 % 16
-    } else {
-        (b as u64 - 87) % 16
-    }
-}
-
-// Whether a line has the 16 digits of a number at a place, and after them the line's end or a space.
-fn says(line: &[u8; 136], at: usize, n: u64, last: bool) -> bool
-    requires { ⌜ at ≤ 119 ⌝ }
-{
-    let mut text = [0u8; 16];
-    io::hex(n, 16, &mut text);
-    let mut i: usize = 0;
-    while i < 16 {
-        if line[at + i] != text[i] {
-            return false;
-        }
-        i += 1;
-    }
-    let after = if last { b'\n' } else { b' ' };
-    line[at + 16] == after
+    call_lines::all(call_lines::kept(call_lines::all(0, out), r), &w)
 }
 
 fn print(what: &[u8], n: u64) {

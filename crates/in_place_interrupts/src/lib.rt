@@ -9,7 +9,7 @@ ghost use Rattle.place.specs.View.{Done, hostLeaves, viewOf};
 pub extern "C" fn vcpu_set_pending(r: &mut [u64; 58], vector: u64, level: u64) -> u64
     ensures { λ w. ⌜ Done (hostLeaves (now (r .entry))) (calledOf (viewOf (now (r .entry))) (callBy 7 vector level 0 0 0)) (now (r .exit)) w ⌝ }
 {
-    place_host::set_pending(r, vector, words::test(level))
+    place_interrupts::set_pending(r, vector, words::test(level))
 }
 
 // Latches pending bits that the hardware raised.
@@ -17,7 +17,7 @@ pub extern "C" fn vcpu_set_pending(r: &mut [u64; 58], vector: u64, level: u64) -
 pub extern "C" fn vcpu_latch_hvip(r: &mut [u64; 58], bits: u64) -> u64
     ensures { λ w. ⌜ Done (hostLeaves (now (r .entry))) (calledOf (viewOf (now (r .entry))) (callBy 8 bits 0 0 0 0)) (now (r .exit)) w ⌝ }
 {
-    place_host::latch_hvip(r, bits)
+    place_interrupts::latch_hvip(r, bits)
 }
 
 // Gives the guest the result of an IPI request.
@@ -25,7 +25,7 @@ pub extern "C" fn vcpu_latch_hvip(r: &mut [u64; 58], bits: u64) -> u64
 pub extern "C" fn vcpu_complete_ipi(r: &mut [u64; 58], convention: u64, completion: u64) -> u64
     ensures { λ w. ⌜ Done (hostLeaves (now (r .entry))) (calledOf (viewOf (now (r .entry))) (callBy 9 convention completion 0 0 0)) (now (r .exit)) w ⌝ }
 {
-    place_host::complete_ipi(
+    place_interrupts::complete_ipi(
         r,
         words::abi_of(convention),
         words::completion_of(completion),

@@ -13,7 +13,7 @@ use types::GuestPhysAddr;
 pub extern "C" fn vcpu_new(r: &mut [u64; 58], hart_id: u64, dtb_addr: u64) -> u64
     ensures { λ w. ⌜ (viewOf (now (r .exit)) ≡ newOf «hart_id» «dtb_addr») × (drop 54 (now (r .exit)) ≡ replicate 4 0) × (w ≡ 64) ⌝ }
 {
-    place_host::new(r, hart_id, dtb_addr);
+    place_setup::new(r, hart_id, dtb_addr);
     0x40
 }
 
@@ -22,7 +22,7 @@ pub extern "C" fn vcpu_new(r: &mut [u64; 58], hart_id: u64, dtb_addr: u64) -> u6
 pub extern "C" fn vcpu_setup(r: &mut [u64; 58]) -> u64
     ensures { λ w. ⌜ Done (hostLeaves (now (r .entry))) (calledOf (viewOf (now (r .entry))) (callBy 1 0 0 0 0 0)) (now (r .exit)) w ⌝ }
 {
-    place_host::setup(r)
+    place_setup::setup(r)
 }
 
 // Where the guest starts.
@@ -30,7 +30,7 @@ pub extern "C" fn vcpu_setup(r: &mut [u64; 58]) -> u64
 pub extern "C" fn vcpu_set_entry(r: &mut [u64; 58], entry: u64) -> u64
     ensures { λ w. ⌜ Done (hostLeaves (now (r .entry))) (calledOf (viewOf (now (r .entry))) (callBy 2 entry 0 0 0 0)) (now (r .exit)) w ⌝ }
 {
-    place_host::set_entry(r, GuestPhysAddr(entry))
+    place_setup::set_entry(r, GuestPhysAddr(entry))
 }
 
 // Sets the guest-stage page table.
@@ -43,5 +43,5 @@ pub extern "C" fn vcpu_set_nested_page_table(
 ) -> u64
     ensures { λ w. ⌜ Done (hostLeaves (now (r .entry))) (calledOf (viewOf (now (r .entry))) (callBy 6 levels mode root 0 0)) (now (r .exit)) w ⌝ }
 {
-    place_host::set_nested_page_table(r, levels, mode, root)
+    place_setup::set_nested_page_table(r, levels, mode, root)
 }

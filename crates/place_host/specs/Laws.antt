@@ -1,19 +1,16 @@
 -- Through the view, the host's calls on words are those on the record.
-use Prim.Native.Nat.{ℕ, _%_, _^_}
+use Prim.Native.Nat.{ℕ}
 use mathlib.Core.Bool.{Bool, true, false}
 use mathlib.Core.List.{List}
 use mathlib.Core.Path.{_≡_, refl, ap, sym, subst, _∙_}
-use lib.ListN.{drop, getD, length, replicate, set}
+use lib.ListN.{drop, getD, length, set}
 use lib.Seq.{drop-set-lt, sets}
 use native.Mathlib.Omega.{arith}
-use lib.Dec.{eqb, ltb}
+use lib.Dec.{eqb}
 use borrow.Author.Tests.{eqb-true}
-use Rattle.types.specs.Numbers.{errorNumber}
 use Rattle.types.specs.Pick.{pick}
 use Rattle.types.specs.declared.Error.{Error}
 use Rattle.types.specs.declared.Error.the-variants as error
-use Rattle.consts.specs.Csr.{vseip, vssip, vstip}
-use Rattle.consts.specs.Traps.{supervisorExternal, supervisorSoft, supervisorTimer}
 use Rattle.regs.specs.declared.Csrs.{Csrs}
 use Rattle.regs.specs.declared.Effect.{Effect}
 use Rattle.regs.specs.declared.Event.the-variants as event
@@ -23,17 +20,13 @@ use Rattle.regs.specs.declared.Waiting.{Waiting}
 use Rattle.regs.specs.declared.Waiting.the-variants as waiting
 use Rattle.regs.specs.declared.Writes.{Writes}
 use Rattle.regs.specs.declared.Writes.the-variants as writes
-use Rattle.regs.specs.Record.{bumped, counted, eventNumber, pended, stored, waitingAsk}
+use Rattle.regs.specs.Record.{bumped, counted, eventNumber, stored, waitingAsk}
 use Rattle.regs.specs.Effects.{applied, doneOf, guardedOf, refusedOf}
-use Rattle.host_calls.specs.HostCalls.{pagingBy, pagingEffect, pendingBy, pendingEffect, tableCsrs, writeEffect}
-use Rattle.registers.specs.Bits.{withBits}
-use Rattle.calls.specs.Calls.{getGprOf, newOf, printCount}
+use Rattle.calls.specs.Calls.{printCount}
 use Rattle.regs.specs.Effects.{unlessAsking}
 use Rattle.words.specs.Words.{csrsOf, csrsWords, unpackOf, waitingBy, waitingOf}
-use Rattle.calls.specs.Entry.{readOf}
-use Rattle.place.specs.View.{Done, Made, hostLeaves, outOf, recordOf, replyWord, viewOf}
-use Rattle.place.specs.Deeds.{readWord}
-use Rattle.place.specs.Laws.{over, put-keeps, put-shows, read-shows, same, waiting-words}
+use Rattle.place.specs.View.{Done, hostLeaves, recordOf, replyWord, viewOf}
+use Rattle.place.specs.Laws.{over, put-keeps, put-shows, same, waiting-words}
 use Rattle.place.specs.Spelled.{spelled}
 use Rattle.place_host.specs.Host.{Keeps, hostWords, printedBy, writeWords}
 
@@ -111,11 +104,11 @@ pub done-keeps : (c : Csrs) (n : Writes) (w : Waiting) → Keeps (doneOf c n w) 
 unfolding doneOf
 done-keeps c n w = record { waits = refl; quiet = refl }
 
-refused-keeps : (c : Csrs) (w : Waiting) (x : Error) → Keeps (refusedOf c w x) w
+pub refused-keeps : (c : Csrs) (w : Waiting) (x : Error) → Keeps (refusedOf c w x) w
 unfolding refusedOf
 refused-keeps c w x = record { waits = refl; quiet = refl }
 
-pick-keeps : (b : Bool) {e f : Effect} {w : Waiting} → Keeps e w → Keeps f w → Keeps (pick b e f) w
+pub pick-keeps : (b : Bool) {e f : Effect} {w : Waiting} → Keeps e w → Keeps f w → Keeps (pick b e f) w
 pick-keeps true k l = k
 pick-keeps false k l = l
 
@@ -133,41 +126,6 @@ guarded-by r s n l e k h =
     let d : Done (hostLeaves r) (applied (viewOf r) g) (hostWords r g) (replyWord (g .reply)) =
     host-done r l g (guarded-keeps (waitingAsk (viewOf r .waiting)) (viewOf r .csrs) (viewOf r .waiting) e k) in
     record { shows = ap viewOf (h .0) ∙ d .shows; waits = ap (λ (k : List ℕ). drop 54 k) (h .0) ∙ d .waits; says = h .1 ∙ d .says }
-
-pub write-keeps : (c : Csrs) (w : Waiting) (i n : ℕ) → Keeps (writeEffect c w i n) w
-unfolding writeEffect
-write-keeps c w i n = pick-keeps (ltb i 32) (done-keeps c (writes.One i n) w) (refused-keeps c w error.InvalidInput)
-
-by-keeps : (c : Csrs) (w : Waiting) (wanted mode root : ℕ) → Keeps (pagingBy c w wanted mode root) w
-unfolding pagingBy
-by-keeps c w wanted mode root =
-    pick-keeps (eqb mode wanted) (pick-keeps (eqb (root % 2 ^ 14) 0) (done-keeps (tableCsrs c mode root) writes.Keep w) (refused-keeps c w error.InvalidInput)) (refused-keeps c w error.InvalidInput)
-
-pub paging-keeps : (c : Csrs) (w : Waiting) (levels mode root : ℕ) → Keeps (pagingEffect c w levels mode root) w
-unfolding pagingEffect
-paging-keeps c w levels mode root =
-    pick-keeps (eqb levels 3) (by-keeps c w 8 mode root) (pick-keeps (eqb levels 4) (by-keeps c w 9 mode root) (refused-keeps c w error.InvalidInput))
-
-pub pending-keeps : (c : Csrs) (w : Waiting) (vector : ℕ) (on : Bool) → Keeps (pendingEffect c w vector on) w
-unfolding pendingEffect pendingBy
-pending-keeps c w vector on =
-    pick-keeps (eqb vector supervisorSoft) (done-keeps (pended c (withBits (c .hs .hvip) vssip on)) writes.Keep w)
-    (pick-keeps (eqb vector supervisorTimer) (done-keeps (pended c (withBits (c .hs .hvip) vstip on)) writes.Keep w)
-    (pick-keeps (supervisorExternal vector) (done-keeps (pended c (withBits (c .hs .hvip) vseip on)) writes.Keep w) (refused-keeps c w error.InvalidInput)))
-
--- zeros but for a0 and a1 show as the record that a guest starts with, and nothing stands in the waiting words
-pub new-shows : (hart tree : ℕ) → let r : List ℕ = set (set (replicate 58 0) 10 hart) 11 tree in (viewOf r ≡ newOf hart tree) × (drop 54 r ≡ replicate 4 0)
-unfolding viewOf recordOf unpackOf csrsOf waitingOf waitingBy newOf
-new-shows hart tree = (refl, refl)
-
--- a register read: the value in word 0
-pub get-made : (r o : List ℕ) (i : ℕ) → ltb i 32 ≡ true → Made (hostLeaves r) o (readOf (viewOf r) i) r (set o 0 (readWord r i)) 0x41
-unfolding hostLeaves readOf getGprOf replyWord outOf
-get-made r o i e = rw e (record { shows = refl; waits = refl; says = refl; gives = ap (λ (n : ℕ). set o 0 n) (read-shows r i) })
-
-pub get-refused : (r o : List ℕ) (i : ℕ) → ltb i 32 ≡ false → Made (hostLeaves r) o (readOf (viewOf r) i) r o 0x101
-unfolding hostLeaves readOf getGprOf replyWord outOf errorNumber
-get-refused r o i e = rw e (record { shows = refl; waits = refl; says = refl; gives = refl })
 
 -- the n of ask 4, where it waits
 

@@ -1,0 +1,66 @@
+-- `call_lines::says` is safe and ends. The measure is the number of digits that are left.
+use Prim.Native.Nat.{_-_}
+use native.Mathlib.Omega.{arith}
+use Rattle.call_lines.proofs.says.Statement.{statement}
+use Rattle.call_lines.proofs.says.Tie as tie
+
+abbrev Inv-loop : tie.InvT-loop
+Inv-loop line at n after text i₀ i = Unit {0}
+
+abbrev μ-loop : tie.MeasureT-loop
+μ-loop line at n after text i₀ i = 16 - i
+
+hex-requires : tie.Need-hex-requires Inv-loop μ-loop
+hex-requires c κs = tt
+
+loop-holds : tie.Need-loop-holds Inv-loop μ-loop
+loop-holds c = tt
+
+add-if1 : tie.Need-add-if1 Inv-loop μ-loop
+add-if1 c = omega arith
+
+element-copy-out-if1 : tie.Need-element-copy-out-if1 Inv-loop μ-loop
+element-copy-out-if1 c = omega arith
+
+array-read-if1 : tie.Need-array-read-if1 Inv-loop μ-loop
+array-read-if1 c = omega arith
+
+returns : tie.Need-returns Inv-loop μ-loop
+returns c = tt
+
+add-i : tie.Need-add-i Inv-loop μ-loop
+add-i c = omega arith
+
+loop-less : tie.Need-loop-less Inv-loop μ-loop
+loop-less c = omega arith
+
+loop-again : tie.Need-loop-again Inv-loop μ-loop
+loop-again c = tt
+
+add-result : tie.Need-add-result Inv-loop μ-loop
+add-result c = omega arith
+
+element-copy-out-result : tie.Need-element-copy-out-result Inv-loop μ-loop
+element-copy-out-result c = omega arith
+
+returns-2 : tie.Need-returns-2 Inv-loop μ-loop
+returns-2 c = tt
+
+pub says-spec : {M : Type 1} → statement M
+says-spec =
+    tie.close
+    (tie.spec
+    Inv-loop
+    μ-loop
+    hex-requires
+    loop-holds
+    add-if1
+    element-copy-out-if1
+    array-read-if1
+    returns
+    add-i
+    loop-less
+    loop-again
+    add-result
+    element-copy-out-result
+    returns-2)

@@ -1,0 +1,31 @@
+-- A new record's words, and that the page-table call is a host's own.
+use Prim.Native.Nat.{ℕ, _%_, _^_}
+use mathlib.Core.List.{List}
+use mathlib.Core.Path.{_≡_, refl}
+use lib.ListN.{drop, replicate, set}
+use lib.Dec.{eqb}
+use Rattle.types.specs.declared.Error.the-variants as error
+use Rattle.regs.specs.declared.Csrs.{Csrs}
+use Rattle.regs.specs.declared.Waiting.{Waiting}
+use Rattle.regs.specs.declared.Writes.the-variants as writes
+use Rattle.host_calls.specs.HostCalls.{pagingBy, pagingEffect, tableCsrs}
+use Rattle.calls.specs.Calls.{newOf}
+use Rattle.words.specs.Words.{csrsOf, unpackOf, waitingBy, waitingOf}
+use Rattle.place.specs.View.{recordOf, viewOf}
+use Rattle.place_host.specs.Host.{Keeps}
+use Rattle.place_host.specs.Laws.{done-keeps, pick-keeps, refused-keeps}
+
+by-keeps : (c : Csrs) (w : Waiting) (wanted mode root : ℕ) → Keeps (pagingBy c w wanted mode root) w
+unfolding pagingBy
+by-keeps c w wanted mode root =
+    pick-keeps (eqb mode wanted) (pick-keeps (eqb (root % 2 ^ 14) 0) (done-keeps (tableCsrs c mode root) writes.Keep w) (refused-keeps c w error.InvalidInput)) (refused-keeps c w error.InvalidInput)
+
+pub paging-keeps : (c : Csrs) (w : Waiting) (levels mode root : ℕ) → Keeps (pagingEffect c w levels mode root) w
+unfolding pagingEffect
+paging-keeps c w levels mode root =
+    pick-keeps (eqb levels 3) (by-keeps c w 8 mode root) (pick-keeps (eqb levels 4) (by-keeps c w 9 mode root) (refused-keeps c w error.InvalidInput))
+
+-- zeros but for a0 and a1 show as the record that a guest starts with, and nothing stands in the waiting words
+pub new-shows : (hart tree : ℕ) → let r : List ℕ = set (set (replicate 58 0) 10 hart) 11 tree in (viewOf r ≡ newOf hart tree) × (drop 54 r ≡ replicate 4 0)
+unfolding viewOf recordOf unpackOf csrsOf waitingOf waitingBy newOf
+new-shows hart tree = (refl, refl)
