@@ -230,6 +230,15 @@ def moved_lists(chance):
     return {n: list(zip(numbers, results[k::len(names)])) for k, n in enumerate(names)}
 
 
+def wrong_lines():
+    """lw x1, 0(x0) once for each byte of its line, wrong in that byte alone: an input's digit stands as a capital that has the
+    digit's low four bits, an answer's digit is the next one, and neither the space nor the LF is there."""
+    line = f"{0x00002083:016x} {0x14101:016x}\n"
+    for at, byte in enumerate(line):
+        other = "," if at == 16 else " " if at == 33 else chr(ord(byte) + 32) if at < 16 else chr(ord(byte) + 1)
+        yield line[:at] + other + line[at + 1:]
+
+
 def main():
     folder = sys.argv[1] if len(sys.argv) > 1 else os.path.join(os.path.dirname(__file__), "..", "crates", "vectors", "data")
     lists = {
@@ -243,6 +252,8 @@ def main():
         with open(os.path.join(folder, name), "w") as file:
             file.writelines(f"{given:016x} {expected:016x}\n" for given, expected in pairs)
         print(f"{name}: {len(pairs)} lines")
+    with open(os.path.join(folder, "wrong"), "w") as file:
+        file.writelines(wrong_lines())
 
 
 main()

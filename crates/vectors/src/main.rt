@@ -42,6 +42,8 @@ fn main() {
     run(12, Task::Store(Width::Half));
     run(13, Task::Store(Width::Word));
     run(14, Task::Store(Width::Double));
+    // a line for each of a line's bytes, wrong there alone: this list shows that the comparison can say so
+    run(15, Task::Decode);
 }
 
 // Compares one list, and writes its name, its lines and how many of them are wrong.
