@@ -11,9 +11,9 @@ operator, index, field or variant, two arguments, fields, arms or statements exc
 negated. Contracts, types and constants' declarations are never changed. What the front end refuses (types, borrows) does
 not count. The rest is sorted:
 
-    fact       a goal does not hold: the facts of the path fit, and the promise does not follow from them
+    fact       a goal is not closed: the facts of the path fit, and the promise does not follow, or two values differ
     fact-new   the proof file did not fit the changed code; with a proof written anew by tools/prove.py, as `fact`
-    fit        the proof file did not fit, and tools/prove.py writes no proof of the unchanged function either
+    fit        the proof file did not fit, and tools/prove.py writes none: the proof is by hand
     run        accepted, and the program then writes something else than its file `stdout`
     accepted   proved, by the proof as it is or by a new one. Each has its reason in tools/mutants.txt, or is open
 
@@ -33,6 +33,7 @@ import re
 import shutil
 import subprocess
 import sys
+import tempfile
 import time
 
 ROOT = os.path.dirname(os.path.dirname(os.path.abspath(__file__)))
@@ -420,16 +421,14 @@ class Copy:
         self.crate, self.deps, self.root = crate, deps, f"{WORK}/work{worker}"
         self.home, self.own = kit()
         shutil.rmtree(f"{self.root}/crates", ignore_errors=True)
-        for folder in ("crates", "target/gen", "target/log", "tools", f"target/inc/{crate}"):
+        for folder in ("crates", "target/gen", "tools", f"target/inc/{crate}"):
             os.makedirs(f"{self.root}/{folder}", exist_ok=True)
         for name in deps:
             if name != crate:
                 os.symlink(f"{ROOT}/crates/{name}", f"{self.root}/crates/{name}")
-        for name in ("crates.txt", "target/rlib", "tools/hints"):
+        for name in ("crates.txt", "tools/hints"):
             if not os.path.lexists(f"{self.root}/{name}"):
                 os.symlink(f"{ROOT}/{name}", f"{self.root}/{name}")
-        if not os.path.exists(f"{self.root}/target/stamp"):
-            shutil.copytree(f"{ROOT}/target/stamp", f"{self.root}/target/stamp")
         self.dir = f"{self.root}/crates/{crate}"
         os.makedirs(self.dir)
         self.reset()
@@ -443,9 +442,9 @@ class Copy:
             elif os.path.isfile(original):
                 shutil.copy(original, copy)
 
-    def check(self, *words):
+    def rattle(self, verb, *words):
         main = f"{self.dir}/src/main.rt"
-        line = [f"{self.own}/bin/rattle", "check", "--crate-name", self.crate, main if os.path.exists(main) else f"{self.dir}/src/lib.rt",
+        line = [f"{self.own}/bin/rattle", verb, "--crate-name", self.crate, main if os.path.exists(main) else f"{self.dir}/src/lib.rt",
                 "--extern", f"std={self.own}/rlib/std.rlib"]
         for d in self.deps[self.crate]:
             line += ["--extern", f"{d}={ROOT}/target/rlib/{d}.rlib" if d in self.deps else f"{d}={self.own}/rlib/{d}.rlib"]
@@ -454,6 +453,40 @@ class Copy:
                  f"{self.root}/target/inc/{self.crate}", *words]
         done = subprocess.run(line, capture_output=True, text=True, cwd=self.root)
         return done.returncode, done.stdout + done.stderr
+
+    def check(self, *words):
+        return self.rattle("check", *words)
+
+    def runs_alike(self):
+        """Whether the program still writes what its file `stdout` has; and what happened. It runs as under `rt check`: over
+        a copy of its data, and as nobody where this is root."""
+        tools, room = f"{self.own}/toolchain", tempfile.mkdtemp()
+        try:
+            status, said = self.rattle("build", "--toolchain", tools, "-o", f"{room}/program.o")
+            if status:
+                return False, said[-160:]
+            subprocess.run([f"{self.own}/bin/rattle-link", "--target", "x86_64-unknown-linux-gnu", "--toolchain", tools, "-o", f"{room}/program",
+                            f"{room}/program.o", f"{self.home}/lib/libos_c.a"], check=True)
+            part = lambda name: open(f"{self.dir}/{name}", "rb").read() if os.path.isfile(f"{self.dir}/{name}") else b""
+            shutil.copytree(f"{self.dir}/data", f"{room}/data") if os.path.isdir(f"{self.dir}/data") else os.mkdir(f"{room}/data")
+            line = [f"{tools}/lib/ld-linux-x86-64.so.2", "--library-path", f"{tools}/lib", f"{room}/program", *part("args").decode().split("\n")]
+            if line[-1] == "":
+                line.pop()
+            if os.path.exists(f"{tools}/bin/qemu-x86_64"):
+                line.insert(0, f"{tools}/bin/qemu-x86_64")
+            if os.getuid() == 0:
+                subprocess.run(["chmod", "-R", "go+rX", room], check=True)
+                subprocess.run(["chown", "-R", "65534:65534", f"{room}/data"], check=True)
+                line = ["setpriv", "--reuid=65534", "--regid=65534", "--clear-groups", "--no-new-privs", *line]
+            try:
+                done = subprocess.run(line, input=part("stdin"), capture_output=True, cwd=f"{room}/data", timeout=120)
+            except subprocess.TimeoutExpired:
+                return False, "the program does not end"
+            if done.returncode:
+                return False, f"the program ends with status {done.returncode}"
+            return done.stdout == part("stdout"), "" if done.stdout == part("stdout") else "the program writes something else"
+        finally:
+            shutil.rmtree(room, ignore_errors=True)
 
 
 # The prover says that the proof names what is not there.
@@ -491,9 +524,9 @@ def verdict(status, said, crate, function=None, fresh=False):
         return "accepted", ""
     errors = re.findall(rf"^(\S*/proofs/(?:\S*/)?{function}/\S*?):(\d+):(\d+): error: (.*)", said, re.M)
     errors = [e for e in errors if FOLLOWS not in e[3]]
-    unfit = [e for e in errors if not of_goal(e[0], int(e[1]), int(e[2]), e[3], fresh)]
+    goals = [e for e in errors if of_goal(e[0], int(e[1]), int(e[2]), e[3], fresh)]
     if errors:
-        return ("fit", unfit[0][3][:160]) if unfit else ("fact", errors[0][3][:160])
+        return ("fact", goals[0][3][:160]) if goals else ("fit", errors[0][3][:160])
     if line and "it calls" in line[1]:
         return "calls", line[1][:160]
     return "fact", (line[1] if line else "")[:160]
@@ -506,7 +539,6 @@ class Prover:
         spec = importlib.util.spec_from_file_location("prove", f"{ROOT}/tools/prove.py")
         self.prove = importlib.util.module_from_spec(spec)
         spec.loader.exec_module(self.prove)
-        self.able = {}
 
     def write(self, copy, functions):
         """Writes the functions' proofs anew, where it can."""
@@ -538,23 +570,15 @@ class Prover:
             open(path, "w").write(text.rstrip("\n") + "\n")
         os.chdir(here)
 
-    def knows(self, copy, functions):
-        """Those of the functions of which it writes a proof, unchanged as they are."""
-        new = [f for f in functions if (copy.crate, f) not in self.able]
-        if new:
-            copy.reset()
-            self.write(copy, new)
-            status, said = copy.check()
-            for f in new:
-                self.able[copy.crate, f] = verdict(status, said, copy.crate, f)[0] == "accepted"
-        return [f for f in functions if self.able[copy.crate, f]]
-
-
-def runs_alike(copy):
-    """Whether the program that a copy holds still writes what its file `stdout` has."""
-    env = {**os.environ, "RT_JOBS": "1"}
-    done = subprocess.run(["rt", "check", copy.crate], cwd=copy.root, env=env, capture_output=True, text=True)
-    return done.returncode == 0, next((line for line in done.stdout.split("\n") if "FAILED" in line or "not what" in line), "")[:160]
+    def knows(self, copy, function):
+        """Whether it wrote the proof that the repository has: each part is one line, or there is a hint for it."""
+        hints, path = f"{ROOT}/tools/hints/{copy.crate}.toml", f"{ROOT}/crates/{copy.crate}/proofs/{function}/Proof.antt"
+        if os.path.exists(hints) and function in self.prove.tomllib.load(open(hints, "rb")):
+            return True
+        if not os.path.exists(path):
+            return True
+        parts = re.findall(r"^(?!pub |use |--|unfolding )[\w-]+(?: \S+)* = (.*)", open(path).read(), re.M)
+        return all(re.match(r"simp \(|refl$|search needs$|tie\.close", part) for part in parts if part)
 
 
 def change(copy, batch):
@@ -603,8 +627,7 @@ def try_batch(copy, prover, batch):
 
 def prove_anew(copy, prover, batch):
     """Sorts mutants of different functions whose proofs did not fit, with proofs written anew."""
-    able = set(prover.knows(copy, [m.function for m in batch]))
-    again = [m for m in batch if m.function in able]
+    again = [m for m in batch if prover.knows(copy, m.function)]
     done = [(m, "fit", "") for m in batch if m not in again]
     if again:
         change(copy, again)
@@ -625,7 +648,7 @@ def run_accepted(copy, done):
         for k, (m, sort, message) in enumerate(done):
             if sort == "accepted":
                 change(copy, [m])
-                alike, said = runs_alike(copy)
+                alike, said = copy.runs_alike()
                 done[k] = (m, "accepted" if alike else "run", said)
     return done
 
@@ -677,7 +700,6 @@ def run(args, crates, deps):
                 unfit += [r for r in done if r[1] == "fit"]
                 done = [r for r in done if r[1] != "fit"]
             else:
-                prover.knows(copy, list({m.function for m, _, _ in unfit}))
                 first = {m.function: (m, said) for m, _, said in reversed(unfit)}
                 done = [(m, sort, message or first[m.function][1]) for m, sort, message in prove_anew(copy, prover, [m for m, _ in first.values()])]
                 tried = {m.key for m, _, _ in done}
