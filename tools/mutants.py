@@ -502,7 +502,7 @@ def of_goal(path, line, column, message, fresh):
     or `simp`, `refl` or `search` do not close it. A proof that was just written (fresh) names the facts of the code."""
     if NAMES.search(message):
         return False
-    if "differ only where" in message:
+    if "computed as far as they go, the two types differ only where" in message:
         return True
     if STALE in message:
         return fresh
@@ -721,7 +721,8 @@ def reasons():
     if os.path.exists(path):
         for line in open(path):
             if line.strip() and not line.startswith("#"):
-                function, what, reason = (w.strip() for w in line.split(" | ", 2))
+                rest, reason = line.rstrip("\n").rsplit(" | ", 1)
+                function, what = rest.split(" | ", 1)
                 found[function.split("::")[-1], what] = reason
     return found
 
