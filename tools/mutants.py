@@ -2,7 +2,7 @@
 """Small wrong changes of the code, and whether the prover refuses them.
 
     tools/mutants.py list [--crate NAME..] [--each N] [--most N]
-    tools/mutants.py run PART/PARTS [--crate NAME..] [--each N] [--most N] [--jobs N] [--again]
+    tools/mutants.py run PART/PARTS [--crate NAME..] [--each N] [--most N] [--jobs N] [--again] [--later]
     tools/mutants.py table              writes the tables of docs/MUTANTS.md from the results
     tools/mutants.py edits [NAME..]     tries edits/CRATE/*.edit: each must be refused, or the exit status is 1
 
@@ -20,7 +20,8 @@ not count. The rest is sorted:
 --each N takes at most N mutants of a function and a rule, --most N at most N of a function, chosen by a hash, so the
 same ones each time. Part 2/5 is each fifth function from the second on. `run` appends a line for each mutant to
 target/mutants/results.jsonl and passes over what stands there; a mutant is known by its function's text before and after
-the change, so a function that moves keeps its results. After a definition changes, `run --again` tries all anew.
+the change, so a function that moves keeps its results. After a definition changes, `run --again` tries all anew. With
+--later no proof is written anew: a run without it does that for those that are left.
 
 It checks a copy of the crate below target/mutants over an incremental folder, some three seconds a mutant.
 """
@@ -684,8 +685,9 @@ def run(args, crates, deps):
     prover = Prover()
     for crate in crates:
         queues = [[m for m in group if m.key not in known] for group in work if group and group[0].crate == crate]
+        unfit = [(m, "unfit", known[m.key]["message"]) for group in work for m in group
+                 if m.crate == crate and m.key in known and known[m.key]["sort"] == "unfit" and not args.later]
         copy = None
-        unfit = []
         while any(queues) or unfit:
             if not copy:
                 copy = Copy(crate, deps, part)
@@ -697,8 +699,11 @@ def run(args, crates, deps):
                 done = try_batch(copy, prover, [q[0] for q in queues if q])
                 tried = {m.key for m, _, _ in done}
                 queues = [[m for m in q if m.key not in tried] for q in queues]
-                unfit += [r for r in done if r[1] == "fit"]
-                done = [r for r in done if r[1] != "fit"]
+                if args.later:
+                    done = [(m, "unfit" if sort == "fit" else sort, message) for m, sort, message in done]
+                else:
+                    unfit += [r for r in done if r[1] == "fit"]
+                    done = [r for r in done if r[1] != "fit"]
             else:
                 first = {m.function: (m, said) for m, _, said in reversed(unfit)}
                 done = [(m, sort, message or first[m.function][1]) for m, sort, message in prove_anew(copy, prover, [m for m, _ in first.values()])]
@@ -816,6 +821,7 @@ def main():
     parser.add_argument("--most", type=int, default=0)
     parser.add_argument("--jobs", type=int, default=1)
     parser.add_argument("--again", action="store_true")
+    parser.add_argument("--later", action="store_true")
     args = parser.parse_args()
     deps = listed_crates()
     unknown = [c for c in args.crate if c not in deps]
