@@ -737,10 +737,11 @@ def table(deps):
     current = {m.key: m for group in mutants(list(deps), 0, 0) for m in group}
     rows, accepted, left = {}, [], 0
     for key, r in known.items():
-        if key not in current or r["sort"] not in SORTS:
+        sort = "fit" if r["sort"] == "unfit" else r["sort"]
+        if key not in current or sort not in SORTS:
             continue
         m = current[key]
-        rows.setdefault(m.crate, dict.fromkeys(SORTS, 0))[r["sort"]] += 1
+        rows.setdefault(m.crate, dict.fromkeys(SORTS, 0))[sort] += 1
         if r["sort"] == "accepted":
             accepted.append(m)
     out = ["| crate | tried | fact | fact, new proof | fit | noticed by the run | accepted |", "|---|---|---|---|---|---|---|"]
