@@ -322,14 +322,13 @@ class Body:
             if whole_a and whole_b and not (a[0].text == "let" and b[0].text == "let"):
                 self.exchange("order", a, b)
         for i in range(start, end):
-            if ts[i].text == "{" and not self.literal(i) and self.outer(start, i):
-                self.block(i + 1, closing(ts, i)) if not self.is_match(i) else None
-        for i in range(start, end):
-            if ts[i].text == "{" and self.outer(start, i) and self.is_match(i):
-                close = closing(ts, i)
-                for j in range(i + 1, close):
-                    if ts[j].text == "{" and ts[j - 1].text == "=>":
-                        self.block(j + 1, closing(ts, j))
+            if ts[i].text == "{" and self.outer(start, i):
+                if self.is_match(i):
+                    for j in range(i + 1, closing(ts, i)):
+                        if ts[j].text == "{" and ts[j - 1].text == "=>":
+                            self.block(j + 1, closing(ts, j))
+                elif not self.literal(i):
+                    self.block(i + 1, closing(ts, i))
 
     def outer(self, start, i):
         """Whether the brace at i stands in no other brace since start."""
