@@ -662,12 +662,11 @@ def results():
     return found
 
 
-def ready(names, deps):
-    """Proves what the crates stand on."""
-    below = sorted({d for n in names for d in deps[n] if d in deps})
+def ready(names):
+    """Proves the crates as they are, and what they stand on: those that are proved are passed over."""
     env = {**os.environ, "RT_JOBS": os.environ.get("RT_JOBS", "1")}
-    if below and subprocess.run(["rt", "check", *below], cwd=ROOT, env=env, stdout=subprocess.DEVNULL).returncode:
-        sys.exit("tools/mutants.py: the crates below are not proved: rt check")
+    if names and subprocess.run(["rt", "check", *names], cwd=ROOT, env=env, stdout=subprocess.DEVNULL).returncode:
+        sys.exit("tools/mutants.py: not proved as it is: see rt check " + " ".join(names))
 
 
 def run(args, crates, deps):
@@ -680,7 +679,7 @@ def run(args, crates, deps):
     known = {} if args.again else results()
     work = [group for k, group in enumerate(mutants(crates, args.each, args.most)) if k % parts == part - 1]
     os.makedirs(WORK, exist_ok=True)
-    ready(sorted({group[0].crate for group in work if group}), deps)
+    ready(sorted({group[0].crate for group in work if group}))
     prover = Prover()
     for crate in crates:
         queues = [[m for m in group if m.key not in known] for group in work if group and group[0].crate == crate]
@@ -690,9 +689,6 @@ def run(args, crates, deps):
         while any(queues) or unfit:
             if not copy:
                 copy = Copy(crate, deps, part)
-                sort, message = verdict(*copy.check(), crate)
-                if sort != "accepted":
-                    sys.exit(f"tools/mutants.py: {crate} is not proved as it is: {message}")
             began = time.time()
             if any(queues):
                 done = try_batch(copy, prover, [q[0] for q in queues if q])
@@ -789,11 +785,9 @@ def edits(names, deps):
     gone = [c for c in crates if c not in deps]
     if gone:
         sys.exit(f"tools/mutants.py: edits/ has a folder of no crate: {' '.join(gone)}")
-    ready(crates, deps)
+    ready(crates)
     for crate in crates:
         copy = Copy(crate, deps, "-edits")
-        if verdict(*copy.check(), crate)[0] != "accepted":
-            sys.exit(f"tools/mutants.py: {crate} is not proved as it is")
         for file in sorted(f for f in os.listdir(f"{folder}/{crate}") if f.endswith(".edit")):
             began = time.time()
             copy.reset()
