@@ -13,7 +13,8 @@ not count. The rest is sorted:
 
     fact       a goal is not closed: the facts of the path fit, and the promise does not follow, or two values differ
     fact-new   the proof file did not fit the changed code; with a proof written anew by tools/prove.py, as `fact`
-    fit        the proof file did not fit, and tools/prove.py writes none: the proof is by hand
+    fit        the proof file did not fit, and tools/prove.py writes none that does
+    unfit      the proof file did not fit, and no new one was tried (--later); `left` in the table
     run        accepted, and the program then writes something else than its file `stdout`
     accepted   proved, by the proof as it is or by a new one. Each has its reason in tools/mutants.txt, or is open
 
@@ -40,7 +41,7 @@ import time
 ROOT = os.path.dirname(os.path.dirname(os.path.abspath(__file__)))
 WORK = f"{ROOT}/target/mutants"
 RESULTS = f"{WORK}/results.jsonl"
-SORTS = ("fact", "fact-new", "fit", "run", "accepted")
+SORTS = ("fact", "fact-new", "fit", "unfit", "run", "accepted")
 
 # ---- reading the code
 
@@ -355,7 +356,8 @@ class Mutant:
         self.place = (start, end, new)
         was = source[span[0]:span[1]]
         now = source[span[0]:start] + new + source[end:span[1]]
-        self.key = hashlib.sha256(f"{was}\0{now}".encode()).hexdigest()[:16]
+        run = crate if file == "main.rt" else ""  # a program's result is of its own run
+        self.key = hashlib.sha256(f"{run}{was}\0{now}".encode()).hexdigest()[:16]
 
     @property
     def name(self):
@@ -466,7 +468,7 @@ class Copy:
             if status:
                 return False, said[-160:]
             subprocess.run([f"{self.own}/bin/rattle-link", "--target", "x86_64-unknown-linux-gnu", "--toolchain", tools, "-o", f"{room}/program",
-                            f"{room}/program.o", f"{self.home}/lib/libos_c.a"], check=True)
+                            f"{room}/program.o", f"{self.home}/lib/libos_c.a"], check=True, capture_output=True)
             part = lambda name: open(f"{self.dir}/{name}", "rb").read() if os.path.isfile(f"{self.dir}/{name}") else b""
             shutil.copytree(f"{self.dir}/data", f"{room}/data") if os.path.isdir(f"{self.dir}/data") else os.mkdir(f"{room}/data")
             line = [f"{tools}/lib/ld-linux-x86-64.so.2", "--library-path", f"{tools}/lib", f"{room}/program", *part("args").decode().split("\n")]
@@ -732,14 +734,13 @@ def table(deps):
     current = {m.key: m for group in mutants(list(deps), 0, 0) for m in group}
     rows, accepted, left = {}, [], 0
     for key, r in known.items():
-        sort = "fit" if r["sort"] == "unfit" else r["sort"]
-        if key not in current or sort not in SORTS:
+        if key not in current or r["sort"] not in SORTS:
             continue
         m = current[key]
-        rows.setdefault(m.crate, dict.fromkeys(SORTS, 0))[sort] += 1
+        rows.setdefault(m.crate, dict.fromkeys(SORTS, 0))[r["sort"]] += 1
         if r["sort"] == "accepted":
             accepted.append(m)
-    out = ["| crate | tried | fact | fact, new proof | fit | noticed by the run | accepted |", "|---|---|---|---|---|---|---|"]
+    out = ["| crate | tried | fact | fact, new proof | fit | left | noticed by the run | accepted |", "|---|---|---|---|---|---|---|---|"]
     for crate in [c for c in deps if c in rows] + ["all"]:
         row = rows.get(crate) or {s: sum(r[s] for r in rows.values()) for s in SORTS}
         out.append(f"| {crate} | {sum(row.values())} | " + " | ".join(str(row[s]) for s in SORTS) + " |")
