@@ -504,7 +504,9 @@ def of_goal(path, line, column, message, fresh):
     or `simp`, `refl` or `search` do not close it. A proof that was just written (fresh) names the facts of the code."""
     if NAMES.search(message):
         return False
-    if "computed as far as they go, the two types differ only where" in message:
+    if re.search(r"computed as far as they go, the two types (differ only where|first differ where one has `\d+` \(expected\))", message):
+        return True
+    if "give a proof of that as the last argument" in message or "`omega`" in message:
         return True
     if STALE in message:
         return fresh
@@ -635,8 +637,7 @@ def prove_anew(copy, prover, batch):
         change(copy, again)
         prover.write(copy, [m.function for m in again])
         status, said = copy.check()
-        for m in again:
-            sort, message = verdict(status, said, copy.crate, m.function, True)
+        for m, sort, message in [(m, *verdict(status, said, copy.crate, m.function, True)) for m in again]:
             if sort == "calls" and len(again) > 1:
                 done += prove_anew(copy, prover, [m])
             else:
