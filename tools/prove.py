@@ -92,7 +92,7 @@ def facts(lts):
             if "Path" in kind[:12]:
                 if "{A = Nat.ℕ}" not in kind[:40]:
                     return [path]
-                return [("ne-eqb" if name == "left" else "eq-eqb") + f" _ _ ({path})"]
+                return [("ne-eqb" if "⊥" in kind else "eq-eqb") + f" _ _ ({path})"]
             if "_<_" in kind[:12]:
                 return [f"lt-ltb _ _ ({path})", f"lt-leb _ _ ({path})"]
             if "_≤_" in kind[:12]:
@@ -196,4 +196,5 @@ def main():
             print(line[:400])
 
 
-main()
+if __name__ == "__main__":
+    main()
