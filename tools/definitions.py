@@ -4,6 +4,7 @@
     tools/definitions.py make             the definitions alone, with the lists as equations over them; all must hold
     tools/definitions.py mutants          the wrong definitions, one to a line
     tools/definitions.py run [PART/PARTS] tries each that has no verdict yet
+    tools/definitions.py laws             holds those that nothing noticed to the laws of every specs/
     tools/definitions.py table            what noticed each
 
 A function is proved equal to its definition, so a wrong definition with a function that is wrong alike is accepted. What would
@@ -25,8 +26,8 @@ ROOT = os.path.dirname(os.path.dirname(os.path.abspath(__file__)))
 WORK = os.path.join(ROOT, 'target', 'definitions')
 SPECS = 'Rattle.d.specs.'
 # where a number is no definition's but an equation's
-SOURCES = ['Marked', 'Vectors', 'Listed', 'Rows', 'Published', 'Sound', 'Damaged']
-SECONDS = 120
+SOURCES = ['Marked', 'Further', 'Vectors', 'Listed', 'Rows', 'Published', 'Sound', 'Damaged']
+SECONDS = 200
 
 
 def read(path):
@@ -251,6 +252,7 @@ use {SPECS}{home(mods, 'viewOf')}.{{viewOf, outOf, replyWord}}
 use {SPECS}{home(mods, 'packOf')}.{{callBy, packOf}}
 use {SPECS}{home(mods, 'calledOf', 'Vcpu → HostCall')}.{{calledOf}}
 use {SPECS}{home(mods, 'newOf')}.{{newOf, printCount}}
+use {SPECS}{home(mods, 'startCall')}.{{answerCall, startCall}}
 use lib.ListN.{{getD, replicate, set}}
 ''' + HEAD + '''
 -- the 58 words of a record
@@ -265,6 +267,12 @@ shown o = replyWord (o .reply) ∷ (outOf (replicate 8 0) (o .reply) (o .args) +
 abbrev called : ℕ → List ℕ → List ℕ → List ℕ
 called k c r = shown (calledOf (viewOf r) (callBy k (getD c 0 0) (getD c 1 0) (getD c 2 0) (getD c 3 0) (getD c 4 0)))
 
+abbrev started : ℕ → List ℕ → List ℕ → List ℕ
+started k c r = shown (calledOf (viewOf r) (startCall c))
+
+abbrev answered : ℕ → List ℕ → List ℕ → List ℕ
+answered k c r = shown (calledOf (viewOf r) (answerCall c))
+
 abbrev printed : ℕ → List ℕ → List ℕ → List ℕ
 printed k c r = 0x41 ∷ (set (replicate 8 0) 0 (printCount (viewOf r .waiting)) ++ words (viewOf r))
 
@@ -273,7 +281,7 @@ fresh k c r = 0x40 ∷ (replicate 8 0 ++ words (newOf (getD c 0 0) (getD c 1 0))
 '''
     rows = []
     for before, call, code, out, after in traced():
-        made = {13: 'printed', 14: 'fresh'}.get(call[0], 'called')
+        made = {10: 'started', 11: 'answered', 13: 'printed', 14: 'fresh'}.get(call[0], 'called')
         rows.append(f'equal ({made} {call[0]} ({numerals(call[1:])}) ({numerals(before)})) ({numerals([code] + out + after)})')
     seeded = int(re.search(r'const CALLS: u64 = (\d+)', read(f'{ROOT}/host/tests/list.rs')).group(1))
     return together(text, rows[:seeded], 25), together(text, rows[seeded:], 25)
@@ -310,7 +318,7 @@ gave s (n ∷ l) = put (tookOf s n) (λ t. gave t l)
         given = [line.split('=') for line in read(f'{data}/{name}.replay').splitlines()]
         assert [k for k, _ in given] == ['exit', 'sepc', 'a0', 'a1'] * (len(given) // 4)
         rows.append(f'equal (gave begun ({numerals(int(n, 16) for _, n in lines)})) ({numerals(int(n, 16) for _, n in given)})')
-    return together(text, rows, 2)
+    return together(text, rows, 1)
 
 
 def whole(mods, names, skip):
@@ -358,8 +366,9 @@ def damaged():
     return sorted(f[:-8] for f in os.listdir(f'{ROOT}/crates/replays/data/damaged') if f.endswith('.capture'))
 
 
-def marked(mods):
-    module = next(m for m in mods.values() if re.search(r'^marked : ', m.text, re.M))
+def table_of(mods, name):
+    """A table of cases that stands in the repository, with every definition open."""
+    module = next(m for m in mods.values() if re.search(rf'^{name} : List Row', m.text, re.M))
     text = re.sub(r'^(?=[a-z]+ : (?!T ))', 'abbrev ', module.text, flags=re.M)
     return renamed(re.sub(r'^unfolding .*\n', '', re.sub(r'^unfoldable ', 'abbrev ', text, flags=re.M), flags=re.M))
 
@@ -382,7 +391,7 @@ def make():
     began = time.time()
     mods = modules()
     calls, rows = listed(mods)
-    equations = {'Marked': marked(mods), 'Vectors': vectors(mods), 'Listed': calls, 'Rows': rows, 'Published': published(mods), 'Sound': whole(mods, ['sound'], False)}
+    equations = {'Marked': table_of(mods, 'marked'), 'Further': table_of(mods, 'further'), 'Vectors': vectors(mods), 'Listed': calls, 'Rows': rows, 'Published': published(mods), 'Sound': whole(mods, ['sound'], False)}
     used = reached(mods, equations.values())
     shutil.rmtree(f'{WORK}/crate', ignore_errors=True)
     write(f'{WORK}/crate/src/lib.rt', declared()[0])
@@ -778,13 +787,13 @@ def attempt(module, changed, sources, part):
         shutil.rmtree(f'{WORK}/{folder}', ignore_errors=True)
         shutil.copytree(f'{WORK}/{origin}', f'{WORK}/{folder}')
     write(f'{WORK}/{crate}/specs/{module.short}.antt', opened(module, changed))
-    if 'Damaged' in sources:
-        shutil.copy(f'{WORK}/Damaged.antt', f'{WORK}/{crate}/specs/Damaged.antt')
-        lib = ''.join(f'pub mod {n}\n' for n in re.findall(r'pub mod (\w+)', read(f'{WORK}/{crate}/specs/Lib.antt')) if n not in SOURCES)
-        write(f'{WORK}/{crate}/specs/Lib.antt', lib + 'pub mod Damaged\n')
-        for name in SOURCES[:-1]:
+    shutil.copy(f'{WORK}/Damaged.antt', f'{WORK}/{crate}/specs/Damaged.antt')
+    for name in SOURCES:
+        if name not in sources:
             os.remove(f'{WORK}/{crate}/specs/{name}.antt')
-    said = check(inc, crate, 600 if 'Damaged' in sources else SECONDS)
+    names = [n for n in re.findall(r'pub mod (\w+)', read(f'{WORK}/{crate}/specs/Lib.antt')) if n not in SOURCES]
+    write(f'{WORK}/{crate}/specs/Lib.antt', ''.join(f'pub mod {n}\n' for n in names + sources))
+    said = check(inc, crate)
     failed = errors(said)
     if any(m not in SOURCES for m in failed):
         return None, 'refused'
@@ -807,7 +816,7 @@ def run(part, parts):
             if turn >= wanted:
                 continue
             for c in of:
-                title = f'{module.crate}/{module.name}:{c[2]} {name}: {c[1]}: {c[3]} → {c[4]}'
+                title = titled(module, name, c)
                 v = done.get(title) or judged(module, name, c, title, part)
                 if title not in done:
                     with open(path, 'a', encoding='utf-8') as f:
@@ -819,12 +828,100 @@ def run(part, parts):
 
 def judged(module, name, c, title, part):
     began = time.time()
-    failed, why = attempt(module, c[5], SOURCES[:-1], part)
-    # a definition that calls rest on is not seen better in a damaged capture
-    if failed == {} and module.short not in read(f'{WORK}/calls').split():
+    # a definition that calls rest on is not seen better in a capture's bytes
+    calls = module.short in read(f'{WORK}/calls').split()
+    failed, why = attempt(module, c[5], SOURCES[:-2] if calls else SOURCES[:-1], part)
+    if failed == {} and not calls:
         failed, why = attempt(module, c[5], ['Damaged'], part)
     return dict(name=title, crate=module.crate, module=module.name, definition=name, rule=c[1], why=why,
                 failed=failed if failed is None else {k: n[:20] for k, n in failed.items()}, seconds=round(time.time() - began, 1))
+
+
+# ---- the laws
+
+def make_laws():
+    """target/definitions/laws: every file of every specs/ as it is, definitions and laws, and what its check left to load."""
+    shutil.rmtree(f'{WORK}/laws', ignore_errors=True)
+    shutil.rmtree(f'{WORK}/laws-clean', ignore_errors=True)
+    mods = modules().values()
+    write(f'{WORK}/laws/src/lib.rt', declared()[0])
+    for m in mods:
+        write(f'{WORK}/laws/specs/{m.short}.antt', renamed(m.text))
+    write(f'{WORK}/laws/specs/Lib.antt', ''.join(f'pub mod {m.short}\n' for m in mods))
+    began = time.time()
+    said = check('laws-clean', 'laws', 1200)
+    print(said[-1][:200], f'({time.time() - began:.0f} s)')
+    if 'logic=proved' not in '\n'.join(said):
+        print('\n'.join([line[:300] for line in said if 'error' in line][:5]))
+        raise SystemExit(1)
+
+
+def laws():
+    """Holds the mutants that no equation notices to the laws."""
+    if not os.path.exists(f'{WORK}/laws-clean'):
+        make_laws()
+    path = f'{WORK}/verdicts.laws'
+    done = {json.loads(line)['name'] for line in read(path).splitlines()} if os.path.exists(path) else set()
+    unseen = {v['name'] for v in verdicts() if v['failed'] == {}}
+    for module, name, of in plan():
+        for c in of:
+            title = titled(module, name, c)
+            if title not in unseen or title in done:
+                continue
+            began = time.time()
+            for folder, origin in [('laws.0', 'laws'), ('laws-inc', 'laws-clean')]:
+                shutil.rmtree(f'{WORK}/{folder}', ignore_errors=True)
+                shutil.copytree(f'{WORK}/{origin}', f'{WORK}/{folder}')
+            write(f'{WORK}/laws.0/specs/{module.short}.antt', renamed(c[5]))
+            said = check('laws-inc', 'laws.0', 900)
+            v = dict(name=title, laws={k: n[:3] for k, n in errors(said).items()}, said=said[-1][:80], seconds=round(time.time() - began, 1))
+            with open(path, 'a', encoding='utf-8') as f:
+                f.write(json.dumps(v, ensure_ascii=False) + '\n')
+            print(v['seconds'], title[:140], '|', v['laws'] or v['said'], flush=True)
+
+
+# ---- the table
+
+def titled(module, name, c):
+    return f'{module.crate}/{module.name}:{c[2]} {name}: {c[1]}: {c[3]} → {c[4]}'
+
+
+def verdicts():
+    """The verdicts of every part, each of a mutant that was taken."""
+    found = {}
+    for name in sorted(os.listdir(WORK)):
+        if re.fullmatch(r'verdicts\.\d+', name):
+            for line in read(f'{WORK}/{name}').splitlines():
+                v = json.loads(line)
+                if v['failed'] is not None:
+                    found[v['name']] = v
+    return list(found.values())
+
+
+def table():
+    path = f'{WORK}/verdicts.laws'
+    lawful = {v['name']: v['laws'] for v in map(json.loads, read(path).splitlines())} if os.path.exists(path) else {}
+    columns = [('mutants', lambda v: True), ('marked cases', lambda v: 'Marked' in v['failed']), ('further cases', lambda v: 'Further' in v['failed']), ('vectors', lambda v: 'Vectors' in v['failed']),
+               ('list', lambda v: {'Listed', 'Rows'} & set(v['failed'])), ('captures', lambda v: {'Published', 'Sound', 'Damaged'} & set(v['failed'])),
+               ('what was added alone', lambda v: v['failed'] and not set(v['failed']) - {'Rows', 'Further'}),
+               ('a law alone', lambda v: not v['failed'] and lawful.get(v['name'])), ('none', lambda v: not v['failed'] and not lawful.get(v['name']))]
+    all_of = verdicts()
+    print('| crate | ' + ' | '.join(c for c, _ in columns) + ' |')
+    print('|---' * (len(columns) + 1) + '|')
+    for crate in crates():
+        of = [v for v in all_of if v['crate'] == crate]
+        if of:
+            print(f'| {crate} | ' + ' | '.join(str(sum(bool(test(v)) for v in of)) for _, test in columns) + ' |')
+    print('| all | ' + ' | '.join(str(sum(bool(test(v)) for v in all_of)) for _, test in columns) + ' |')
+    print()
+    rules = {}
+    for v in all_of:
+        rules[v['rule']] = rules.get(v['rule'], 0) + 1
+    print(', '.join(f'{r} {n}' for r, n in sorted(rules.items(), key=lambda x: -x[1])))
+    print(len({(v['crate'], v['module'], v['definition']) for v in all_of}), 'definitions')
+    for v in all_of:
+        if not v['failed']:
+            print(v['name'], '|', 'law: ' + ', '.join(lawful[v['name']]) if lawful.get(v['name']) else 'none')
 
 
 def main():
@@ -834,10 +931,14 @@ def main():
     elif words == ['mutants']:
         for module, name, of in plan():
             for c in of[:share(len(of))]:
-                print(f'{module.crate}/{module.name}:{c[2]} {name}: {c[1]}: {c[3]} → {c[4]}')
+                print(titled(module, name, c))
     elif words[:1] == ['run']:
         part, parts = map(int, (words[1:] or ['1/1'])[0].split('/'))
         run(part - 1, parts)
+    elif words == ['laws']:
+        laws()
+    elif words == ['table']:
+        table()
     else:
         raise SystemExit(__doc__)
 
