@@ -6,6 +6,7 @@
     tools/definitions.py run [PART/PARTS] tries each that has no verdict yet
     tools/definitions.py laws             holds those that nothing noticed to the laws of every specs/
     tools/definitions.py table            what noticed each
+    tools/definitions.py listed           writes crates/listed, which holds the definitions to some of the lists in the gate
 
 A function is proved equal to its definition, so a wrong definition with a function that is wrong alike is accepted. What would
 notice it comes from outside: document 01's marked cases, the vectors, the fixed list of calls and the stored captures. Here each
@@ -167,7 +168,8 @@ def hexes(line):
     return [int(w, 16) for w in line.split()]
 
 
-def vectors(mods):
+def vectors(mods, every=1, size=1):
+    """The vectors, or every so many of each list."""
     fetched, decode = home(mods, 'fetchedOf', 'ℕ → Trapped'), home(mods, 'decodeOf')
     text = f'''use {SPECS}{home(mods, 'widthBytes')}.{{widthBytes}}
 use {SPECS}declared.Width.the-variants as width
@@ -195,6 +197,7 @@ trappedNumber trapped.Pseudo = 0x1000000
 trappedNumber trapped.Unfit = 0x2000000
 trappedNumber (trapped.Instruction op n) = 0x3000000 + n * 0x100000 + decodedNumber op
 
+-- inputs, each with the answer behind it
 abbrev all : (ℕ → ℕ) → List ℕ → Bool
 all f [] = true
 all f (n ∷ []) = false
@@ -211,9 +214,9 @@ all f (n ∷ m ∷ l) = both (eqb (f n) m) (all f l)
     assert sorted(tasks) == sorted(os.listdir(data))
     rows = []
     for name, task in tasks.items():
-        lines = [hexes(line) for line in read(f'{data}/{name}').splitlines()]
+        lines = [hexes(line) for line in read(f'{data}/{name}').splitlines()][::every]
         rows += [f'all ({task}) ({numerals(w for line in lines[i:i + 300] for w in line)})' for i in range(0, len(lines), 300)]
-    return together(text, rows, 1)
+    return together(text, rows, size)
 
 
 def summed(words):
@@ -244,9 +247,8 @@ def traced():
         yield before, made, code, out, after
 
 
-def listed(mods):
-    """The calls by the seed, and the rows behind them."""
-    text = f'''use {SPECS}declared.Vcpu.{{Vcpu}}
+def listed_head(mods):
+    return f'''use {SPECS}declared.Vcpu.{{Vcpu}}
 use {SPECS}declared.Outcome.{{Outcome}}
 use {SPECS}{home(mods, 'viewOf')}.{{viewOf, outOf, replyWord}}
 use {SPECS}{home(mods, 'packOf')}.{{callBy, packOf}}
@@ -279,19 +281,29 @@ printed k c r = 0x41 ∷ (set (replicate 8 0) 0 (printCount (viewOf r .waiting))
 abbrev fresh : ℕ → List ℕ → List ℕ → List ℕ
 fresh k c r = 0x40 ∷ (replicate 8 0 ++ words (newOf (getD c 0 0) (getD c 1 0)))
 '''
-    rows = []
+
+
+MADE = {10: 'started', 11: 'answered', 13: 'printed', 14: 'fresh'}
+
+
+def seeded():
+    return int(re.search(r'const CALLS: u64 = (\d+)', read(f'{ROOT}/host/tests/list.rs')).group(1))
+
+
+def listed(mods):
+    """The calls by the seed, and the rows behind them."""
+    text, rows = listed_head(mods), []
     for before, call, code, out, after in traced():
-        made = {10: 'started', 11: 'answered', 13: 'printed', 14: 'fresh'}.get(call[0], 'called')
+        made = MADE.get(call[0], 'called')
         rows.append(f'equal ({made} {call[0]} ({numerals(call[1:])}) ({numerals(before)})) ({numerals([code] + out + after)})')
-    seeded = int(re.search(r'const CALLS: u64 = (\d+)', read(f'{ROOT}/host/tests/list.rs')).group(1))
-    return together(text, rows[:seeded], 25), together(text, rows[seeded:], 25)
+    return together(text, rows[:seeded()], 25), together(text, rows[seeded():], 25)
 
 
 KEYS = ['sepc', 'vstimecmp'] + [f'x{i:02}' for i in range(1, 32)]
 
 
-def published(mods):
-    """Each stored capture of the published Rust, by the numbers of its lines."""
+def published(mods, traps=None, size=1):
+    """Each stored capture of the published Rust, or its first traps, by the numbers of its lines."""
     text = f'''use {SPECS}declared.State.{{State}}
 use {SPECS}declared.Step.{{Step}}
 use {SPECS}declared.Gives.{{Gives}}
@@ -317,8 +329,11 @@ gave s (n ∷ l) = put (tookOf s n) (λ t. gave t l)
         assert [k for k, _ in lines[:33]] == KEYS
         given = [line.split('=') for line in read(f'{data}/{name}.replay').splitlines()]
         assert [k for k, _ in given] == ['exit', 'sepc', 'a0', 'a1'] * (len(given) // 4)
+        starts = [i for i, (k, _) in enumerate(lines) if k == 'scause'] + [len(lines)]
+        if traps and traps < len(starts):
+            lines, given = lines[:starts[traps]], given[:4 * traps]
         rows.append(f'equal (gave begun ({numerals(int(n, 16) for _, n in lines)})) ({numerals(int(n, 16) for _, n in given)})')
-    return together(text, rows, 1)
+    return together(text, rows, size)
 
 
 def whole(mods, names, skip):
@@ -423,6 +438,72 @@ def check(inc, crate='crate', seconds=SECONDS):
     except subprocess.TimeoutExpired:
         return ['no answer']
     return ran.stdout.decode('utf-8', 'replace').splitlines()
+
+
+# ---- the crate that stands in the gate
+
+def rows_of(mods):
+    """The rows of the list: each a call on a record whose words are all different, but for those named."""
+    calls = [(b, c, n, o, a) for b, c, n, o, a in traced()][seeded():]
+    # the words that most records before a row have
+    base = [max(set(w), key=w.count) for w in zip(*(b for b, *_ in calls))]
+    text = listed_head(mods) + f"""
+-- a record whose words are all different
+abbrev spread : List ℕ
+spread = {numerals(base)}
+
+-- places of the record, each with the word that stands there
+abbrev put : List ℕ → List ℕ → List ℕ
+put r [] = r
+put r (i ∷ []) = []
+put r (i ∷ w ∷ l) = put (set r i w) l
+
+-- a call on the record with some words put: the word returned, the words given, and what it changes
+abbrev gives : (List ℕ → List ℕ) → List ℕ → ℕ → List ℕ → List ℕ → Bool
+gives call before code out after = equal (call (put spread before)) (code ∷ (put (replicate 8 0) out ++ put (put spread before) after))
+"""
+
+    def places(old, new):
+        return '(' + numerals(w for i, (x, y) in enumerate(zip(old, new)) if x != y for w in (i, hex(y) if y > 9 else y)) + ')'
+    rows = []
+    for before, call, code, out, after in calls:
+        numbers = [hex(w) if w > 9 else w for w in call[1:]]
+        rows.append(f'gives ({MADE.get(call[0], "called")} {call[0]} ({numerals(numbers)})) {places(base, before)} {hex(code)} {places([0] * 8, out)} {places(before, after)}')
+    return together(text, rows, len(rows))
+
+
+def housed(mods, text):
+    """Equations over the repository's own crates, each with every definition named on its `unfolding` line."""
+    short = {m.short: m for m in mods.values()}
+    homes = {}
+    for crate in crates():
+        path = f'{ROOT}/crates/{crate}/src/lib.rt'
+        for name in re.findall(r'^pub (?:struct|enum) (\w+)', read(path), re.M) if os.path.exists(path) else []:
+            homes[name] = crate
+    used = reached(mods, [text])
+    text = re.sub(re.escape(SPECS) + r'declared\.(\w+)', lambda m: f'Rattle.{homes[m.group(1)]}.specs.declared.{m.group(1)}', text)
+    text = re.sub(re.escape(SPECS) + r'(\w+)', lambda m: f'Rattle.{short[m.group(1)].crate}.specs.{short[m.group(1)].name}', text)
+    names, lines = [], ''
+    for m in used:
+        own = [b[3] for b in m.blocks() if b[2] == 'unfoldable']
+        if own:
+            alias = 'the' + m.short
+            lines += f'use Rattle.{m.crate}.specs.{m.name} as {alias}\n'
+            names += [f'{alias}.{n}' for n in own]
+    text = re.sub(r'^(rows-\d+ : .*\n)', lambda m: m.group(1) + 'unfolding ' + ' '.join(names) + '\n', text, flags=re.M)
+    return lines + text
+
+
+def write_listed():
+    """crates/listed: the rows of the list, and some of the vectors and captures, for the gate."""
+    mods = {k: m for k, m in modules().items() if k[0] != 'listed' or k[1] == 'Further'}
+    about = {'Rows': ('The rows of the fixed list of calls (docs/CALLS.md): what the definitions give on each. The plain Rust program of document 01 says what is right.', rows_of(mods)),
+             'Vectors': ('Every fortieth of the vectors (docs/VECTORS.md): what the definitions give. objdump and qemu say what is right.', vectors(mods, 40, 10 ** 6)),
+             'Captures': ('The first four traps of each stored capture of the published Rust (docs/CAPTURES.md), by the numbers of its lines.', published(mods, 4, 10 ** 6))}
+    folder = f'{ROOT}/crates/listed/specs'
+    for name, (said, text) in about.items():
+        write(f'{folder}/{name}.antt', f'-- {said}\n-- tools/definitions.py listed writes this file.\n' + housed(mods, text))
+    write(f'{folder}/Lib.antt', ''.join(f'pub mod {n}\n' for n in ['Further', *about]))
 
 
 # ---- the mutants
@@ -935,6 +1016,8 @@ def main():
     elif words[:1] == ['run']:
         part, parts = map(int, (words[1:] or ['1/1'])[0].split('/'))
         run(part - 1, parts)
+    elif words == ['listed']:
+        write_listed()
     elif words == ['laws']:
         laws()
     elif words == ['table']:
