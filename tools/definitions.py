@@ -25,8 +25,9 @@ import time
 
 ROOT = os.path.dirname(os.path.dirname(os.path.abspath(__file__)))
 WORK = os.path.join(ROOT, 'target', 'definitions')
+# the scratch crate is named d
 SPECS = 'Rattle.d.specs.'
-# where a number is no definition's but an equation's
+# the files of equations
 SOURCES = ['Marked', 'Further', 'Vectors', 'Listed', 'Rows', 'Published', 'Sound', 'Damaged']
 SECONDS = 200
 
@@ -132,10 +133,10 @@ def opened(module, text=None):
     return renamed(re.sub(r'^unfoldable ', 'abbrev ', text, flags=re.M))
 
 
-HEAD = '''use Prim.Native.Nat.{ℕ, _+_, _*_, _%_, _^_}
+HEAD = '''use Prim.Native.Nat.{ℕ, _+_, _-_, _*_, _%_, _^_}
 use mathlib.Core.Bool.{Bool, true, false}
 use mathlib.Core.List.{List, [], _∷_, _++_}
-use lib.Dec.{eqb, T}
+use lib.Dec.{eqb, ltb, T}
 
 abbrev both : Bool → Bool → Bool
 both true b = b
@@ -250,20 +251,56 @@ def traced():
 def listed_head(mods):
     return f'''use {SPECS}declared.Vcpu.{{Vcpu}}
 use {SPECS}declared.Outcome.{{Outcome}}
-use {SPECS}{home(mods, 'viewOf')}.{{viewOf, outOf, replyWord}}
-use {SPECS}{home(mods, 'packOf')}.{{callBy, packOf}}
+use {SPECS}{home(mods, 'viewOf')}.{{recordOf, viewOf, outOf, replyWord}}
+use {SPECS}declared.After.{{After}}
+use {SPECS}{home(mods, 'packOf')}.{{callBy, exportedOf, packOf}}
 use {SPECS}{home(mods, 'calledOf', 'Vcpu → HostCall')}.{{calledOf}}
 use {SPECS}{home(mods, 'newOf')}.{{newOf, printCount}}
 use {SPECS}{home(mods, 'startCall')}.{{answerCall, startCall}}
-use lib.ListN.{{getD, replicate, set}}
+use lib.ListN.{{drop, getD, replicate, set}}
 ''' + HEAD + '''
 -- the 58 words of a record
 abbrev words : Vcpu → List ℕ
 words v = packOf v .x ++ (packOf v .csrs ++ (packOf v .counts ++ packOf v .waiting))
 
--- the word returned, the eight words given, the record after it
+-- the word returned, the eight words given, the array beside the reply, the record after it
 abbrev shown : Outcome → List ℕ
-shown o = replyWord (o .reply) ∷ (outOf (replicate 8 0) (o .reply) (o .args) ++ words (o .vcpu))
+shown o = replyWord (o .reply) ∷ (outOf (replicate 8 0) (o .reply) (o .args) ++ (o .args ++ words (o .vcpu)))
+
+-- 01: a hypercall's array stands beside the exit and is all 0 beside any other
+abbrev beside : Bool → List ℕ → List ℕ
+beside true out = drop 2 out
+beside false out = replicate 6 0
+
+-- what a line says
+abbrev wanted : ℕ → List ℕ → List ℕ → List ℕ
+wanted code out after = code ∷ (out ++ (beside (eqb code 6) out ++ after))
+
+-- the same through the words of the exported entry: a reply's kind and number, its values, the array, the record
+abbrev reported : After → List ℕ
+reported a =
+    a .reply .kind ∷ a .reply .number
+    ∷ (a .reply .values ++ (a .reply .args ++ (a .rec .x ++ (a .rec .csrs ++ (a .rec .counts ++ a .rec .waiting)))))
+
+abbrev exported : ℕ → List ℕ → List ℕ → List ℕ
+exported k c r = reported (exportedOf (recordOf r) (record { kind = k; numbers = c }))
+
+abbrev choose : {A : Type 0} → Bool → A → A → A
+choose true a b = a
+choose false a b = b
+
+-- exits are 0, asks 1, done 2, a value 3, errors 4
+abbrev kindOf : ℕ → ℕ
+kindOf n = choose (ltb n 0x20) 0 (choose (ltb n 0x40) 1 (choose (ltb n 0x41) 2 (choose (ltb n 0x100) 3 4)))
+
+abbrev numberOf : ℕ → ℕ
+numberOf n = choose (ltb n 0x40) (n % 0x20) (choose (ltb n 0x100) 0 (n - 0x100))
+
+-- a hypercall's arguments are not among its values
+abbrev told : ℕ → List ℕ → List ℕ → List ℕ
+told code out after =
+    kindOf code ∷ numberOf code
+    ∷ (choose (eqb code 6) (getD out 0 0 ∷ replicate 7 0) out ++ (beside (eqb code 6) out ++ after))
 
 -- the entry's call, the count to print, and a new record
 abbrev called : ℕ → List ℕ → List ℕ → List ℕ
@@ -276,10 +313,10 @@ abbrev answered : ℕ → List ℕ → List ℕ → List ℕ
 answered k c r = shown (calledOf (viewOf r) (answerCall c))
 
 abbrev printed : ℕ → List ℕ → List ℕ → List ℕ
-printed k c r = 0x41 ∷ (set (replicate 8 0) 0 (printCount (viewOf r .waiting)) ++ words (viewOf r))
+printed k c r = wanted 0x41 (set (replicate 8 0) 0 (printCount (viewOf r .waiting))) (words (viewOf r))
 
 abbrev fresh : ℕ → List ℕ → List ℕ → List ℕ
-fresh k c r = 0x40 ∷ (replicate 8 0 ++ words (newOf (getD c 0 0) (getD c 1 0)))
+fresh k c r = wanted 0x40 (replicate 8 0) (words (newOf (getD c 0 0) (getD c 1 0)))
 '''
 
 
@@ -295,7 +332,11 @@ def listed(mods):
     text, rows = listed_head(mods), []
     for before, call, code, out, after in traced():
         made = MADE.get(call[0], 'called')
-        rows.append(f'equal ({made} {call[0]} ({numerals(call[1:])}) ({numerals(before)})) ({numerals([code] + out + after)})')
+        row = f'equal ({made} {call[0]} ({numerals(call[1:])}) ({numerals(before)})) (wanted {code} ({numerals(out)}) ({numerals(after)}))'
+        if len(rows) >= seeded() and call[0] <= 12:
+            more = f'equal (exported {call[0]} ({numerals(call[1:])}) ({numerals(before)})) (told {code} ({numerals(out)}) ({numerals(after)}))'
+            row = f'both ({row}) ({more})'
+        rows.append(row)
     return together(text, rows[:seeded()], 25), together(text, rows[seeded():], 25)
 
 
@@ -460,7 +501,13 @@ put r (i ∷ w ∷ l) = put (set r i w) l
 
 -- a call on the record with some words put: the word returned, the words given, and what it changes
 abbrev gives : (List ℕ → List ℕ) → List ℕ → ℕ → List ℕ → List ℕ → Bool
-gives call before code out after = equal (call (put spread before)) (code ∷ (put (replicate 8 0) out ++ put (put spread before) after))
+gives call before code out after = equal (call (put spread before)) (wanted code (put (replicate 8 0) out) (put (put spread before) after))
+
+-- the same, of the exported entry too
+abbrev calls : (ℕ → List ℕ → List ℕ → List ℕ) → ℕ → List ℕ → List ℕ → ℕ → List ℕ → List ℕ → Bool
+calls call kind numbers before code out after =
+    both (gives (call kind numbers) before code out after)
+    (equal (exported kind numbers (put spread before)) (told code (put (replicate 8 0) out) (put (put spread before) after)))
 """
 
     def places(old, new):
@@ -468,7 +515,8 @@ gives call before code out after = equal (call (put spread before)) (code ∷ (p
     rows = []
     for before, call, code, out, after in calls:
         numbers = [hex(w) if w > 9 else w for w in call[1:]]
-        rows.append(f'gives ({MADE.get(call[0], "called")} {call[0]} ({numerals(numbers)})) {places(base, before)} {hex(code)} {places([0] * 8, out)} {places(before, after)}')
+        made = f'{MADE.get(call[0], "called")} {call[0]} ({numerals(numbers)})'
+        rows.append(f'{f"gives ({made})" if call[0] > 12 else "calls " + made} {places(base, before)} {hex(code)} {places([0] * 8, out)} {places(before, after)}')
     return together(text, rows, len(rows))
 
 

@@ -134,6 +134,24 @@ fn rows() -> Vec<(Vec<(usize, u64)>, Call)> {
             row(&[(54, 1), (55, rd), (56, width), (57, signed)], &[12, number]);
         }
     }
+    // The host's calls while a load or an ask waits: 2 goes before 1.
+    for kind in [1, 5, 12] {
+        let waits = [(54, kind), (55, 5), (56, 4), (57, 1)];
+        row(&waits, &[2, 0x8020_0000]);
+        for index in [7, 40] {
+            row(&waits, &[3, index]);
+            row(&waits, &[4, index, 7]);
+        }
+        row(&waits, &[5, 9]);
+        row(&waits, &[6, 3, 8, 0x8000_4000]);
+        row(&waits, &[6, 2, 8, 0x8000_4000]);
+        row(&waits, &[7, TOP + 1, 1]);
+        row(&waits, &[7, 3, 1]);
+        row(&waits, &[8, 0x404]);
+        row(&waits, &[9, 0, 1]);
+        row(&waits, &[9, 1, 1]);
+        row(&waits, &[14, 5, 6]);
+    }
     rows
 }
 

@@ -30,10 +30,10 @@ use Rattle.steps.specs.declared.Step.{Step}
 use Rattle.steps.specs.declared.Gives.{Gives}
 use Rattle.steps.specs.declared.Gives.the-variants as gives
 use Rattle.order.specs.Order.{begun, endOf, tookOf}
-use Prim.Native.Nat.{ℕ, _+_, _*_, _%_, _^_}
+use Prim.Native.Nat.{ℕ, _+_, _-_, _*_, _%_, _^_}
 use mathlib.Core.Bool.{Bool, true, false}
 use mathlib.Core.List.{List, [], _∷_, _++_}
-use lib.Dec.{eqb, T}
+use lib.Dec.{eqb, ltb, T}
 
 abbrev both : Bool → Bool → Bool
 both true b = b

@@ -14,10 +14,10 @@ use Rattle.decoder.specs.declared.Trapped.the-variants as trapped
 use Rattle.decoder.specs.Decode.{decodeOf}
 use Rattle.decoder.specs.Length.{fetchedOf, htinstOf}
 use Rattle.extension.specs.Extend.{cutOf, extendOf}
-use Prim.Native.Nat.{ℕ, _+_, _*_, _%_, _^_}
+use Prim.Native.Nat.{ℕ, _+_, _-_, _*_, _%_, _^_}
 use mathlib.Core.Bool.{Bool, true, false}
 use mathlib.Core.List.{List, [], _∷_, _++_}
-use lib.Dec.{eqb, T}
+use lib.Dec.{eqb, ltb, T}
 
 abbrev both : Bool → Bool → Bool
 both true b = b
