@@ -972,7 +972,8 @@ def make_laws():
     """target/definitions/laws: every file of every specs/ as it is, definitions and laws, and what its check left to load."""
     shutil.rmtree(f'{WORK}/laws', ignore_errors=True)
     shutil.rmtree(f'{WORK}/laws-clean', ignore_errors=True)
-    mods = modules().values()
+    # a program's own types are not declared here, and a table of cases is no law
+    mods = [m for m in modules().values() if os.path.exists(f'{ROOT}/crates/{m.crate}/src/lib.rt') and not re.search(r'^\w+ : List Row|^rows-', m.text, re.M)]
     write(f'{WORK}/laws/src/lib.rt', declared()[0])
     for m in mods:
         write(f'{WORK}/laws/specs/{m.short}.antt', renamed(m.text))
