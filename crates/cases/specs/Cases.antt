@@ -12,7 +12,6 @@ use Rattle.types.specs.declared.Fetch.the-variants as fetch
 use Rattle.types.specs.declared.Reply.{Reply}
 use Rattle.types.specs.declared.Reply.the-variants as reply
 use Rattle.types.specs.declared.Trap.{Trap}
-use Rattle.consts.specs.Sbi.{eidTime}
 use Rattle.consts.specs.Traps.{knownCause, knownException, knownInterrupt}
 use Rattle.registers.specs.Bits.{sieOf, spvpOf, withBits}
 use Rattle.registers.specs.Values.{guestPageFaultAddr, hgatpOf}
@@ -122,7 +121,7 @@ row g w = record { got = g; wanted = w }
 marked : List Row
 marked =
     -- 1. TIME, a0 = 5, sepc 2^64 - 4: vstimecmp 5, sepc 0
-    row (shown (startOf (base (2 ^ 64 - 4) 7 (ecall eidTime 5)) (trap 10 0 0 0))) (0 ∷ 5 ∷ 0 ∷ 0 ∷ 0 ∷ 0 ∷ [])
+    row (shown (startOf (base (2 ^ 64 - 4) 7 (ecall 0x5449_4D45 5)) (trap 10 0 0 0))) (0 ∷ 5 ∷ 0 ∷ 0 ∷ 0 ∷ 0 ∷ [])
     -- 2. legacy 6: a0 kept
     ∷ row (register (startOf (base 0x1000 7 (ecall 6 77)) (trap 10 0 0 0)) 10 ∷ []) (77 ∷ [])
     -- 3. legacy 8: SystemDown

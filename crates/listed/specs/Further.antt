@@ -1,0 +1,153 @@
+-- What no list runs, by document 01's own words and the numbers of the published Rust: one table, computed by the checker.
+use Prim.Native.Nat.{ℕ, _+_}
+use mathlib.Core.Bool.{Bool, true, false}
+use mathlib.Core.List.{List, [], _∷_, _++_}
+use lib.Dec.{eqb, T}
+use lib.ListN.{replicate}
+use Rattle.types.specs.Pick.{and}
+use Rattle.types.specs.Numbers.{abiNumber, accessNumber, answerNumber, exitNumber, fetchNumber, flagOf, widthBytes}
+use Rattle.types.specs.Values.{answerValues, askValues, exitValues, fetchValue}
+use Rattle.types.specs.declared.Access.the-variants as access
+use Rattle.types.specs.declared.Answer.{Answer}
+use Rattle.types.specs.declared.Answer.the-variants as answer
+use Rattle.types.specs.declared.Ask.the-variants as ask
+use Rattle.types.specs.declared.Error.the-variants as error
+use Rattle.types.specs.declared.Exit.the-variants as exit
+use Rattle.types.specs.declared.Fetch.the-variants as fetch
+use Rattle.types.specs.declared.IpiAbi.the-variants as abi
+use Rattle.types.specs.declared.Reply.{Reply}
+use Rattle.types.specs.declared.Reply.the-variants as reply
+use Rattle.types.specs.declared.Width.the-variants as width
+use Rattle.consts.specs.Sbi.{eidPmu}
+use Rattle.registers.specs.Values.{delegatedExceptions, delegatedInterrupts}
+use Rattle.regs.specs.declared.Vcpu.{Vcpu}
+use Rattle.regs.specs.declared.Waiting.{Waiting}
+use Rattle.regs.specs.declared.Waiting.the-variants as waiting
+use Rattle.calls.specs.Calls.{firstOf, newOf, printCount, printedOf}
+use Rattle.place.specs.View.{askCount, besideOf, exitCount, outOf}
+use Rattle.lines.specs.Keys.{bytes}
+use Rattle.digits.specs.Hex.{digitOf, nibbleOf, pushOf, pushedOf, readOf}
+use Rattle.lines.specs.Lines.{Taken, atEndOf, begins, inDigitsOf, inKeyOf, lineOf, takenOf}
+use Rattle.digits.specs.declared.Digits.{Digits}
+use Rattle.digits.specs.declared.Digits.the-variants as digits
+use Rattle.lines.specs.declared.Got.{Got}
+use Rattle.lines.specs.declared.Got.the-variants as got
+
+-- an answer: its ask's number, word and more
+abbrev pair : Answer → List ℕ
+pair a = answerNumber a ∷ answerValues a
+
+-- a record in which this waits
+unfoldable holding : Waiting → Vcpu
+holding w = record { x = newOf 0 0 .x; csrs = newOf 0 0 .csrs; counts = newOf 0 0 .counts; waiting = w }
+
+-- what a reply writes over eight words of 99, with 1 to 6 in the array beside it
+abbrev over : Reply → List ℕ
+over r = outOf (replicate 8 99) r (1 ∷ 2 ∷ 3 ∷ 4 ∷ 5 ∷ 6 ∷ [])
+
+-- the words behind the first n, of eight
+abbrev kept : ℕ → List ℕ
+kept n = replicate n 99
+
+-- how a line was read: its number, where it stands and the bytes that are left
+unfoldable gotNumbers : Got → List ℕ
+gotNumbers (got.More at v) = 0 ∷ at ∷ v ∷ []
+gotNumbers (got.Whole v) = 1 ∷ v ∷ []
+gotNumbers got.Unfit = 2 ∷ []
+
+unfoldable digitNumbers : Digits → List ℕ
+digitNumbers (digits.Number v) = 1 ∷ v ∷ []
+digitNumbers digits.Bad = 2 ∷ []
+
+unfoldable taken : Taken → List ℕ
+taken t = gotNumbers (t .got) ++ t .left
+
+-- what was got, beside what is right
+record Row : Type 0 where
+  got : List ℕ
+  wanted : List ℕ
+
+row : List ℕ → List ℕ → Row
+row g w = record { got = g; wanted = w }
+
+further : List Row
+further =
+    -- 01, Replay program: for a fetch, more is 0 for a word, 1 to 5 for the faults in order; a fault's address is word
+    row (pair (answer.Fetched (fetch.Word 0x14D2_92F3))) (1 ∷ 0x14D2_92F3 ∷ 0 ∷ [])
+    ∷ row (pair (answer.Fetched (fetch.Page (record { 0 = 0x1000 })))) (1 ∷ 0x1000 ∷ 1 ∷ [])
+    ∷ row (pair (answer.Fetched (fetch.Access (record { 0 = 0x1004 })))) (1 ∷ 0x1004 ∷ 2 ∷ [])
+    ∷ row (pair (answer.Fetched (fetch.Misaligned (record { 0 = 0x1002 })))) (1 ∷ 0x1002 ∷ 3 ∷ [])
+    ∷ row (pair (answer.Fetched (fetch.GuestPage (record { 0 = 0x1008 })))) (1 ∷ 0x1008 ∷ 4 ∷ [])
+    ∷ row (pair (answer.Fetched fetch.Unhandled)) (1 ∷ 0 ∷ 5 ∷ [])
+    -- a pair is error, value; ask 2 is count, bytes; any single number is word
+    ∷ row (pair (answer.MaskCopied 8 6)) (2 ∷ 8 ∷ 6 ∷ [])
+    ∷ row (pair (answer.CopiedIn 7)) (3 ∷ 7 ∷ 0 ∷ [])
+    ∷ row (pair (answer.Printed 8 6)) (4 ∷ 8 ∷ 6 ∷ [])
+    ∷ row (pair (answer.ConsoleRead 8 6)) (5 ∷ 8 ∷ 6 ∷ [])
+    ∷ row (pair (answer.CopiedOut 7)) (6 ∷ 7 ∷ 0 ∷ [])
+    ∷ row (pair answer.Emitted) (7 ∷ 0 ∷ 0 ∷ [])
+    ∷ row (pair (answer.Char 7)) (8 ∷ 7 ∷ 0 ∷ [])
+    ∷ row (pair (answer.Forwarded 8 6)) (9 ∷ 8 ∷ 6 ∷ [])
+    -- 01, One trap: the bytes to print are the buffer's first n under ask 4 if it has n, otherwise the empty part
+    ∷ row (printedOf (holding (waiting.Print 2)) (7 ∷ 8 ∷ 9 ∷ [])) (7 ∷ 8 ∷ [])
+    ∷ row (printedOf (holding (waiting.Print 3)) (7 ∷ 8 ∷ 9 ∷ [])) (7 ∷ 8 ∷ 9 ∷ [])
+    ∷ row (printedOf (holding (waiting.Print 4)) (7 ∷ 8 ∷ 9 ∷ [])) []
+    ∷ row (printedOf (holding (waiting.CopyIn 2)) (7 ∷ 8 ∷ 9 ∷ [])) []
+    ∷ row (printedOf (holding waiting.Idle) (7 ∷ 8 ∷ 9 ∷ [])) []
+    -- 01, One trap, Ecalls and Guest page fault: what each exit and ask carries; every other word of `out` stays
+    ∷ row (over (reply.Exit exit.Nothing)) (kept 8)
+    ∷ row (over (reply.Exit (exit.ExternalInterrupt 7))) (7 ∷ kept 7)
+    ∷ row (over (reply.Exit (exit.SendIpi (record { mask = 7; base = 8; abi = abi.SbiV02 })))) (7 ∷ 8 ∷ 1 ∷ kept 5)
+    ∷ row (over (reply.Exit (exit.CpuUp 7 (record { 0 = 8 }) 9))) (7 ∷ 8 ∷ 9 ∷ kept 5)
+    ∷ row (over (reply.Exit (exit.CpuDown 0))) (0 ∷ kept 7)
+    ∷ row (over (reply.Exit exit.Halt)) (kept 8)
+    ∷ row (over (reply.Exit (exit.Hypercall 7))) (7 ∷ 99 ∷ 1 ∷ 2 ∷ 3 ∷ 4 ∷ 5 ∷ 6 ∷ [])
+    ∷ row (over (reply.Exit exit.SystemDown)) (kept 8)
+    ∷ row (over (reply.Exit (exit.NestedPageFault (record { 0 = 7 }) access.Write))) (7 ∷ 2 ∷ kept 6)
+    ∷ row (over (reply.Exit (exit.MmioRead (record { 0 = 7 }) width.Word))) (7 ∷ 4 ∷ kept 6)
+    ∷ row (over (reply.Exit (exit.MmioWrite (record { 0 = 7 }) width.Half 9))) (7 ∷ 2 ∷ 9 ∷ kept 5)
+    ∷ row (over (reply.Ask (ask.Fetch (record { 0 = 7 }) true))) (7 ∷ 1 ∷ kept 6)
+    ∷ row (over (reply.Ask (ask.CopyMask (record { 0 = 7 })))) (7 ∷ kept 7)
+    ∷ row (over (reply.Ask (ask.CopyIn (record { 0 = 7 }) 8))) (7 ∷ 8 ∷ kept 6)
+    ∷ row (over (reply.Ask (ask.Print 7))) (7 ∷ kept 7)
+    ∷ row (over (reply.Ask (ask.ReadConsole 7))) (7 ∷ kept 7)
+    ∷ row (over (reply.Ask (ask.CopyOut (record { 0 = 7 }) 8))) (7 ∷ 8 ∷ kept 6)
+    ∷ row (over (reply.Ask (ask.Emit 7))) (7 ∷ kept 7)
+    ∷ row (over (reply.Ask ask.GetChar)) (kept 8)
+    ∷ row (over (reply.Ask (ask.Forward 7 8 (record { a0 = 10; a1 = 11; a2 = 12; a3 = 13; a4 = 14; a5 = 15 })))) (7 ∷ 8 ∷ 10 ∷ 11 ∷ 12 ∷ 13 ∷ 14 ∷ 15 ∷ [])
+    ∷ row (over reply.Done) (kept 8)
+    ∷ row (over (reply.Value 7)) (7 ∷ kept 7)
+    ∷ row (over (reply.Error error.BadState)) (kept 8)
+    -- 01, Ecalls: PMU 0x504D55; registers.rs: the delegation masks, as oracle/diff reads them off the published Rust
+    ∷ row (eidPmu ∷ delegatedExceptions ∷ delegatedInterrupts ∷ []) (0x50_4D55 ∷ 0xB10D ∷ 0x444 ∷ [])
+    -- 01, Replay program: a line is its key, 16 lowercase hex digits and LF
+    ∷ row (taken (takenOf (bytes "a0=") 0 0 (bytes "a0=00000000000001f9\nx"))) (1 ∷ 0x1f9 ∷ 120 ∷ [])
+    ∷ row (taken (takenOf (bytes "a0=") 0 0 (bytes "a0=00000000000001f9"))) (0 ∷ 19 ∷ 0x1f9 ∷ [])
+    ∷ row (taken (takenOf (bytes "a0=") 0 0 (bytes "a0=00000000000001F9\nx"))) (2 ∷ bytes "9\nx")
+    ∷ row (taken (takenOf (bytes "a0=") 0 0 (bytes "a1=0"))) (2 ∷ bytes "=0")
+    ∷ row (taken (takenOf (bytes "a0=") 2 5 (bytes "=0"))) (0 ∷ 4 ∷ 0x50 ∷ [])
+    ∷ row (digitNumbers (readOf (bytes "00000000000001f9"))) (1 ∷ 0x1f9 ∷ [])
+    ∷ row (digitNumbers (readOf (bytes "fedcba9876543210"))) (1 ∷ 0xFEDC_BA98_7654_3210 ∷ [])
+    ∷ row (digitNumbers (readOf (bytes "fedcba987654321"))) (2 ∷ [])
+    ∷ row (digitNumbers (readOf (bytes "fedcba98765432100"))) (2 ∷ [])
+    ∷ row (digitNumbers (readOf (bytes "fedcba987654321F"))) (2 ∷ [])
+    ∷ row (digitNumbers (readOf (bytes "gedcba9876543210"))) (2 ∷ [])
+    -- each key is compared byte for byte with its fixed spelling
+    ∷ row (flagOf (begins (bytes "a0=") (bytes "a0=1")) ∷ flagOf (begins (bytes "a0=") (bytes "a0=")) ∷ []) (1 ∷ 1 ∷ [])
+    ∷ row (flagOf (begins (bytes "a0=") (bytes "a0")) ∷ flagOf (begins (bytes "a0=") (bytes "b0=")) ∷ flagOf (begins (bytes "a0=") (bytes "a1=")) ∷ []) (0 ∷ 0 ∷ 0 ∷ [])
+    ∷ []
+
+equal : List ℕ → List ℕ → Bool
+equal [] [] = true
+equal [] (b ∷ bs) = false
+equal (a ∷ ls) [] = false
+equal (a ∷ ls) (b ∷ bs) = and (eqb a b) (equal ls bs)
+
+all : List Row → Bool
+all [] = true
+all (r ∷ rs) = and (equal (r .got) (r .wanted)) (all rs)
+
+-- the whole table
+table : T (all further)
+unfolding all equal further row holding gotNumbers digitNumbers taken answerNumber answerValues fetchNumber fetchValue flagOf firstOf newOf printCount printedOf delegatedExceptions delegatedInterrupts takenOf lineOf inKeyOf inDigitsOf atEndOf digitOf nibbleOf pushOf pushedOf readOf outOf exitCount askCount besideOf exitValues askValues exitNumber accessNumber abiNumber widthBytes
+table = tt

@@ -1,0 +1,4 @@
+pub mod Further
+pub mod Rows
+pub mod Vectors
+pub mod Captures
