@@ -254,7 +254,9 @@ def listed_head(mods):
 use {SPECS}declared.Outcome.{{Outcome}}
 use {SPECS}{home(mods, 'viewOf')}.{{recordOf, viewOf, outOf, replyWord}}
 use {SPECS}declared.After.{{After}}
-use {SPECS}{home(mods, 'packOf')}.{{callBy, exportedOf, packOf}}
+use {SPECS}{home(mods, 'packOf')}.{{packOf}}
+use {SPECS}{home(mods, 'callBy')}.{{callBy}}
+use {SPECS}{home(mods, 'exportedOf')}.{{exportedOf}}
 use {SPECS}{home(mods, 'calledOf', 'Vcpu → HostCall')}.{{calledOf}}
 use {SPECS}{home(mods, 'newOf')}.{{newOf, printCount}}
 use {SPECS}{home(mods, 'startCall')}.{{answerCall, startCall}}
