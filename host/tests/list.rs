@@ -10,6 +10,8 @@ use std::collections::BTreeSet;
 use std::fmt::Write;
 
 const LIST: &str = concat!(env!("CARGO_MANIFEST_DIR"), "/../crates/call_list/data/list");
+/// One line once for each of its bytes, wrong in that byte alone: `call_list` must call every one wrong.
+const WRONG: &str = concat!(env!("CARGO_MANIFEST_DIR"), "/../crates/call_list/data/wrong");
 const CALLS: u64 = 700;
 /// Of the first 3,000 seeds the one whose calls reach everything and the most different outcomes (`search` finds it).
 const SEED: u64 = 506;
@@ -222,6 +224,42 @@ fn the_list_is_the_models() {
         std::fs::write(LIST, &text).unwrap();
     }
     assert!(std::fs::read_to_string(LIST).unwrap() == text, "the list is not the model's: WRITE_LIST=1 writes it anew");
+}
+
+/// A read of x0 from a record of zeros. A digit of the call stands as a capital with the digit's low four bits, so that the call is the
+/// same; a digit of what it gives is the next one; a space or the LF is another byte.
+fn wrong() -> String {
+    let call: Call = [3, 0, 0, 0, 0, 0];
+    let (reply, after) = by_model(&[0; 58], &call, 0);
+    let sum = sum_record(reply.out.iter().fold(0, |sum, word| sum_word(sum, *word)), &after);
+    let mut line = String::new();
+    for (i, word) in call.iter().chain(&[reply.code, sum]).enumerate() {
+        write!(line, "{word:016x}{}", if i == 7 { '\n' } else { ' ' }).unwrap();
+    }
+    let mut text = String::new();
+    for at in 0..line.len() {
+        for (i, byte) in line.bytes().enumerate() {
+            text.push(match byte {
+                _ if i != at => byte,
+                b' ' => b',',
+                b'\n' => b' ',
+                _ if at < 17 * 6 => byte + 32,
+                b'9' => b'a',
+                b'f' => b'0',
+                _ => byte + 1,
+            } as char);
+        }
+    }
+    text
+}
+
+#[test]
+fn the_wrong_list_is_wrong_in_one_byte_of_each_line() {
+    let text = wrong();
+    if std::env::var_os("WRITE_LIST").is_some() {
+        std::fs::write(WRONG, &text).unwrap();
+    }
+    assert!(std::fs::read_to_string(WRONG).unwrap() == text, "the list is another: WRITE_LIST=1 writes it anew");
 }
 
 #[test]

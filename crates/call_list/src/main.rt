@@ -6,10 +6,16 @@ use libc::STDOUT_FILENO;
 // A list that never ends is cut here.
 const MOST_LINES: u64 = 100_000;
 
-// The first argument names the list.
+// The first argument names the list; the second a list whose lines are all wrong, each in one byte, which shows that the comparison
+// can say so.
 fn main() {
+    named(1);
+    named(2);
+}
+
+fn named(argument: usize) {
     let mut space = [0u8; 16];
-    let n = os::arg(1, &mut space);
+    let n = os::arg(argument, &mut space);
     let fd = os::open_read(&space[..n]);
     if fd < 0 {
         os::fail(&space[..n]);
