@@ -24,8 +24,8 @@ use Rattle.regs.specs.Record.{valueOf, pended}
 use Rattle.regs.specs.Effects.{applied, doneOf, unlessAsking}
 use Rattle.host_calls.specs.HostCalls.{setupCsrs, entryCsrs, writeEffect, pagingEffect, pendingEffect, ipiWrites}
 use Rattle.answers.specs.Answers.{completedOf}
-use Rattle.trap.specs.Traps.{startEffect}
-use Rattle.resume.specs.Resume.{answerEffect}
+use Rattle.calls.specs.Traps.{startEffect}
+use Rattle.calls.specs.Resume.{answerEffect}
 
 -- zeros; a0 the hart, a1 the device tree
 unfoldable pub newOf : ℕ → ℕ → Vcpu

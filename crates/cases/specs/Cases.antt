@@ -31,8 +31,8 @@ use Rattle.virtual_inst.specs.Stimecmp as virt
 use Rattle.page_fault.specs.Mmio.{faultEffect, faultOf, loadOf, storeOf}
 use Rattle.answers.specs.Answers.{completedOf}
 use Rattle.host_calls.specs.HostCalls.{pagingBy, pagingEffect, setupCsrs, tableCsrs}
-use Rattle.trap.specs.Traps.{argumentsOf, causeOf, mmioOf, pageFaultOf, sbiOf, startEffect, startedOf, stimecmpOf, trapOf}
-use Rattle.resume.specs.Resume.{answerEffect, continuedOf, fetchedOf, matchedOf, resumedOf}
+use Rattle.calls.specs.Traps.{argumentsOf, causeOf, mmioOf, pageFaultOf, sbiOf, startEffect, startedOf, stimecmpOf, trapOf}
+use Rattle.calls.specs.Resume.{answerEffect, continuedOf, fetchedOf, matchedOf, resumedOf}
 use Rattle.calls.specs.Calls.{answerOf, completeLoadOf, newOf, pagingOf, setupOf, startOf}
 
 -- a record as new and setup leave it, but for sepc, the timer and the registers given

@@ -13,7 +13,7 @@ use Rattle.fields.specs.Fields.{rs1Field}
 use Rattle.regs.specs.declared.Csrs.{Csrs}
 use Rattle.regs.specs.declared.Effect.{Effect}
 use Rattle.regs.specs.Record.{valueOf}
-use Rattle.trap.specs.Traps.{argumentsOf, causeOf, externalOf, otherOf, pageFaultOf, sbiOf, stimecmpOf, trapOf}
+use Rattle.calls.specs.Traps.{argumentsOf, causeOf, externalOf, otherOf, pageFaultOf, sbiOf, stimecmpOf, trapOf}
 use Rattle.place_trap.specs.declared.Class.{Class}
 use Rattle.place_trap.specs.declared.Class.the-variants as class
 use Prim.Native.Nat.{_%_, _^_}

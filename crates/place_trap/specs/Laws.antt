@@ -34,8 +34,8 @@ use Rattle.virtual_inst.specs.declared.Csr.{Csr}
 use Rattle.virtual_inst.specs.Stimecmp.{csrEffect, csrOf, startOf}
 use Rattle.page_fault.specs.Mmio.{faultEffect, faultOf}
 use Rattle.answers.specs.Answers.{answeredEffect, answeredOf}
-use Rattle.trap.specs.Traps.{argumentsOf, externalOf, mmioOf, otherOf, sbiOf, stimecmpOf}
-use Rattle.resume.specs.Resume.{answerEffect, continuedOf, fetchedOf, matchedOf, plainOf, resumedOf}
+use Rattle.calls.specs.Traps.{argumentsOf, externalOf, mmioOf, otherOf, sbiOf, stimecmpOf}
+use Rattle.calls.specs.Resume.{answerEffect, continuedOf, fetchedOf, matchedOf, plainOf, resumedOf}
 use Rattle.calls.specs.Calls as calls
 use Rattle.calls.specs.Calls.{getGprOf}
 use Rattle.calls.specs.declared.HostCall.{HostCall}

@@ -39,8 +39,8 @@ use Rattle.ecall_effect.specs.Doing.{callEffect}
 use Rattle.sbi.specs.declared.Call as ecalls
 use Rattle.virtual_inst.specs.Stimecmp as virtual
 use Rattle.page_fault.specs.Mmio.{storeOf, faultOf, faultEffect}
-use Rattle.trap.specs.Traps.{argumentsOf, sbiOf, stimecmpOf, mmioOf, pageFaultOf, causeOf, trapOf, startedOf, startEffect}
-use Rattle.resume.specs.Resume as resume
+use Rattle.calls.specs.Traps.{argumentsOf, sbiOf, stimecmpOf, mmioOf, pageFaultOf, causeOf, trapOf, startedOf, startEffect}
+use Rattle.calls.specs.Resume as resume
 use Rattle.calls.specs.Calls.{getGprOf}
 use Rattle.reading.specs.Calls.{Call, setup, setEntry, getGpr, setGpr, setReturn, paging, pending, latch, completeIpi, start, answer, completeLoad, print}
 use Rattle.reading.specs.Table.{a0, a1, a2, a3, a4, a5, a6, a7, sourceNames, forwardNames, timeNames, srstNames, spiNames, hsmNames, consoleNames, byteNames, dbcnNames, eidNames, ecallNames, funct3Names, stimecmpNames, storeNames, causeNames, accessNames, wordNames, fetchNames, answerNames, namesOf, readsOf}

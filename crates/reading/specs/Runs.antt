@@ -19,8 +19,8 @@ use Rattle.regs.specs.Record.{pended, waitingAsk, listed}
 use Rattle.regs.specs.Effects.{noArgs, doneOf, guardedOf}
 use Rattle.host_calls.specs.HostCalls.{setupCsrs, entryCsrs, writeEffect, pagingEffect, pendingEffect, ipiWrites}
 use Rattle.answers.specs.Answers.{completedOf}
-use Rattle.trap.specs.Traps.{startEffect}
-use Rattle.resume.specs.Resume.{answerEffect}
+use Rattle.calls.specs.Traps.{startEffect}
+use Rattle.calls.specs.Resume.{answerEffect}
 use Rattle.calls.specs.Calls.{setupOf, setEntryOf, getGprOf, setGprOf, setReturnOf, pagingOf, pendingOf, latchOf, completeIpiOf, startOf, answerOf, completeLoadOf, printedOf}
 use Rattle.reading.specs.Calls.{Call, setup, setEntry, getGpr, setGpr, setReturn, paging, pending, latch, completeIpi, start, answer, completeLoad, print}
 use Rattle.reading.specs.Table.{namesOf, readsOf}

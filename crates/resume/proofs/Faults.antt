@@ -10,7 +10,7 @@ use Rattle.types.proofs.Fetch as declared
 use Rattle.regs.specs.declared.Csrs.{Csrs}
 use Rattle.regs.specs.declared.Waiting.{Waiting}
 use Rattle.fetch.specs.Faults.{missedOf, missedEffect}
-use Rattle.resume.specs.Resume.{fetchedOf}
+use Rattle.calls.specs.Resume.{fetchedOf}
 
 pub no-word : (x : List ℕ) (c : Csrs) (n : Waiting) (f : Fetch)
     → OneOf (1 ∷ 2 ∷ 3 ∷ 4 ∷ 5 ∷ []) (tagOf declared.the-type f)

@@ -1,6 +1,6 @@
 // How an answer carries a trap on.
 ghost use mathlib.Core.Path.{_≡_};
-ghost use Rattle.resume.specs.Resume.{answerEffect, continuedOf, fetchedOf, matchedOf, plainOf, resumedOf};
+ghost use Rattle.calls.specs.Resume.{answerEffect, continuedOf, fetchedOf, matchedOf, plainOf, resumedOf};
 use regs::Csrs;
 use regs::Effect;
 use regs::Waiting;

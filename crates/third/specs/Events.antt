@@ -47,8 +47,8 @@ use Rattle.answers.specs.declared.Answered.{Answered}
 use Rattle.answers.specs.declared.Answered.the-variants as answered
 use Rattle.answers.specs.Answers.{answeredEffect, completedOf}
 use Rattle.host_calls.specs.HostCalls.{writeEffect, pagingBy, pagingEffect, pendingBy, pendingEffect}
-use Rattle.trap.specs.Traps.{argumentsOf, sbiOf, stimecmpOf, mmioOf, pageFaultOf, externalOf, otherOf, causeOf, trapOf, startedOf, startEffect}
-use Rattle.resume.specs.Resume as resume
+use Rattle.calls.specs.Traps.{argumentsOf, sbiOf, stimecmpOf, mmioOf, pageFaultOf, externalOf, otherOf, causeOf, trapOf, startedOf, startEffect}
+use Rattle.calls.specs.Resume as resume
 use Rattle.reading.specs.Calls.{Call, setup, setEntry, getGpr, setGpr, setReturn, paging, pending, latch, completeIpi, start, answer, completeLoad, print}
 use Rattle.reading.specs.Table.{a6, a7}
 use Rattle.reading.specs.Runs.{guarded, quiet, effectOf}

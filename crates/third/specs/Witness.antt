@@ -30,8 +30,8 @@ use Rattle.fetch.specs.Faults.{askFetchOf, missedOf, trapStatusOf, injectedOf, 
 use Rattle.virtual_inst.specs.Stimecmp as virtual
 use Rattle.page_fault.specs.Mmio.{loadOf, storeOf, faultOf, faultEffect}
 use Rattle.answers.specs.Answers.{copiedOf, answeredOf, answeredEffect, completedOf}
-use Rattle.trap.specs.Traps.{argumentsOf, sbiOf, stimecmpOf, mmioOf, pageFaultOf, causeOf, trapOf, startedOf, startEffect}
-use Rattle.resume.specs.Resume as resume
+use Rattle.calls.specs.Traps.{argumentsOf, sbiOf, stimecmpOf, mmioOf, pageFaultOf, causeOf, trapOf, startedOf, startEffect}
+use Rattle.calls.specs.Resume as resume
 use Rattle.calls.specs.Calls.{startOf, answerOf, completeLoadOf, printCount, firstOf, printedOf}
 use Rattle.reading.specs.Calls.{Call, start, answer, completeLoad, print}
 use Rattle.reading.specs.Table.{a0, a1, a2, a3, a4, a5, a7, sourceNames, forwardNames, timeNames, srstNames, spiNames, hsmNames, consoleNames, byteNames, dbcnNames, eidNames, ecallNames, funct3Names, stimecmpNames, storeNames, causeNames, accessNames, wordNames, fetchNames, answerNames, namesOf, readsOf}

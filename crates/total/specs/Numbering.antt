@@ -12,7 +12,7 @@ use Rattle.types.specs.declared.Fetch.{Fetch}
 use Rattle.regs.specs.declared.Csrs.{Csrs}
 use Rattle.regs.specs.declared.Waiting.{Waiting}
 use Rattle.regs.specs.Record.{waitingAsk}
-use Rattle.resume.specs.Resume.{continuedOf, fetchedOf, plainOf}
+use Rattle.calls.specs.Resume.{continuedOf, fetchedOf, plainOf}
 use Rattle.total.specs.Leaves.{Waits, fetch-csr, fetch-fault, copy-mask, copy-in, print, read-console, copy-out, put-char, put-byte, get-char, forward}
 
 -- what waits has the number of the ask that was asked, and an answer fits by that number alone

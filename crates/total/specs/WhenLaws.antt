@@ -53,8 +53,8 @@ use Rattle.answers.specs.declared.Answered.{Answered}
 use Rattle.answers.specs.declared.Answered.the-variants as answered
 use Rattle.answers.specs.Answers.{answeredEffect, answeredOf, completedOf, copiedOf, copiedOutOf, maskOf, readOf}
 use Rattle.host_calls.specs.HostCalls.{pagingBy, pagingEffect, pendingBy, pendingEffect, writeEffect}
-use Rattle.trap.specs.Traps.{causeOf, externalOf, mmioOf, otherOf, pageFaultOf, sbiOf, startEffect, startedOf, stimecmpOf, trapOf}
-use Rattle.resume.specs.Resume.{answerEffect, continuedOf, fetchedOf, matchedOf, plainOf, resumedOf}
+use Rattle.calls.specs.Traps.{causeOf, externalOf, mmioOf, otherOf, pageFaultOf, sbiOf, startEffect, startedOf, stimecmpOf, trapOf}
+use Rattle.calls.specs.Resume.{answerEffect, continuedOf, fetchedOf, matchedOf, plainOf, resumedOf}
 use Rattle.calls.specs.Calls.{answerOf, completeIpiOf, completeLoadOf, getGprOf, latchOf, pagingOf, pendingOf, setEntryOf, setGprOf, setReturnOf, setupOf, startOf}
 use Rattle.third.specs.Kinds.{csrFunct3, onStimecmp}
 use Rattle.total.specs.When.{is, gives, Class, ecall, virtual-instruction, page-fault, host-interrupt, not-handled, unknown, classOf, otherWord, otherStval, classWhen, startWhen, wordWhen, fetchWhen, fittingWhen, answerWhen, loadWaits, loadWhen, changingWhen, indexAllowed, pagingAllowed, vectorAllowed}

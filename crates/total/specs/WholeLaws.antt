@@ -49,8 +49,8 @@ use Rattle.page_fault.specs.Mmio.{faultEffect}
 use Rattle.answers.specs.declared.Answered.{Answered}
 use Rattle.answers.specs.declared.Answered.the-variants as answered
 use Rattle.answers.specs.Answers.{answeredEffect}
-use Rattle.trap.specs.Traps.{causeOf, externalOf, mmioOf, otherOf, pageFaultOf, sbiOf, startEffect, startedOf, stimecmpOf, trapOf}
-use Rattle.resume.specs.Resume.{answerEffect, continuedOf, fetchedOf, matchedOf, plainOf, resumedOf}
+use Rattle.calls.specs.Traps.{causeOf, externalOf, mmioOf, otherOf, pageFaultOf, sbiOf, startEffect, startedOf, stimecmpOf, trapOf}
+use Rattle.calls.specs.Resume.{answerEffect, continuedOf, fetchedOf, matchedOf, plainOf, resumedOf}
 use Rattle.calls.specs.Calls.{startOf, answerOf}
 use Rattle.total.specs.Leaves.{AtMostIllegal, Ended, Failed, Says, Sound}
 use Rattle.total.specs.Leaves as leaves

@@ -1,6 +1,6 @@
 // One trap: its class by scause, and how the host's answers carry it on. The work of each class is in its own crate.
 ghost use mathlib.Core.Path.{_≡_};
-ghost use Rattle.trap.specs.Traps.{argumentsOf, externalOf, otherOf, pageFaultOf, sbiOf, startEffect, startedOf, stimecmpOf, mmioOf, trapOf};
+ghost use Rattle.calls.specs.Traps.{argumentsOf, externalOf, otherOf, pageFaultOf, sbiOf, startEffect, startedOf, stimecmpOf, mmioOf, trapOf};
 use decoder::Trapped;
 use regs::Csrs;
 use regs::Effect;

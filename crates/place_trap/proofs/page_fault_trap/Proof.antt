@@ -1,6 +1,6 @@
 -- `place_trap::page_fault_trap` meets its contract.
 use borrow.Author.Needs.{needs}
-use Rattle.trap.specs.Traps.{pageFaultOf}
+use Rattle.calls.specs.Traps.{pageFaultOf}
 use Rattle.place_trap.proofs.page_fault_trap.Statement.{statement}
 use Rattle.place_trap.proofs.page_fault_trap.Tie as tie
 

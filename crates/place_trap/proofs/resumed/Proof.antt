@@ -1,6 +1,6 @@
 -- `place_trap::resumed` meets its contract.
 use Rattle.place.specs.View.{viewOf}
-use Rattle.resume.specs.Resume.{resumedOf}
+use Rattle.calls.specs.Resume.{resumedOf}
 use Rattle.place_trap.specs.Laws.{refused-made}
 use mathlib.Core.Path.{sym, _∙_}
 use borrow.Author.Needs.{needs}

@@ -1,7 +1,7 @@
 -- `place_trap::start` meets its contract.
 use borrow.Author.Needs.{needs}
 use Rattle.calls.specs.Calls.{startOf}
-use Rattle.trap.specs.Traps.{startEffect}
+use Rattle.calls.specs.Traps.{startEffect}
 use Rattle.place_trap.proofs.start.Statement.{statement}
 use Rattle.place_trap.proofs.start.Tie as tie
 

@@ -1,6 +1,6 @@
 -- `place_trap::started` meets its contract.
 use borrow.Author.Needs.{needs}
-use Rattle.trap.specs.Traps.{startedOf}
+use Rattle.calls.specs.Traps.{startedOf}
 use Rattle.place_trap.specs.Classes.{class-effect}
 use Rattle.place_trap.specs.Laws.{busy-made}
 use Rattle.place_trap.proofs.started.Statement.{statement}

@@ -1,5 +1,5 @@
 -- `resume::answer` meets its contract.
-use Rattle.resume.specs.Resume.{answerEffect}
+use Rattle.calls.specs.Resume.{answerEffect}
 use borrow.Author.Needs.{needs}
 use Rattle.resume.proofs.answer.Statement.{statement}
 use Rattle.resume.proofs.answer.Tie as tie

@@ -1,5 +1,5 @@
 -- `resume::continued` meets its contract.
-use Rattle.resume.specs.Resume.{continuedOf}
+use Rattle.calls.specs.Resume.{continuedOf}
 use borrow.Author.Needs.{needs}
 use Rattle.resume.proofs.continued.Statement.{statement}
 use Rattle.resume.proofs.continued.Tie as tie

@@ -1,5 +1,5 @@
 -- `resume::fetched` meets its contract.
-use Rattle.resume.specs.Resume.{fetchedOf}
+use Rattle.calls.specs.Resume.{fetchedOf}
 use Rattle.resume.proofs.Faults.{no-word}
 use borrow.Author.Needs.{needs}
 use Rattle.resume.proofs.fetched.Statement.{statement}

@@ -1,6 +1,6 @@
 -- `resume::matched` meets its contract.
 use borrow.Author.Tests.{eq-eqb, ne-eqb}
-use Rattle.resume.specs.Resume.{matchedOf}
+use Rattle.calls.specs.Resume.{matchedOf}
 use borrow.Author.Needs.{needs}
 use Rattle.resume.proofs.matched.Statement.{statement}
 use Rattle.resume.proofs.matched.Tie as tie

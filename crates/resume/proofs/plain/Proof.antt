@@ -1,5 +1,5 @@
 -- `resume::plain` meets its contract.
-use Rattle.resume.specs.Resume.{plainOf}
+use Rattle.calls.specs.Resume.{plainOf}
 use borrow.Author.Needs.{needs}
 use Rattle.resume.proofs.plain.Statement.{statement}
 use Rattle.resume.proofs.plain.Tie as tie

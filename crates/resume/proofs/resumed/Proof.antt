@@ -1,5 +1,5 @@
 -- `resume::resumed` meets its contract.
-use Rattle.resume.specs.Resume.{resumedOf}
+use Rattle.calls.specs.Resume.{resumedOf}
 use borrow.Author.Needs.{needs}
 use Rattle.resume.proofs.resumed.Statement.{statement}
 use Rattle.resume.proofs.resumed.Tie as tie

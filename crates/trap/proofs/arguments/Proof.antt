@@ -1,6 +1,6 @@
 -- `trap::arguments` meets its contract.
 use mathlib.Core.Path.{refl}
-use Rattle.trap.specs.Traps.{argumentsOf}
+use Rattle.calls.specs.Traps.{argumentsOf}
 use borrow.Author.Needs.{needs}
 use Rattle.trap.proofs.arguments.Statement.{statement}
 use Rattle.trap.proofs.arguments.Tie as tie

@@ -1,5 +1,5 @@
 -- `trap::external` meets its contract.
-use Rattle.trap.specs.Traps.{externalOf}
+use Rattle.calls.specs.Traps.{externalOf}
 use borrow.Author.Needs.{needs}
 use Rattle.trap.proofs.external.Statement.{statement}
 use Rattle.trap.proofs.external.Tie as tie

@@ -1,5 +1,5 @@
 -- `trap::mmio` meets its contract.
-use Rattle.trap.specs.Traps.{mmioOf}
+use Rattle.calls.specs.Traps.{mmioOf}
 use borrow.Author.Needs.{needs}
 use Rattle.trap.proofs.mmio.Statement.{statement}
 use Rattle.trap.proofs.mmio.Tie as tie

@@ -1,5 +1,5 @@
 -- `trap::other` meets its contract.
-use Rattle.trap.specs.Traps.{otherOf}
+use Rattle.calls.specs.Traps.{otherOf}
 use borrow.Author.Needs.{needs}
 use Rattle.trap.proofs.other.Statement.{statement}
 use Rattle.trap.proofs.other.Tie as tie

@@ -1,5 +1,5 @@
 -- `trap::page_fault_trap` meets its contract.
-use Rattle.trap.specs.Traps.{pageFaultOf}
+use Rattle.calls.specs.Traps.{pageFaultOf}
 use borrow.Author.Needs.{needs}
 use Rattle.trap.proofs.page_fault_trap.Statement.{statement}
 use Rattle.trap.proofs.page_fault_trap.Tie as tie

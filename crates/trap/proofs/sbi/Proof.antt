@@ -1,5 +1,5 @@
 -- `trap::sbi` meets its contract.
-use Rattle.trap.specs.Traps.{sbiOf}
+use Rattle.calls.specs.Traps.{sbiOf}
 use borrow.Author.Needs.{needs}
 use Rattle.trap.proofs.sbi.Statement.{statement}
 use Rattle.trap.proofs.sbi.Tie as tie

@@ -1,5 +1,5 @@
 -- `trap::start` meets its contract.
-use Rattle.trap.specs.Traps.{startEffect}
+use Rattle.calls.specs.Traps.{startEffect}
 use borrow.Author.Needs.{needs}
 use Rattle.trap.proofs.start.Statement.{statement}
 use Rattle.trap.proofs.start.Tie as tie

@@ -1,5 +1,5 @@
 -- `trap::started` meets its contract.
-use Rattle.trap.specs.Traps.{startedOf}
+use Rattle.calls.specs.Traps.{startedOf}
 use borrow.Author.Needs.{needs}
 use Rattle.trap.proofs.started.Statement.{statement}
 use Rattle.trap.proofs.started.Tie as tie

@@ -1,5 +1,5 @@
 -- `trap::stimecmp` meets its contract.
-use Rattle.trap.specs.Traps.{stimecmpOf}
+use Rattle.calls.specs.Traps.{stimecmpOf}
 use borrow.Author.Needs.{needs}
 use Rattle.trap.proofs.stimecmp.Statement.{statement}
 use Rattle.trap.proofs.stimecmp.Tie as tie

@@ -1,6 +1,6 @@
 -- `trap::trap` meets its contract.
 use borrow.Author.Tests.{ne-eqb}
-use Rattle.trap.specs.Traps.{trapOf, causeOf}
+use Rattle.calls.specs.Traps.{trapOf, causeOf}
 use borrow.Author.Needs.{needs}
 use Rattle.trap.proofs.trap.Statement.{statement}
 use Rattle.trap.proofs.trap.Tie as tie

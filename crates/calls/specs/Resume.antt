@@ -20,7 +20,7 @@ use Rattle.regs.specs.Effects.{refusedOf}
 use Rattle.fetch.specs.Faults.{missedOf, missedEffect}
 use Rattle.virtual_inst.specs.Stimecmp.{csrOf, csrEffect}
 use Rattle.answers.specs.Answers.{answeredOf, answeredEffect}
-use Rattle.trap.specs.Traps.{mmioOf}
+use Rattle.calls.specs.Traps.{mmioOf}
 
 -- the word that was fetched: a CSR instruction with its rs1, or a load or store
 unfoldable pub resumedOf : List ℕ → Csrs → Waiting → ℕ → Effect
