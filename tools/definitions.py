@@ -133,11 +133,12 @@ def opened(module, text=None):
     return renamed(re.sub(r'^unfoldable ', 'abbrev ', text, flags=re.M))
 
 
-HEAD = '''use Prim.Native.Nat.{ℕ, _+_, _-_, _*_, _%_, _^_}
+IMPORTS = '''use Prim.Native.Nat.{ℕ, _+_, _-_, _*_, _%_, _^_}
 use mathlib.Core.Bool.{Bool, true, false}
 use mathlib.Core.List.{List, [], _∷_, _++_}
 use lib.Dec.{eqb, ltb, T}
-
+'''
+SAME = '''
 abbrev both : Bool → Bool → Bool
 both true b = b
 both false b = false
@@ -148,6 +149,7 @@ equal [] (b ∷ bs) = false
 equal (a ∷ ls) [] = false
 equal (a ∷ ls) (b ∷ bs) = both (eqb a b) (equal ls bs)
 '''
+HEAD = IMPORTS + SAME
 
 
 def together(text, rows, size):
@@ -532,6 +534,7 @@ def housed(mods, text):
         for name in re.findall(r'^pub (?:struct|enum) (\w+)', read(path), re.M) if os.path.exists(path) else []:
             homes[name] = crate
     used = reached(mods, [text])
+    text = text.replace(IMPORTS + SAME, IMPORTS + 'use Rattle.listed.specs.Same.{both, equal}\n')
     text = re.sub(re.escape(SPECS) + r'declared\.(\w+)', lambda m: f'Rattle.{homes[m.group(1)]}.specs.declared.{m.group(1)}', text)
     text = re.sub(re.escape(SPECS) + r'(\w+)', lambda m: f'Rattle.{short[m.group(1)].crate}.specs.{short[m.group(1)].name}', text)
     names, lines = [], ''
@@ -554,7 +557,9 @@ def write_listed():
     folder = f'{ROOT}/crates/listed/specs'
     for name, (said, text) in about.items():
         write(f'{folder}/{name}.antt', f'-- {said}\n-- tools/definitions.py listed writes this file.\n' + housed(mods, text))
-    write(f'{folder}/Lib.antt', ''.join(f'pub mod {n}\n' for n in ['Further', *about]))
+    needed = re.sub(r', (_[^\w∷]_|_\+\+_|ltb|T)(?=[,}])', '', IMPORTS)
+    write(f'{folder}/Same.antt', '-- Lists of numbers compared, by computing.\n-- tools/definitions.py listed writes this file.\n' + needed + SAME.replace('abbrev', 'abbrev pub'))
+    write(f'{folder}/Lib.antt', ''.join(f'pub mod {n}\n' for n in ['Same', 'Further', *about]))
 
 
 # ---- the mutants

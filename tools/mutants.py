@@ -20,7 +20,7 @@ not count. The rest is sorted:
 
 --each N takes at most N mutants of a function and a rule, --most N at most N of a function, chosen by a hash, so the
 same ones each time. Part 2/5 is each fifth function from the second on. `run` appends a line for each mutant to
-target/mutants/results.jsonl and passes over what stands there; a mutant is known by its function's text before and after
+docs/mutants.jsonl and passes over what stands there; a mutant is known by its function's text before and after
 the change, so a function that moves keeps its results. After a definition changes, `run --again` tries all anew. With
 --later no proof is written anew: a run without it does that for those that are left.
 
@@ -40,7 +40,7 @@ import time
 
 ROOT = os.path.dirname(os.path.dirname(os.path.abspath(__file__)))
 WORK = f"{ROOT}/target/mutants"
-RESULTS = f"{WORK}/results.jsonl"
+RESULTS = f"{ROOT}/docs/mutants.jsonl"
 SORTS = ("fact", "fact-new", "fit", "unfit", "run", "accepted")
 
 # ---- reading the code
@@ -733,6 +733,9 @@ def reasons():
 def table(deps):
     known, why = results(), reasons()
     current = {m.key: m for group in mutants(list(deps), 0, 0) for m in group}
+    with open(RESULTS, "w") as out:  # what is left of it: the functions as they are now, by crate
+        for key in sorted((k for k in known if k in current), key=lambda k: (list(deps).index(current[k].crate), current[k].name)):
+            out.write(json.dumps({**known[key], "name": current[key].name}, ensure_ascii=False) + "\n")
     rows, accepted, left = {}, [], 0
     for key, r in known.items():
         if key not in current or r["sort"] not in SORTS:

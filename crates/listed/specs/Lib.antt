@@ -1,3 +1,4 @@
+pub mod Same
 pub mod Further
 pub mod Rows
 pub mod Vectors

@@ -18,16 +18,7 @@ use Prim.Native.Nat.{ℕ, _+_, _-_, _*_, _%_, _^_}
 use mathlib.Core.Bool.{Bool, true, false}
 use mathlib.Core.List.{List, [], _∷_, _++_}
 use lib.Dec.{eqb, ltb, T}
-
-abbrev both : Bool → Bool → Bool
-both true b = b
-both false b = false
-
-abbrev equal : List ℕ → List ℕ → Bool
-equal [] [] = true
-equal [] (b ∷ bs) = false
-equal (a ∷ ls) [] = false
-equal (a ∷ ls) (b ∷ bs) = both (eqb a b) (equal ls bs)
+use Rattle.listed.specs.Same.{both, equal}
 
 -- the digits of docs/VECTORS.md
 abbrev signOf : Bool → ℕ
