@@ -94,7 +94,7 @@ struct Nothing(Record);
 impl Handler for Nothing {
     #[inline]
     fn set(&mut self, work: &Work) {
-        (self.0[10], self.0[16], self.0[17]) = (work.a0, work.a6, work.a7);
+        set_words(&mut self.0, work);
     }
     #[inline]
     fn trap(&mut self, work: &Work) -> u64 {
@@ -106,13 +106,23 @@ impl Handler for Nothing {
     }
 }
 
+/// The registers that a trap reads, in a record of words.
+#[inline]
+fn set_words(r: &mut Record, work: &Work) {
+    (r[10], r[16], r[17]) = (work.a0, work.a6, work.a7);
+}
+
+fn state_of_words(r: &Record) -> [u64; 5] {
+    [r[32], r[40], r[10], r[11], r[12]]
+}
+
 /// The entry that hosts are told to call.
 struct InPlace(Record);
 
 impl Handler for InPlace {
     #[inline]
     fn set(&mut self, work: &Work) {
-        (self.0[10], self.0[16], self.0[17]) = (work.a0, work.a6, work.a7);
+        set_words(&mut self.0, work);
     }
     #[inline]
     fn trap(&mut self, work: &Work) -> u64 {
@@ -128,7 +138,7 @@ impl Handler for InPlace {
         code ^ out[2]
     }
     fn state(&self) -> [u64; 5] {
-        [self.0[32], self.0[40], self.0[10], self.0[11], self.0[12]]
+        state_of_words(&self.0)
     }
 }
 
@@ -185,7 +195,7 @@ impl Thin {
 impl Handler for Thin {
     #[inline]
     fn set(&mut self, work: &Work) {
-        (self.0[10], self.0[16], self.0[17]) = (work.a0, work.a6, work.a7);
+        set_words(&mut self.0, work);
     }
     #[inline]
     fn trap(&mut self, work: &Work) -> u64 {
@@ -199,7 +209,7 @@ impl Handler for Thin {
         reply.number ^ reply.values[2] ^ reply.args[0]
     }
     fn state(&self) -> [u64; 5] {
-        [self.0[32], self.0[40], self.0[10], self.0[11], self.0[12]]
+        state_of_words(&self.0)
     }
 }
 

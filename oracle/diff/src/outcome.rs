@@ -72,26 +72,13 @@ impl Ending {
 
 impl std::fmt::Debug for Ending {
     fn fmt(&self, f: &mut std::fmt::Formatter) -> std::fmt::Result {
-        const EXITS: [&str; 11] = [
-            "Nothing",
-            "ExternalInterrupt",
-            "SendIpi",
-            "CpuUp",
-            "CpuDown",
-            "Halt",
-            "Hypercall",
-            "SystemDown",
-            "NestedPageFault",
-            "MmioRead",
-            "MmioWrite",
-        ];
         match self.kind {
             DONE => write!(f, "done"),
             VALUE => write!(f, "value {:#x}", self.data[0]),
             PANIC => write!(f, "panic"),
             NOT_RUN => write!(f, "not run: allocates too much"),
             ASK => write!(f, "ask {}", self.data[0]),
-            0..=10 => write!(f, "{} {:x?}", EXITS[self.kind as usize], self.data),
+            0..=10 => write!(f, "{} {:x?}", crate::tally::EXITS[self.kind as usize], self.data),
             kind => write!(f, "error {}", kind - 0x100),
         }
     }

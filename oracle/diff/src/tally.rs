@@ -18,7 +18,8 @@ const ASKS: [&str; 9] = [
     "9 forward",
 ];
 
-const EXITS: [&str; 11] = [
+/// The exits by their numbers.
+pub const EXITS: [&str; 11] = [
     "Nothing",
     "ExternalInterrupt",
     "SendIpi",
