@@ -59,31 +59,50 @@ fn line_on(r: &mut [u64; 58], line: &[u8; 136]) -> bool {
 // The call: crate abi's kinds 1 to 12, and three more. 0 writes a word of the record, 13 is to_print, 14 is new.
 fn made(r: &mut [u64; 58], out: &mut [u64; 8], c: [u64; 8]) -> u64 {
     let kind = c[0];
+    let a = c[1];
+    let b = c[2];
+    let d = c[3];
     match kind {
-        0 => written(r, c[1], c[2]),
+        3 => in_place_gprs::vcpu_get_gpr(r, a, out),
+        10 => started(r, out, trap_of(c)),
+        11 => answered(r, out, [a, b, d]),
+        13 => printed(r, out),
+        _ => silent(r, kind, a, b, d),
+    }
+}
+
+// The five numbers of a trap.
+fn trap_of(c: [u64; 8]) -> [u64; 5] {
+    [c[1], c[2], c[3], c[4], c[5]]
+}
+
+fn started(r: &mut [u64; 58], out: &mut [u64; 8], t: [u64; 5]) -> u64 {
+    in_place_trap::vcpu_start(r, &t, out)
+}
+
+fn answered(r: &mut [u64; 58], out: &mut [u64; 8], a: [u64; 3]) -> u64 {
+    in_place_trap::vcpu_answer(r, &a, out)
+}
+
+fn printed(r: &[u64; 58], out: &mut [u64; 8]) -> u64 {
+    out[0] = in_place_trap::vcpu_to_print(r);
+    0x41
+}
+
+// A call that gives no more than its word.
+fn silent(r: &mut [u64; 58], kind: u64, a: u64, b: u64, d: u64) -> u64 {
+    match kind {
+        0 => written(r, a, b),
         1 => in_place_setup::vcpu_setup(r),
-        2 => in_place_setup::vcpu_set_entry(r, c[1]),
-        3 => in_place_gprs::vcpu_get_gpr(r, c[1], out),
-        4 => in_place_gprs::vcpu_set_gpr(r, c[1], c[2]),
-        5 => in_place_gprs::vcpu_set_return_value(r, c[1]),
-        6 => in_place_setup::vcpu_set_nested_page_table(r, c[1], c[2], c[3]),
-        7 => in_place_interrupts::vcpu_set_pending(r, c[1], c[2]),
-        8 => in_place_interrupts::vcpu_latch_hvip(r, c[1]),
-        9 => in_place_interrupts::vcpu_complete_ipi(r, c[1], c[2]),
-        10 => {
-            let t = [c[1], c[2], c[3], c[4], c[5]];
-            in_place_trap::vcpu_start(r, &t, out)
-        }
-        11 => {
-            let a = [c[1], c[2], c[3]];
-            in_place_trap::vcpu_answer(r, &a, out)
-        }
-        12 => in_place_trap::vcpu_complete_load(r, c[1]),
-        13 => {
-            out[0] = in_place_trap::vcpu_to_print(r);
-            0x41
-        }
-        14 => in_place_setup::vcpu_new(r, c[1], c[2]),
+        2 => in_place_setup::vcpu_set_entry(r, a),
+        4 => in_place_gprs::vcpu_set_gpr(r, a, b),
+        5 => in_place_gprs::vcpu_set_return_value(r, a),
+        6 => in_place_setup::vcpu_set_nested_page_table(r, a, b, d),
+        7 => in_place_interrupts::vcpu_set_pending(r, a, b),
+        8 => in_place_interrupts::vcpu_latch_hvip(r, a),
+        9 => in_place_interrupts::vcpu_complete_ipi(r, a, b),
+        12 => in_place_trap::vcpu_complete_load(r, a),
+        14 => in_place_setup::vcpu_new(r, a, b),
         _ => 0x101,
     }
 }
