@@ -1,69 +1,12 @@
--- What the words of the exported entry's call and reply mean, and what it does.
-use Prim.Native.Nat.{ℕ}
-use mathlib.Core.List.{List, [], _∷_}
+-- What the exported entry does.
 use mathlib.Core.Path.{_≡_}
-use lib.ListN.{getD}
-use Rattle.types.specs.Numbers.{askNumber, errorNumber, exitNumber}
-use Rattle.types.specs.Values.{askValues, exitValues}
-use Rattle.types.specs.declared.Reply.{Reply}
-use Rattle.types.specs.declared.Reply.the-variants as reply
-use Rattle.regs.specs.declared.Outcome.{Outcome}
-use Rattle.calls.specs.declared.HostCall.{HostCall}
 use Rattle.calls.specs.Entry.{calledOf}
-use Rattle.abi.specs.declared.After.{After}
-use Rattle.abi.specs.declared.CallWords.{CallWords}
+use Rattle.call_words.specs.declared.After.{After}
+use Rattle.call_words.specs.declared.CallWords.{CallWords}
+use Rattle.call_words.specs.declared.ReplyWords.{ReplyWords}
 use Rattle.words.specs.declared.Record.{Record}
-use Rattle.abi.specs.declared.ReplyWords.{ReplyWords}
-use Rattle.words.specs.Words.{packOf, unpackOf}
-use Rattle.calls.specs.Kinds.{callBy}
-
--- the call that words stand for
-unfoldable pub callOf : CallWords → HostCall
-callOf c =
-    callBy (c .kind) (getD (c .numbers) 0 0) (getD (c .numbers) 1 0) (getD (c .numbers) 2 0) (getD (c .numbers) 3 0)
-    (getD (c .numbers) 4 0)
-
--- exit 0, ask 1, done 2, value 3, error 4
-unfoldable pub replyKind : Reply → ℕ
-replyKind (reply.Exit e) = 0
-replyKind (reply.Ask a) = 1
-replyKind reply.Done = 2
-replyKind (reply.Value n) = 3
-replyKind (reply.Error e) = 4
-
--- 01's number of the exit, ask or error
-unfoldable pub replyNumber : Reply → ℕ
-replyNumber (reply.Exit e) = exitNumber e
-replyNumber (reply.Ask a) = askNumber a
-replyNumber reply.Done = 0
-replyNumber (reply.Value n) = 0
-replyNumber (reply.Error e) = errorNumber e
-
--- three numbers and five zeros
-abbrev pub widened : List ℕ → List ℕ
-widened l = getD l 0 0 ∷ getD l 1 0 ∷ getD l 2 0 ∷ 0 ∷ 0 ∷ 0 ∷ 0 ∷ 0 ∷ []
-
--- the numbers that it carries, in order, and 0 for each that it lacks
-unfoldable pub replyValues : Reply → List ℕ
-replyValues (reply.Exit e) = widened (exitValues e)
-replyValues (reply.Ask a) = askValues a
-replyValues reply.Done = 0 ∷ 0 ∷ 0 ∷ 0 ∷ 0 ∷ 0 ∷ 0 ∷ 0 ∷ []
-replyValues (reply.Value n) = n ∷ 0 ∷ 0 ∷ 0 ∷ 0 ∷ 0 ∷ 0 ∷ 0 ∷ []
-replyValues (reply.Error e) = 0 ∷ 0 ∷ 0 ∷ 0 ∷ 0 ∷ 0 ∷ 0 ∷ 0 ∷ []
-
--- an outcome in words
-unfoldable pub afterOf : Outcome → After
-afterOf o =
-    record {
-      rec = packOf (o .vcpu);
-      reply =
-          record {
-            kind = replyKind (o .reply);
-            number = replyNumber (o .reply);
-            values = replyValues (o .reply);
-            args = o .args;
-          };
-    }
+use Rattle.words.specs.Words.{unpackOf}
+use Rattle.call_words.specs.Words.{afterOf, callOf}
 
 -- what the exported call does: the entry's outcome on what the words stand for
 unfoldable pub exportedOf : Record → CallWords → After

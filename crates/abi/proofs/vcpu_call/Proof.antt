@@ -44,18 +44,18 @@ use denote.Triple.Clauses.{ensured, lasts}
 use denote.Exit.{yes}
 use Rattle.abi.specs.Words.{exportedOf}
 use Rattle.words.specs.declared.Record.{Record}
-use Rattle.abi.specs.declared.CallWords.{CallWords}
-use Rattle.abi.specs.declared.After.{After}
-use Rattle.abi.specs.declared.ReplyWords.{ReplyWords}
+use Rattle.call_words.specs.declared.CallWords.{CallWords}
+use Rattle.call_words.specs.declared.After.{After}
+use Rattle.call_words.specs.declared.ReplyWords.{ReplyWords}
 use Rattle.abi.proofs.vcpu_call.Key.{name as #in-place}
 use Rattle.words.proofs.Record as Vc
 use Rattle.words.proofs.Record.Laws as Vc′
-use Rattle.abi.proofs.CallWords as D
-use Rattle.abi.proofs.CallWords.Laws as D′
-use Rattle.abi.proofs.After as O
-use Rattle.abi.proofs.After.Laws as O′
-use Rattle.abi.proofs.ReplyWords as R
-use Rattle.abi.proofs.ReplyWords.Laws as R′
+use Rattle.call_words.proofs.CallWords as D
+use Rattle.call_words.proofs.CallWords.Laws as D′
+use Rattle.call_words.proofs.After as O
+use Rattle.call_words.proofs.After.Laws as O′
+use Rattle.call_words.proofs.ReplyWords as R
+use Rattle.call_words.proofs.ReplyWords.Laws as R′
 use Rattle.abi.proofs.step as call
 use Rattle.abi.proofs.step.Symbol as call-def
 use Rattle.abi.proofs.step.Met as call-thm
@@ -74,13 +74,13 @@ abbrev vcpu-ty : Ty
 vcpu-ty = spell code.Mir.table (tyNamed (119 ∷ 111 ∷ 114 ∷ 100 ∷ 115 ∷ 58 ∷ 58 ∷ 82 ∷ 101 ∷ 99 ∷ 111 ∷ 114 ∷ 100 ∷ [], []))
 
 abbrev call-ty : Ty
-call-ty = spell code.Mir.table (tyNamed (97 ∷ 98 ∷ 105 ∷ 58 ∷ 58 ∷ 67 ∷ 97 ∷ 108 ∷ 108 ∷ 87 ∷ 111 ∷ 114 ∷ 100 ∷ 115 ∷ [], []))
+call-ty = spell code.Mir.table (tyNamed (99 ∷ 97 ∷ 108 ∷ 108 ∷ 95 ∷ 119 ∷ 111 ∷ 114 ∷ 100 ∷ 115 ∷ 58 ∷ 58 ∷ 67 ∷ 97 ∷ 108 ∷ 108 ∷ 87 ∷ 111 ∷ 114 ∷ 100 ∷ 115 ∷ [], []))
 
 abbrev outcome-ty : Ty
-outcome-ty = spell code.Mir.table (tyNamed (97 ∷ 98 ∷ 105 ∷ 58 ∷ 58 ∷ 65 ∷ 102 ∷ 116 ∷ 101 ∷ 114 ∷ [], []))
+outcome-ty = spell code.Mir.table (tyNamed (99 ∷ 97 ∷ 108 ∷ 108 ∷ 95 ∷ 119 ∷ 111 ∷ 114 ∷ 100 ∷ 115 ∷ 58 ∷ 58 ∷ 65 ∷ 102 ∷ 116 ∷ 101 ∷ 114 ∷ [], []))
 
 abbrev given-ty : Ty
-given-ty = spell code.Mir.table (tyNamed (97 ∷ 98 ∷ 105 ∷ 58 ∷ 58 ∷ 82 ∷ 101 ∷ 112 ∷ 108 ∷ 121 ∷ 87 ∷ 111 ∷ 114 ∷ 100 ∷ 115 ∷ [], []))
+given-ty = spell code.Mir.table (tyNamed (99 ∷ 97 ∷ 108 ∷ 108 ∷ 95 ∷ 119 ∷ 111 ∷ 114 ∷ 100 ∷ 115 ∷ 58 ∷ 58 ∷ 82 ∷ 101 ∷ 112 ∷ 108 ∷ 121 ∷ 87 ∷ 111 ∷ 114 ∷ 100 ∷ 115 ∷ [], []))
 
 vcpu-spelt : Vc.the-row .mir ≡ vcpu-ty ∷ []
 vcpu-spelt = refl
@@ -98,7 +98,7 @@ given-spelt = refl
 abbrev outcome-tys : Tys
 outcome-tys = tcons vcpu-ty (tcons given-ty tnil)
 
-outcome-struct : outcome-ty ≡ tyStruct (97 ∷ 98 ∷ 105 ∷ 58 ∷ 58 ∷ 65 ∷ 102 ∷ 116 ∷ 101 ∷ 114 ∷ []) outcome-tys
+outcome-struct : outcome-ty ≡ tyStruct (99 ∷ 97 ∷ 108 ∷ 108 ∷ 95 ∷ 119 ∷ 111 ∷ 114 ∷ 100 ∷ 115 ∷ 58 ∷ 58 ∷ 65 ∷ 102 ∷ 116 ∷ 101 ∷ 114 ∷ []) outcome-tys
 outcome-struct = refl
 
 field-0 : fieldAt zero outcome-tys 0 ≡ some (vcpu-ty, 0)

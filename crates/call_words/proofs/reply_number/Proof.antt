@@ -1,8 +1,8 @@
--- `abi::reply_number` meets its contract.
-use Rattle.abi.specs.Words.{replyNumber}
+-- `call_words::reply_number` meets its contract.
+use Rattle.call_words.specs.Words.{replyNumber}
 use borrow.Author.Needs.{needs}
-use Rattle.abi.proofs.reply_number.Statement.{statement}
-use Rattle.abi.proofs.reply_number.Tie as tie
+use Rattle.call_words.proofs.reply_number.Statement.{statement}
+use Rattle.call_words.proofs.reply_number.Tie as tie
 
 enum-known-p : tie.Need-enum-known-p
 enum-known-p c = search needs

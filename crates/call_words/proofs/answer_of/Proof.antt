@@ -1,9 +1,9 @@
--- `abi::answer_of` meets its contract.
+-- `call_words::answer_of` meets its contract.
 use borrow.Author.Tests.{ne-eqb}
 use Rattle.calls.specs.Kinds.{answerBy}
 use borrow.Author.Needs.{needs}
-use Rattle.abi.proofs.answer_of.Statement.{statement}
-use Rattle.abi.proofs.answer_of.Tie as tie
+use Rattle.call_words.proofs.answer_of.Statement.{statement}
+use Rattle.call_words.proofs.answer_of.Tie as tie
 
 fetch-of-requires : tie.Need-fetch-of-requires
 fetch-of-requires c κs = search needs

@@ -1,9 +1,9 @@
--- `abi::call_by` meets its contract.
+-- `call_words::call_by` meets its contract.
 use borrow.Author.Tests.{ne-eqb}
 use Rattle.calls.specs.Kinds.{callBy}
 use borrow.Author.Needs.{needs}
-use Rattle.abi.proofs.call_by.Statement.{statement}
-use Rattle.abi.proofs.call_by.Tie as tie
+use Rattle.call_words.proofs.call_by.Statement.{statement}
+use Rattle.call_words.proofs.call_by.Tie as tie
 
 test-requires : tie.Need-test-requires
 test-requires c κs = search needs

@@ -1,8 +1,8 @@
--- `abi::call_of` meets its contract.
-use Rattle.abi.specs.Words.{callOf}
+-- `call_words::call_of` meets its contract.
+use Rattle.call_words.specs.Words.{callOf}
 use borrow.Author.Needs.{needs}
-use Rattle.abi.proofs.call_of.Statement.{statement}
-use Rattle.abi.proofs.call_of.Tie as tie
+use Rattle.call_words.proofs.call_of.Statement.{statement}
+use Rattle.call_words.proofs.call_of.Tie as tie
 
 array-read-call-by : tie.Need-array-read-call-by
 array-read-call-by c = search needs
