@@ -1,5 +1,4 @@
 // The instruction behind a guest page fault: its length, and whether it is a load or a store.
-// Also what a load's completion writes: the number that the host gives, cut to the load's width and extended.
 // The handler knows this crate by its promises alone.
 ghost use mathlib.Core.Path.{_≡_};
 ghost use Rattle.decoder.specs.Decode.{decodeBy, decodeOf, loadOf, storeOf};
