@@ -1,4 +1,4 @@
-// What every public call does: the definitions that the calls' promises cite, and the calls as one type. No code.
+// What a trap, an answer and every other public call does: the definitions that promises cite, and the calls as one type. No code.
 use sbi_ipi::IpiCompletion;
 use types::Answer;
 use types::GuestPhysAddr;

@@ -1,4 +1,4 @@
-// The numbers that 01 gives to widths, accesses, exits, answers, errors, asks, fetch faults and calling conventions.
+// The numbers that 01 gives to exits, asks, answers and errors.
 // types/specs/Numbers.antt defines them.
 ghost use mathlib.Core.Path.{_≡_};
 ghost use Rattle.types.specs.Numbers.{answerNumber, askNumber, errorNumber, exitNumber};

@@ -1,4 +1,4 @@
-// How an answer carries a trap on.
+// How an answer carries a trap on. calls/specs/Resume.antt defines it.
 ghost use mathlib.Core.Path.{_≡_};
 ghost use Rattle.calls.specs.Resume.{answerEffect, continuedOf, fetchedOf, matchedOf, plainOf, resumedOf};
 use regs::Csrs;

@@ -1,4 +1,4 @@
-// One trap: its class by scause, and how the host's answers carry it on. The work of each class is in its own crate.
+// One trap: its class by scause. The work of each class is in its own crate, and calls/specs/Traps.antt defines the whole.
 ghost use mathlib.Core.Path.{_≡_};
 ghost use Rattle.calls.specs.Traps.{argumentsOf, externalOf, otherOf, pageFaultOf, sbiOf, startEffect, startedOf, stimecmpOf, mmioOf, trapOf};
 use decoder::Trapped;
