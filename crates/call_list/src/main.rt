@@ -85,7 +85,7 @@ fn answered(r: &mut [u64; 58], out: &mut [u64; 8], a: [u64; 3]) -> u64 {
 }
 
 fn printed(r: &[u64; 58], out: &mut [u64; 8]) -> u64 {
-    out[0] = in_place_trap::vcpu_to_print(r);
+    out[0] = in_place_load::vcpu_to_print(r);
     0x41
 }
 
@@ -101,7 +101,7 @@ fn silent(r: &mut [u64; 58], kind: u64, a: u64, b: u64, d: u64) -> u64 {
         7 => in_place_interrupts::vcpu_set_pending(r, a, b),
         8 => in_place_interrupts::vcpu_latch_hvip(r, a),
         9 => in_place_interrupts::vcpu_complete_ipi(r, a, b),
-        12 => in_place_trap::vcpu_complete_load(r, a),
+        12 => in_place_load::vcpu_complete_load(r, a),
         14 => in_place_setup::vcpu_new(r, a, b),
         _ => 0x101,
     }

@@ -1,18 +1,10 @@
-// A vCPU record as 58 lent words: reading it, and the small writes that change it where it lies. specs/View.antt gives the
-// words their meaning; specs/Deeds.antt has a row for each deed of a trap, and specs/Laws.antt holds the rows to the effects
-// of the by-value step.
+// A vCPU record as 58 lent words, and writes that change it where it lies; crate place_read reads it, place_change has the
+// other writes. specs/View.antt gives the words their meaning; specs/Deeds.antt has a row for each deed of a trap, and
+// specs/Laws.antt holds the rows to the effects of the by-value step.
 ghost use mathlib.Core.Path.{_≡_};
 ghost use lib.ListN.{length};
-ghost use Rattle.regs.specs.Record.{eventNumber};
-ghost use Rattle.place.specs.View.{viewOf};
-ghost use Rattle.place.specs.Deeds.{argsWords, bumpWords, completeWord, completeWords, fetchOut, giveWords, injectWords, movedWords, pairWords, putWord, readWord, sixWords, stepWords, timerWords};
-use regs::Csrs;
-use regs::Event;
-use regs::GuestCsrs;
-use regs::HsCsrs;
-use regs::VsCsrs;
+ghost use Rattle.place.specs.Deeds.{completeWord, completeWords, giveWords, movedWords, putWord};
 use regs::Waiting;
-use types::Args;
 
 // Where each word lies.
 pub const A0: usize = 10;
@@ -72,27 +64,6 @@ pub fn sized(r: &[u64; 58]) -> usize
     count(r)
 }
 
-// What waits.
-pub fn waiting(r: &[u64; 58]) -> Waiting
-    ensures { λ w. ⌜ w ≡ viewOf (now (r .entry)) .waiting ⌝ }
-{
-    sized(r);
-    words::waiting_by(r[KIND], r[FIRST], r[SECOND], r[THIRD])
-}
-
-// A general register; x0 reads 0.
-pub fn read(r: &[u64; 58], i: usize) -> u64
-    ensures { λ n. ⌜ n ≡ readWord (now (r .entry)) i ⌝ }
-{
-    if i == 0 {
-        return 0;
-    }
-    if i < 32 {
-        return r[i];
-    }
-    0
-}
-
 // Writes a general register; x0 stays.
 pub fn put(r: &mut [u64; 58], i: usize, n: u64)
     ensures { λ _. ⌜ now (r .exit) ≡ putWord (now (r .entry)) i n ⌝ }
@@ -102,20 +73,6 @@ pub fn put(r: &mut [u64; 58], i: usize, n: u64)
     }
     if i < 32 {
         r[i] = n;
-    }
-}
-
-// a0 to a5.
-pub fn args(r: &[u64; 58]) -> Args
-    ensures { λ a. ⌜ a ≡ argsWords (now (r .entry)) ⌝ }
-{
-    Args {
-        a0: r[A0],
-        a1: r[A1],
-        a2: r[A2],
-        a3: r[A3],
-        a4: r[A4],
-        a5: r[A5],
     }
 }
 
@@ -157,14 +114,6 @@ pub fn advance(r: &mut [u64; 58], by: u64)
     r[SEPC] = regs::plus(r[SEPC], by);
 }
 
-// Nothing waits, and sepc moves on.
-pub fn step(r: &mut [u64; 58], by: u64)
-    ensures { λ _. ⌜ now (r .exit) ≡ stepWords (now (r .entry)) by ⌝ }
-{
-    r[KIND] = 0;
-    advance(r, by);
-}
-
 // a0 is this, and the call is finished.
 pub fn give(r: &mut [u64; 58], n: u64)
     ensures { λ _. ⌜ now (r .exit) ≡ giveWords (now (r .entry)) n ⌝ }
@@ -172,110 +121,4 @@ pub fn give(r: &mut [u64; 58], n: u64)
     r[KIND] = 0;
     r[A0] = n;
     advance(r, 4);
-}
-
-// a0 and a1 are these, and the call is finished.
-pub fn pair(r: &mut [u64; 58], e: u64, v: u64)
-    ensures { λ _. ⌜ now (r .exit) ≡ pairWords (now (r .entry)) e v ⌝ }
-{
-    r[KIND] = 0;
-    r[A0] = e;
-    r[A1] = v;
-    advance(r, 4);
-}
-
-// The timer is set, and counted.
-pub fn timer(r: &mut [u64; 58], deadline: u64)
-    ensures { λ _. ⌜ now (r .exit) ≡ timerWords (now (r .entry)) deadline ⌝ }
-{
-    r[VSTIMECMP] = deadline;
-    bump(r, 1);
-}
-
-// One more in the count of an event's number; 0 is no event.
-pub fn bump(r: &mut [u64; 58], number: usize)
-    ensures { λ _. ⌜ now (r .exit) ≡ bumpWords (now (r .entry)) number ⌝ }
-{
-    if number == 0 {
-        return;
-    }
-    if number < 10 {
-        let at = number + 44;
-        r[at] = regs::plus(r[at], 1);
-    }
-}
-
-pub fn event_number(e: Event) -> usize
-    ensures { λ r. ⌜ r ≡ eventNumber e ⌝ }
-{
-    match e {
-        Event::Quiet => 0,
-        Event::SetTimer => 1,
-        Event::IllegalInsn => 2,
-        Event::FenceI => 3,
-        Event::SfenceVma => 4,
-        Event::SfenceVmaAsid => 5,
-        Event::HfenceGvmaVmid => 6,
-        Event::HfenceGvma => 7,
-        Event::HfenceVvmaAsid => 8,
-        Event::HfenceVvma => 9,
-    }
-}
-
-// a0 to a5 into the reply.
-pub fn six(r: &[u64; 58], out: &mut [u64; 8])
-    ensures { λ _. ⌜ now (out .exit) ≡ sixWords (now (r .entry)) (now (out .entry)) ⌝ }
-{
-    out[2] = r[A0];
-    out[3] = r[A1];
-    out[4] = r[A2];
-    out[5] = r[A3];
-    out[6] = r[A4];
-    out[7] = r[A5];
-}
-
-// Ask 1: at sepc, with the guest's rights.
-pub fn ask_fetch(r: &[u64; 58], out: &mut [u64; 8])
-    ensures { λ _. ⌜ now (out .exit) ≡ fetchOut (now (r .entry)) (now (out .entry)) ⌝ }
-{
-    out[0] = r[SEPC];
-    out[1] = words::flag(registers::spvp(r[HSTATUS]));
-}
-
-pub fn csrs(r: &[u64; 58]) -> Csrs
-    ensures { λ c. ⌜ c ≡ viewOf (now (r .entry)) .csrs ⌝ }
-{
-    sized(r);
-    let guest = GuestCsrs {
-        sepc: r[SEPC],
-        sstatus: r[SSTATUS],
-        hstatus: r[HSTATUS],
-    };
-    let vs = VsCsrs {
-        vsstatus: r[VSSTATUS],
-        vstvec: r[VSTVEC],
-        vsepc: r[VSEPC],
-        vscause: r[VSCAUSE],
-        vstval: r[VSTVAL],
-        vstimecmp: r[VSTIMECMP],
-    };
-    let hs = HsCsrs {
-        hie: r[HIE],
-        hvip: r[HVIP],
-        hgeie: r[HGEIE],
-        hgatp: r[HGATP],
-    };
-    Csrs { guest, vs, hs }
-}
-
-// The CSRs that an injected exception changes.
-pub fn inject(r: &mut [u64; 58], c: Csrs)
-    ensures { λ _. ⌜ now (r .exit) ≡ injectWords (now (r .entry)) c ⌝ }
-{
-    r[KIND] = 0;
-    r[VSSTATUS] = c.vs.vsstatus;
-    r[VSEPC] = c.vs.vsepc;
-    r[VSCAUSE] = c.vs.vscause;
-    r[VSTVAL] = c.vs.vstval;
-    r[SEPC] = c.guest.sepc;
 }

@@ -8,21 +8,21 @@ pub fn do_call(r: &mut [u64; 58], out: &mut [u64; 8], d: Call) -> u64
 {
     match d {
         Call::Returns(e, v) => {
-            place::pair(r, e, v);
+            place_change::pair(r, e, v);
             0
         }
         Call::Moves => {
-            place::step(r, 4);
+            place_change::step(r, 4);
             0
         }
         Call::LegacyTimer(deadline) => {
-            place::timer(r, deadline);
+            place_change::timer(r, deadline);
             place::give(r, 0);
             0
         }
         Call::SetTimer(deadline) => {
-            place::timer(r, deadline);
-            place::pair(r, 0, 0);
+            place_change::timer(r, deadline);
+            place_change::pair(r, 0, 0);
             0
         }
         Call::ClearIpi => {
@@ -49,14 +49,14 @@ pub fn do_call(r: &mut [u64; 58], out: &mut [u64; 8], d: Call) -> u64
             out[0] = request.mask;
             out[1] = request.base;
             out[2] = codes::abi_number(abi);
-            place::step(r, 4);
+            place_change::step(r, 4);
             2
         }
         Call::CpuUp(target_cpu, entry_point, arg) => {
             out[0] = target_cpu;
             out[1] = entry_point.0;
             out[2] = arg;
-            place::step(r, 4);
+            place_change::step(r, 4);
             3
         }
         Call::CpuDown => {
@@ -74,8 +74,8 @@ pub fn do_call(r: &mut [u64; 58], out: &mut [u64; 8], d: Call) -> u64
         }
         Call::Hypercall => {
             out[0] = r[place::A6];
-            place::six(r, out);
-            place::step(r, 4);
+            place_read::six(r, out);
+            place_change::step(r, 4);
             6
         }
         Call::CopyIn(at, n) => {
@@ -100,8 +100,8 @@ pub fn do_call(r: &mut [u64; 58], out: &mut [u64; 8], d: Call) -> u64
         Call::Forward(event) => {
             out[0] = r[place::A7];
             out[1] = r[place::A6];
-            place::six(r, out);
-            place::bump(r, place::event_number(event));
+            place_read::six(r, out);
+            place_change::bump(r, place_change::event_number(event));
             r[place::KIND] = 12;
             0x29
         }

@@ -13,19 +13,19 @@ pub fn do_csr(r: &mut [u64; 58], out: &mut [u64; 8], d: Csr) -> u64
 {
     match d {
         Csr::Illegal => {
-            place::bump(r, 2);
+            place_change::bump(r, 2);
             r[place::KIND] = 0;
             0x103
         }
         Csr::Fetch => {
-            place::ask_fetch(r, out);
+            place_read::ask_fetch(r, out);
             r[place::KIND] = 2;
             0x21
         }
         Csr::Write { rd, timer } => {
             let old = r[place::VSTIMECMP];
             r[place::VSTIMECMP] = timer;
-            place::step(r, 4);
+            place_change::step(r, 4);
             place::put(r, rd, old);
             0
         }
@@ -44,7 +44,7 @@ pub fn do_fault(
 {
     match d {
         Fault::Fetch => {
-            place::ask_fetch(r, out);
+            place_read::ask_fetch(r, out);
             r[place::KIND] = 3;
             r[place::FIRST] = at.0;
             r[place::SECOND] = codes::access_number(access);
@@ -88,7 +88,7 @@ pub fn do_fault(
             out[0] = at.0;
             out[1] = codes::width_bytes(width);
             out[2] = data;
-            place::step(r, length);
+            place_change::step(r, length);
             10
         }
     }
@@ -100,8 +100,8 @@ pub fn do_missed(r: &mut [u64; 58], out: &mut [u64; 8], d: Missed) -> u64
 {
     match d {
         Missed::Inject { cause, addr } => {
-            let c = place::csrs(r);
-            place::inject(r, fetch::inject(c, cause, addr));
+            let c = place_read::csrs(r);
+            place_change::inject(r, fetch::inject(c, cause, addr));
             0
         }
         Missed::Nested(addr) => {
@@ -124,7 +124,7 @@ pub fn do_answered(r: &mut [u64; 58], out: &mut [u64; 8], d: Answered) -> u64
     match d {
         Answered::Wrong => 0x107,
         Answered::Moves => {
-            place::step(r, 4);
+            place_change::step(r, 4);
             0
         }
         Answered::Gives(n) => {
@@ -132,7 +132,7 @@ pub fn do_answered(r: &mut [u64; 58], out: &mut [u64; 8], d: Answered) -> u64
             0
         }
         Answered::Returns(e, v) => {
-            place::pair(r, e, v);
+            place_change::pair(r, e, v);
             0
         }
         Answered::SendIpi(request) => {
@@ -140,7 +140,7 @@ pub fn do_answered(r: &mut [u64; 58], out: &mut [u64; 8], d: Answered) -> u64
             out[0] = request.mask;
             out[1] = request.base;
             out[2] = codes::abi_number(abi);
-            place::step(r, 4);
+            place_change::step(r, 4);
             2
         }
         Answered::Print(n) => {

@@ -117,7 +117,8 @@ unfolding guardedOf
 guarded-keeps ask c w e k = pick-keeps (eqb ask 0) k (refused-keeps c w error.BadState)
 
 -- a call that is refused while an ask waits
-pub guarded-by : (r s : List ℕ) (n : ℕ) → length r ≡ 58 → (e : Effect) → Keeps e (viewOf r .waiting)
+
+guarded-by : (r s : List ℕ) (n : ℕ) → length r ≡ 58 → (e : Effect) → Keeps e (viewOf r .waiting)
     → let g : Effect = guardedOf (waitingAsk (viewOf r .waiting)) (viewOf r .csrs) (viewOf r .waiting) e in
     (s ≡ hostWords r g) × (n ≡ replyWord (g .reply)) → Done (hostLeaves r) (unlessAsking (viewOf r) e) s n
 unfolding unlessAsking
@@ -126,6 +127,15 @@ guarded-by r s n l e k h =
     let d : Done (hostLeaves r) (applied (viewOf r) g) (hostWords r g) (replyWord (g .reply)) =
     host-done r l g (guarded-keeps (waitingAsk (viewOf r .waiting)) (viewOf r .csrs) (viewOf r .waiting) e k) in
     record { shows = ap viewOf (h .0) ∙ d .shows; waits = ap (λ (k : List ℕ). drop 54 k) (h .0) ∙ d .waits; says = h .1 ∙ d .says }
+
+-- the same, as the function comes by it
+pub guarded-made : (r s : List ℕ) (n : ℕ) → length r ≡ 58 → (c : Csrs) (w : Waiting) (e : Effect) → c ≡ viewOf r .csrs → w ≡ viewOf r .waiting → Keeps e w
+    → let g : Effect = guardedOf (waitingAsk w) c w e in
+    (s ≡ hostWords r g) × (n ≡ replyWord (g .reply)) → Done (hostLeaves r) (unlessAsking (viewOf r) e) s n
+guarded-made r s n l c w e p q k h =
+    guarded-by r s n l e (subst (λ (u : Waiting). Keeps e u) q k)
+    (subst (λ (u : Waiting). (s ≡ hostWords r (guardedOf (waitingAsk u) (viewOf r .csrs) u e)) × (n ≡ replyWord (guardedOf (waitingAsk u) (viewOf r .csrs) u e .reply))) q
+    (subst (λ (d : Csrs). (s ≡ hostWords r (guardedOf (waitingAsk w) d w e)) × (n ≡ replyWord (guardedOf (waitingAsk w) d w e .reply))) p h))
 
 -- the n of ask 4, where it waits
 

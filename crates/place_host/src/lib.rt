@@ -3,17 +3,20 @@
 ghost use mathlib.Core.Path.{_≡_};
 ghost use Prim.Native.Nat.{_+_};
 ghost use Rattle.types.specs.Numbers.{askNumber, errorNumber};
+ghost use Rattle.regs.specs.Effects.{unlessAsking};
 ghost use Rattle.calls.specs.Calls.{printCount};
-ghost use Rattle.place.specs.View.{replyWord, viewOf};
-ghost use Rattle.place_host.specs.Host.{hostWords, printedBy, writeWords};
+ghost use Rattle.place.specs.View.{Done, hostLeaves, replyWord, viewOf};
+ghost use Rattle.place_host.specs.Host.{Keeps, hostWords, printedBy, writeWords};
+use regs::Csrs;
 use regs::Effect;
+use regs::Waiting;
 use regs::Writes;
 use types::Ask;
 use types::Error;
 use types::Reply;
 
 // Writes an effect that counts nothing and leaves what waits.
-pub fn host(r: &mut [u64; 58], e: Effect) -> u64
+fn host(r: &mut [u64; 58], e: Effect) -> u64
     ensures { λ n. ⌜ (now (r .exit) ≡ hostWords (now (r .entry)) e) × (n ≡ replyWord (e .reply)) ⌝ }
 {
     let writes = e.writes;
@@ -33,6 +36,14 @@ pub fn host(r: &mut [u64; 58], e: Effect) -> u64
     r[place::HGATP] = e.csrs.hs.hgatp;
     write(r, writes);
     reply_word(reply)
+}
+
+// Writes the effect of a host's own call, by the CSRs and what waits; while an ask waits the call is refused.
+pub fn unless_asking(r: &mut [u64; 58], c: Csrs, w: Waiting, e: Effect) -> u64
+    ensures { λ n. ⌜ (c ≡ viewOf (now (r .entry)) .csrs → w ≡ viewOf (now (r .entry)) .waiting → Keeps e w → Done (hostLeaves (now (r .entry))) (unlessAsking (viewOf (now (r .entry))) e) (now (r .exit)) n) ⌝ }
+{
+    place::sized(r);
+    host(r, effects::guarded(regs::ask_of(w), c, w, e))
 }
 
 // How many bytes of the lent buffer ask 4 prints, where it waits.

@@ -10,33 +10,30 @@ use types::GuestPhysAddr;
 pub fn setup(r: &mut [u64; 58]) -> u64
     ensures { λ n. ⌜ Done (hostLeaves (now (r .entry))) (setupOf (viewOf (now (r .entry)))) (now (r .exit)) n ⌝ }
 {
-    place::sized(r);
-    let c = place::csrs(r);
-    let w = place::waiting(r);
+    let c = place_read::csrs(r);
+    let w = place_read::waiting(r);
     let e = effects::done(host_calls::setup_csrs(c), Writes::Keep, w);
-    place_host::host(r, effects::guarded(regs::ask_of(w), c, w, e))
+    place_host::unless_asking(r, c, w, e)
 }
 
 // Where the guest starts.
 pub fn set_entry(r: &mut [u64; 58], entry: GuestPhysAddr) -> u64
     ensures { λ n. ⌜ Done (hostLeaves (now (r .entry))) (setEntryOf (viewOf (now (r .entry))) entry) (now (r .exit)) n ⌝ }
 {
-    place::sized(r);
-    let c = place::csrs(r);
-    let w = place::waiting(r);
+    let c = place_read::csrs(r);
+    let w = place_read::waiting(r);
     let e = effects::done(host_calls::entry_csrs(c, entry), Writes::Keep, w);
-    place_host::host(r, effects::guarded(regs::ask_of(w), c, w, e))
+    place_host::unless_asking(r, c, w, e)
 }
 
 // Sets the guest-stage page table.
 pub fn set_nested_page_table(r: &mut [u64; 58], levels: u64, mode: u64, root: u64) -> u64
     ensures { λ n. ⌜ Done (hostLeaves (now (r .entry))) (pagingOf (viewOf (now (r .entry))) levels mode root) (now (r .exit)) n ⌝ }
 {
-    place::sized(r);
-    let c = place::csrs(r);
-    let w = place::waiting(r);
+    let c = place_read::csrs(r);
+    let w = place_read::waiting(r);
     let e = host_calls::paging_effect(c, w, levels, mode, root);
-    place_host::host(r, effects::guarded(regs::ask_of(w), c, w, e))
+    place_host::unless_asking(r, c, w, e)
 }
 
 // A record of zeros but for what a guest finds at its start.

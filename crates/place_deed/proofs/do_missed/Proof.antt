@@ -4,7 +4,7 @@ use Rattle.place.specs.Deeds.{missedLeft}
 use borrow.Author.Needs.{needs}
 use Rattle.place_deed.proofs.do_missed.Statement.{statement}
 use Rattle.place_deed.proofs.do_missed.Tie as tie
-use Rattle.place.proofs.inject.Reads as inject-reads′
+use Rattle.place_change.proofs.inject.Reads as inject-reads′
 
 enum-known-d : tie.Need-enum-known-d
 enum-known-d c = search needs

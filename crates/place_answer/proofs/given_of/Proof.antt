@@ -1,0 +1,23 @@
+-- `place_answer::given_of` meets its contract.
+use mathlib.Core.Path.{refl}
+use Rattle.place_answer.specs.Words.{givenWords}
+use borrow.Author.Needs.{needs}
+use Rattle.place_answer.proofs.given_of.Statement.{statement}
+use Rattle.place_answer.proofs.given_of.Tie as tie
+
+element-copy-out-t4 : tie.Need-element-copy-out-t4
+element-copy-out-t4 c = search needs
+
+element-copy-out-t7 : tie.Need-element-copy-out-t7
+element-copy-out-t7 c = search needs
+
+element-copy-out-t10 : tie.Need-element-copy-out-t10
+element-copy-out-t10 c = search needs
+
+returns : tie.Need-returns
+unfolding givenWords
+returns c = refl
+
+pub given-of-spec : {M : Type 1} → statement M
+given-of-spec =
+    tie.close (tie.spec element-copy-out-t4 element-copy-out-t7 element-copy-out-t10 returns)

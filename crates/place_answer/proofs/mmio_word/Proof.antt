@@ -1,0 +1,39 @@
+-- `place_answer::mmio_word` meets its contract.
+use Rattle.place.specs.Laws.{made-by}
+use Rattle.place_answer.specs.Laws.{mmio-made}
+use borrow.Author.Needs.{needs}
+use Rattle.place_answer.proofs.mmio_word.Statement.{statement}
+use Rattle.place_answer.proofs.mmio_word.Tie as tie
+
+sized-requires : tie.Need-sized-requires
+sized-requires c κs = search needs
+
+from-fetched-requires : tie.Need-from-fetched-requires
+from-fetched-requires c κs = search needs
+
+store-source-requires : tie.Need-store-source-requires
+store-source-requires c κs = search needs
+
+read-requires : tie.Need-read-requires
+read-requires c κs = search needs
+
+decide-requires : tie.Need-decide-requires
+decide-requires c κs = search needs
+
+do-fault-requires : tie.Need-do-fault-requires
+do-fault-requires c κs = search needs
+
+returns : tie.Need-returns
+returns c = made-by (mmio-made _ _ (c .before .before .before .before .before .before .before .before .sized .ensures) _ _ _) (simp (c .before .decide .ensures, c .before .before .before .before .read .ensures, c .before .before .before .before .before .store-source .ensures, c .before .before .before .before .before .before .before .from-fetched .ensures) at (c .do-fault .ensures))
+
+pub mmio-word-spec : {M : Type 1} → statement M
+mmio-word-spec =
+    tie.close
+    (tie.spec
+    sized-requires
+    from-fetched-requires
+    store-source-requires
+    read-requires
+    decide-requires
+    do-fault-requires
+    returns)

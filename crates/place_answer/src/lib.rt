@@ -1,0 +1,144 @@
+// An answer on the lent words, and a load's completion: how the host carries a trap on. The decisions are those of the
+// by-value step, and so is what is promised: Made says it of the whole outcome.
+ghost use mathlib.Core.Path.{_≡_};
+ghost use Rattle.fields.specs.Fields.{rs1Field};
+ghost use Rattle.decoder.specs.Length.{fetchedOf as fetchedWord};
+ghost use Rattle.regs.specs.Record.{valueOf, waitingAsk};
+ghost use Rattle.regs.specs.Effects.{applied};
+ghost use Rattle.virtual_inst.specs.Stimecmp.{csrEffect, csrOf};
+ghost use Rattle.calls.specs.Traps.{mmioOf};
+ghost use Rattle.calls.specs.Resume.{fetchedOf, resumedOf};
+ghost use Rattle.calls.specs.Calls.{completeLoadOf};
+ghost use Rattle.calls.specs.Entry.{calledOf};
+ghost use Rattle.calls.specs.Kinds.{answerBy};
+ghost use Rattle.words.specs.Words.{fetchOf};
+ghost use Rattle.place.specs.View.{Done, Made, trapLeaves, viewOf};
+ghost use Rattle.place_answer.specs.Words.{givenWords};
+use regs::Waiting;
+use types::Access;
+use types::GuestPhysAddr;
+
+// An answer: the ask's number, and two numbers.
+pub struct Given {
+    pub ask: u64,
+    pub word: u64,
+    pub more: u64,
+}
+
+// The answer of three words, read with no record in sight.
+pub fn given_of(a: &[u64; 3]) -> Given
+    ensures { λ g. ⌜ g ≡ givenWords (now (a .entry)) ⌝ }
+{
+    Given {
+        ask: a[0],
+        word: a[1],
+        more: a[2],
+    }
+}
+
+// Answers the ask that waits.
+pub fn answer(r: &mut [u64; 58], out: &mut [u64; 8], a: Given) -> u64
+    ensures { λ w. ⌜ Made (trapLeaves (now (r .entry))) (now (out .entry)) (calledOf (viewOf (now (r .entry))) (answerBy (a .ask) (a .word) (a .more))) (now (r .exit)) (now (out .exit)) w ⌝ }
+{
+    let w = place_read::waiting(r);
+    matched(regs::ask_of(w), r, out, w, a.ask, a.word, a.more)
+}
+
+// Completes the load that waits.
+pub fn complete_load(r: &mut [u64; 58], n: u64) -> u64
+    ensures { λ w. ⌜ Done (trapLeaves (now (r .entry))) (completeLoadOf (viewOf (now (r .entry))) n) (now (r .exit)) w ⌝ }
+{
+    place::sized(r);
+    let w = place_read::waiting(r);
+    place::complete(r, w, n)
+}
+
+// An answer of another ask's kind, or to no ask, is refused; so is one whose number is no ask's.
+fn matched(
+    waits: u64,
+    r: &mut [u64; 58],
+    out: &mut [u64; 8],
+    w: Waiting,
+    ask: u64,
+    word: u64,
+    more: u64,
+) -> u64
+    ensures { λ c. ⌜ (w ≡ viewOf (now (r .entry)) .waiting → waits ≡ waitingAsk w → Made (trapLeaves (now (r .entry))) (now (out .entry)) (calledOf (viewOf (now (r .entry))) (answerBy ask word more)) (now (r .exit)) (now (out .exit)) c) ⌝ }
+{
+    place::sized(r);
+    if ask == 0 {
+        return 0x101;
+    }
+    if ask <= 9 {
+        if waits == ask {
+            if ask == 1 {
+                return fetched(r, out, w, word, more);
+            }
+            return place_deed::do_answered(r, out, answers::decide(w, word, more));
+        }
+        return 0x107;
+    }
+    0x101
+}
+
+// A fetch gave a word, or its fault is handled.
+fn fetched(r: &mut [u64; 58], out: &mut [u64; 8], w: Waiting, word: u64, more: u64) -> u64
+    ensures { λ c. ⌜ (w ≡ viewOf (now (r .entry)) .waiting → Made (trapLeaves (now (r .entry))) (now (out .entry)) (applied (viewOf (now (r .entry))) (fetchedOf (viewOf (now (r .entry)) .x) (viewOf (now (r .entry)) .csrs) w (fetchOf word more))) (now (r .exit)) (now (out .exit)) c) ⌝ }
+{
+    place::sized(r);
+    if more == 0 {
+        return resumed(r, out, w, (word % 0x1_0000_0000) as u32);
+    }
+    place_deed::do_missed(r, out, fetch::decide(words::fetch_of(word, more)))
+}
+
+// The trap goes on with the word that was fetched.
+fn resumed(r: &mut [u64; 58], out: &mut [u64; 8], w: Waiting, word: u32) -> u64
+    ensures { λ c. ⌜ (w ≡ viewOf (now (r .entry)) .waiting → Made (trapLeaves (now (r .entry))) (now (out .entry)) (applied (viewOf (now (r .entry))) (resumedOf (viewOf (now (r .entry)) .x) (viewOf (now (r .entry)) .csrs) w word)) (now (r .exit)) (now (out .exit)) c) ⌝ }
+{
+    match w {
+        Waiting::Idle => 0x107,
+        Waiting::Load {
+            rd: _,
+            width: _,
+            signed: _,
+        } => 0x107,
+        Waiting::FetchCsr => stimecmp_word(r, out, word as u64),
+        Waiting::FetchFault { at, access } => { mmio_word(r, out, at, access, word) }
+        Waiting::CopyMask => 0x107,
+        Waiting::CopyIn { count: _ } => 0x107,
+        Waiting::Print { count: _ } => 0x107,
+        Waiting::ReadConsole { count: _, at: _ } => 0x107,
+        Waiting::CopyOut { count: _ } => 0x107,
+        Waiting::PutChar => 0x107,
+        Waiting::PutByte => 0x107,
+        Waiting::GetChar => 0x107,
+        Waiting::Forward => 0x107,
+    }
+}
+
+// A load or store whose instruction was fetched.
+fn mmio_word(
+    r: &mut [u64; 58],
+    out: &mut [u64; 8],
+    at: GuestPhysAddr,
+    access: Access,
+    word: u32,
+) -> u64
+    ensures { λ w. ⌜ Made (trapLeaves (now (r .entry))) (now (out .entry)) (applied (viewOf (now (r .entry))) (mmioOf (viewOf (now (r .entry)) .x) (viewOf (now (r .entry)) .csrs) at access (fetchedWord word))) (now (r .exit)) (now (out .exit)) w ⌝ }
+{
+    place::sized(r);
+    let i = decoder::from_fetched(word);
+    let source = place_read::read(r, decoder::store_source(i));
+    place_deed::do_fault(r, out, at, access, page_fault::decide(access, i, source))
+}
+
+// A CSR instruction that was fetched.
+fn stimecmp_word(r: &mut [u64; 58], out: &mut [u64; 8], word: u64) -> u64
+    ensures { λ w. ⌜ Made (trapLeaves (now (r .entry))) (now (out .entry)) (applied (viewOf (now (r .entry))) (csrEffect (viewOf (now (r .entry)) .csrs) (csrOf word (viewOf (now (r .entry)) .csrs .vs .vstimecmp) (valueOf (viewOf (now (r .entry)) .x) (rs1Field word))))) (now (r .exit)) (now (out .exit)) w ⌝ }
+{
+    place::sized(r);
+    let rs1 = place_read::read(r, fields::rs1(word));
+    let d = virtual_inst::decide(word, r[place::VSTIMECMP], rs1);
+    place_deed::do_csr(r, out, d)
+}

@@ -1,0 +1,18 @@
+-- `place_change::timer` meets its contract.
+use Rattle.place.specs.Deeds.{timerWords}
+use borrow.Author.Needs.{needs}
+use Rattle.place_change.proofs.timer.Statement.{statement}
+use Rattle.place_change.proofs.timer.Tie as tie
+
+element-write-r : tie.Need-element-write-r
+element-write-r c = search needs
+
+bump-requires : tie.Need-bump-requires
+bump-requires c κs = search needs
+
+returns : tie.Need-returns
+unfolding timerWords
+returns c = simp (c .bump .ensures)
+
+pub timer-spec : {M : Type 1} → statement M
+timer-spec = tie.close (tie.spec element-write-r bump-requires returns)

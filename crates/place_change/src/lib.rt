@@ -1,0 +1,74 @@
+// The small writes that change a vCPU record of 58 lent words where it lies, beside those of crate place.
+ghost use mathlib.Core.Path.{_≡_};
+ghost use Rattle.regs.specs.Record.{eventNumber};
+ghost use Rattle.place.specs.Deeds.{bumpWords, injectWords, pairWords, stepWords, timerWords};
+use regs::Csrs;
+use regs::Event;
+
+// Nothing waits, and sepc moves on.
+pub fn step(r: &mut [u64; 58], by: u64)
+    ensures { λ _. ⌜ now (r .exit) ≡ stepWords (now (r .entry)) by ⌝ }
+{
+    r[place::KIND] = 0;
+    place::advance(r, by);
+}
+
+// a0 and a1 are these, and the call is finished.
+pub fn pair(r: &mut [u64; 58], e: u64, v: u64)
+    ensures { λ _. ⌜ now (r .exit) ≡ pairWords (now (r .entry)) e v ⌝ }
+{
+    r[place::KIND] = 0;
+    r[place::A0] = e;
+    r[place::A1] = v;
+    place::advance(r, 4);
+}
+
+// The timer is set, and counted.
+pub fn timer(r: &mut [u64; 58], deadline: u64)
+    ensures { λ _. ⌜ now (r .exit) ≡ timerWords (now (r .entry)) deadline ⌝ }
+{
+    r[place::VSTIMECMP] = deadline;
+    bump(r, 1);
+}
+
+// One more in the count of an event's number; 0 is no event.
+pub fn bump(r: &mut [u64; 58], number: usize)
+    ensures { λ _. ⌜ now (r .exit) ≡ bumpWords (now (r .entry)) number ⌝ }
+{
+    if number == 0 {
+        return;
+    }
+    if number < 10 {
+        let at = number + 44;
+        r[at] = regs::plus(r[at], 1);
+    }
+}
+
+pub fn event_number(e: Event) -> usize
+    ensures { λ r. ⌜ r ≡ eventNumber e ⌝ }
+{
+    match e {
+        Event::Quiet => 0,
+        Event::SetTimer => 1,
+        Event::IllegalInsn => 2,
+        Event::FenceI => 3,
+        Event::SfenceVma => 4,
+        Event::SfenceVmaAsid => 5,
+        Event::HfenceGvmaVmid => 6,
+        Event::HfenceGvma => 7,
+        Event::HfenceVvmaAsid => 8,
+        Event::HfenceVvma => 9,
+    }
+}
+
+// The CSRs that an injected exception changes.
+pub fn inject(r: &mut [u64; 58], c: Csrs)
+    ensures { λ _. ⌜ now (r .exit) ≡ injectWords (now (r .entry)) c ⌝ }
+{
+    r[place::KIND] = 0;
+    r[place::VSSTATUS] = c.vs.vsstatus;
+    r[place::VSEPC] = c.vs.vsepc;
+    r[place::VSCAUSE] = c.vs.vscause;
+    r[place::VSTVAL] = c.vs.vstval;
+    r[place::SEPC] = c.guest.sepc;
+}

@@ -1,0 +1,35 @@
+-- What a decision takes of the record is read of its words.
+use Prim.Native.Nat.{ℕ}
+use mathlib.Core.List.{List}
+use mathlib.Core.Path.{_≡_, ap, subst, _∙_}
+use lib.ListN.{getD, length}
+use Rattle.types.specs.declared.Access.{Access}
+use Rattle.types.specs.declared.GuestPhysAddr.{GuestPhysAddr}
+use Rattle.regs.specs.declared.Csrs.{Csrs}
+use Rattle.regs.specs.Record.{valueOf}
+use Rattle.virtual_inst.specs.declared.Csr.{Csr}
+use Rattle.virtual_inst.specs.Stimecmp.{csrEffect}
+use Rattle.page_fault.specs.Mmio.{faultEffect}
+use Rattle.place.specs.View.{viewOf}
+use Rattle.place.specs.Deeds.{csrLeft, faultLeft, readWord}
+use Rattle.place.specs.Laws.{On, csr-made, csrs-words, fault-made, read-shows}
+use Rattle.page_fault.specs.declared.Fault.{Fault}
+
+-- a virtual instruction: the old timer and rs1 are read of the words
+
+timer-words : (r : List ℕ) → length r ≡ 58 → getD r 40 0 ≡ viewOf r .csrs .vs .vstimecmp
+timer-words r e = ap (λ (c : Csrs). c .vs .vstimecmp) (csrs-words r e)
+
+pub csr-by : (r o : List ℕ) → length r ≡ 58 → (d : ℕ → ℕ → Csr) (i : ℕ) → On r o (csrEffect (viewOf r .csrs) (d (viewOf r .csrs .vs .vstimecmp) (valueOf (viewOf r .x) i))) (csrLeft r o (d (getD r 40 0) (readWord r i)))
+csr-by r o e d i =
+    subst (λ (q : Csr). On r o (csrEffect (viewOf r .csrs) q) (csrLeft r o (d (getD r 40 0) (readWord r i))))
+    (ap (λ (n : ℕ). d n (readWord r i)) (timer-words r e) ∙ ap (λ (n : ℕ). d (viewOf r .csrs .vs .vstimecmp) n) (read-shows r i))
+    (csr-made r o e (d (getD r 40 0) (readWord r i)))
+
+-- a guest page fault: a store's rs2 is read of the words
+pub fault-by : (r o : List ℕ) → length r ≡ 58 → (at : GuestPhysAddr) (k : Access) (d : ℕ → Fault) (i : ℕ)
+    → On r o (faultEffect (viewOf r .csrs) at k (d (valueOf (viewOf r .x) i))) (faultLeft r o at k (d (readWord r i)))
+fault-by r o e at k d i =
+    subst (λ (n : ℕ). On r o (faultEffect (viewOf r .csrs) at k (d n)) (faultLeft r o at k (d (readWord r i))))
+    (read-shows r i)
+    (fault-made r o e at k (d (readWord r i)))

@@ -1,0 +1,36 @@
+-- `place_trap::trap_of` meets its contract.
+use mathlib.Core.Path.{refl}
+use Rattle.place_trap.specs.Words.{trapWords}
+use borrow.Author.Needs.{needs}
+use Rattle.place_trap.proofs.trap_of.Statement.{statement}
+use Rattle.place_trap.proofs.trap_of.Tie as tie
+
+element-copy-out-t4 : tie.Need-element-copy-out-t4
+element-copy-out-t4 c = search needs
+
+element-copy-out-t7 : tie.Need-element-copy-out-t7
+element-copy-out-t7 c = search needs
+
+element-copy-out-t10 : tie.Need-element-copy-out-t10
+element-copy-out-t10 c = search needs
+
+element-copy-out-t13 : tie.Need-element-copy-out-t13
+element-copy-out-t13 c = search needs
+
+element-copy-out-t16 : tie.Need-element-copy-out-t16
+element-copy-out-t16 c = search needs
+
+returns : tie.Need-returns
+unfolding trapWords
+returns c = refl
+
+pub trap-of-spec : {M : Type 1} → statement M
+trap-of-spec =
+    tie.close
+    (tie.spec
+    element-copy-out-t4
+    element-copy-out-t7
+    element-copy-out-t10
+    element-copy-out-t13
+    element-copy-out-t16
+    returns)
