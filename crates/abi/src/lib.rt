@@ -21,5 +21,17 @@ pub extern "C" fn vcpu_call(v: &mut Record, c: CallWords) -> ReplyWords
 pub fn step(r: Record, c: CallWords) -> After
     ensures { λ a. ⌜ a ≡ exportedOf r c ⌝ }
 {
-    call_words::after_of(entry::call(words::unpack(r), call_words::call_of(c)))
+    let o = entry::call(words::unpack(r), call_words::call_of(c));
+    let v = o.vcpu;
+    let args = o.args;
+    let p = o.reply;
+    After {
+        rec: words::pack(v),
+        reply: ReplyWords {
+            kind: call_words::reply_kind(p),
+            number: call_words::reply_number(p),
+            values: call_words::reply_values(p),
+            args,
+        },
+    }
 }

@@ -48,16 +48,16 @@ replyValues reply.Done = 0 ∷ 0 ∷ 0 ∷ 0 ∷ 0 ∷ 0 ∷ 0 ∷ 0 ∷ []
 replyValues (reply.Value n) = n ∷ 0 ∷ 0 ∷ 0 ∷ 0 ∷ 0 ∷ 0 ∷ 0 ∷ []
 replyValues (reply.Error e) = 0 ∷ 0 ∷ 0 ∷ 0 ∷ 0 ∷ 0 ∷ 0 ∷ 0 ∷ []
 
--- a reply in words, and the arguments beside it
-unfoldable pub replyOf : Reply → List ℕ → ReplyWords
-replyOf p args =
-    record {
-      kind = replyKind p;
-      number = replyNumber p;
-      values = replyValues p;
-      args = args;
-    }
-
 -- an outcome in words
 unfoldable pub afterOf : Outcome → After
-afterOf o = record { rec = packOf (o .vcpu); reply = replyOf (o .reply) (o .args) }
+afterOf o =
+    record {
+      rec = packOf (o .vcpu);
+      reply =
+          record {
+            kind = replyKind (o .reply);
+            number = replyNumber (o .reply);
+            values = replyValues (o .reply);
+            args = o .args;
+          };
+    }

@@ -1,9 +1,8 @@
 // A call, and what comes of it, as words. specs/Words.antt says what each word means.
 ghost use mathlib.Core.Path.{_≡_};
 ghost use Rattle.calls.specs.Kinds.{answerBy, callBy};
-ghost use Rattle.call_words.specs.Words.{afterOf, callOf, replyKind, replyNumber, replyOf, replyValues};
+ghost use Rattle.call_words.specs.Words.{callOf, replyKind, replyNumber, replyValues};
 use calls::HostCall;
-use regs::Outcome;
 use types::Answer;
 use types::GuestPhysAddr;
 use types::Reply;
@@ -96,31 +95,6 @@ pub fn answer_of(ask: u64, a: u64, b: u64) -> HostCall
         8 => HostCall::Answer(Answer::Char { number: a }),
         9 => HostCall::Answer(Answer::Forwarded { error: a, value: b }),
         _ => HostCall::GetGpr { index: 32 },
-    }
-}
-
-// An outcome in words.
-pub fn after_of(o: Outcome) -> After
-    ensures { λ a. ⌜ a ≡ afterOf o ⌝ }
-{
-    let v = o.vcpu;
-    let args = o.args;
-    let p = o.reply;
-    After {
-        rec: words::pack(v),
-        reply: reply_of(p, args),
-    }
-}
-
-// A reply in words, and the arguments beside it.
-pub fn reply_of(p: Reply, args: [u64; 6]) -> ReplyWords
-    ensures { λ r. ⌜ r ≡ replyOf p args ⌝ }
-{
-    ReplyWords {
-        kind: reply_kind(p),
-        number: reply_number(p),
-        values: reply_values(p),
-        args,
     }
 }
 

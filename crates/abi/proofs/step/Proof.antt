@@ -1,5 +1,6 @@
 -- `abi::step` meets its contract.
 use Rattle.abi.specs.Words.{exportedOf}
+use Rattle.call_words.specs.Words.{afterOf}
 use borrow.Author.Needs.{needs}
 use Rattle.abi.proofs.step.Statement.{statement}
 use Rattle.abi.proofs.step.Tie as tie
@@ -13,13 +14,31 @@ call-of-requires c κs = search needs
 call-requires : tie.Need-call-requires
 call-requires c κs = search needs
 
-after-of-requires : tie.Need-after-of-requires
-after-of-requires c κs = search needs
+pack-requires : tie.Need-pack-requires
+pack-requires c κs = search needs
+
+reply-kind-requires : tie.Need-reply-kind-requires
+reply-kind-requires c κs = search needs
+
+reply-number-requires : tie.Need-reply-number-requires
+reply-number-requires c κs = search needs
+
+reply-values-requires : tie.Need-reply-values-requires
+reply-values-requires c κs = search needs
 
 returns : tie.Need-returns
-unfolding exportedOf
-returns c = simp (c .after-of .ensures, c .before .call .ensures, c .before .before .call-of .ensures, c .before .before .before .unpack .ensures)
+unfolding exportedOf afterOf
+returns c = simp (c .reply-values .ensures, c .before .reply-number .ensures, c .before .before .reply-kind .ensures, c .before .before .before .pack .ensures, c .before .before .before .before .before .before .call .ensures, c .before .before .before .before .before .before .before .call-of .ensures, c .before .before .before .before .before .before .before .before .unpack .ensures)
 
 pub step-spec : {M : Type 1} → statement M
 step-spec =
-    tie.close (tie.spec unpack-requires call-of-requires call-requires after-of-requires returns)
+    tie.close
+    (tie.spec
+    unpack-requires
+    call-of-requires
+    call-requires
+    pack-requires
+    reply-kind-requires
+    reply-number-requires
+    reply-values-requires
+    returns)
