@@ -22,7 +22,7 @@ pub fn set_gpr(r: &mut [u64; 58], index: usize, value: u64) -> u64
     let c = place_read::csrs(r);
     let w = place_read::waiting(r);
     let e = host_calls::write_effect(c, w, index, value);
-    place_host::unless_asking(r, c, w, e)
+    place_host::unless_asking(r, w, e)
 }
 
 // Writes a0.
@@ -32,5 +32,5 @@ pub fn set_return_value(r: &mut [u64; 58], value: u64) -> u64
     let c = place_read::csrs(r);
     let w = place_read::waiting(r);
     let e = effects::done(c, Writes::One(10, value), w);
-    place_host::unless_asking(r, c, w, e)
+    place_host::unless_asking(r, w, e)
 }

@@ -9,6 +9,7 @@ use native.Mathlib.Omega.{arith}
 use lib.Dec.{eqb}
 use borrow.Author.Tests.{eqb-true}
 use Rattle.types.specs.Pick.{pick}
+use Rattle.types.specs.Numbers.{errorNumber}
 use Rattle.types.specs.declared.Error.{Error}
 use Rattle.types.specs.declared.Error.the-variants as error
 use Rattle.regs.specs.declared.Csrs.{Csrs}
@@ -20,8 +21,8 @@ use Rattle.regs.specs.declared.Waiting.{Waiting}
 use Rattle.regs.specs.declared.Waiting.the-variants as waiting
 use Rattle.regs.specs.declared.Writes.{Writes}
 use Rattle.regs.specs.declared.Writes.the-variants as writes
-use Rattle.regs.specs.Record.{bumped, counted, eventNumber, stored, waitingAsk}
-use Rattle.regs.specs.Effects.{applied, doneOf, guardedOf, refusedOf}
+use Rattle.regs.specs.Record.{bumped, counted, eventNumber, listed, stored, waitingAsk}
+use Rattle.regs.specs.Effects.{applied, doneOf, guardedOf, noArgs, refusedOf}
 use Rattle.calls.specs.Calls.{printCount}
 use Rattle.regs.specs.Effects.{unlessAsking}
 use Rattle.words.specs.Words.{csrsOf, csrsWords, unpackOf, waitingBy, waitingOf}
@@ -112,30 +113,22 @@ pub pick-keeps : (b : Bool) {e f : Effect} {w : Waiting} → Keeps e w → Keeps
 pick-keeps true k l = k
 pick-keeps false k l = l
 
-guarded-keeps : (ask : ℕ) (c : Csrs) (w : Waiting) (e : Effect) → Keeps e w → Keeps (guardedOf ask c w e) w
-unfolding guardedOf
-guarded-keeps ask c w e k = pick-keeps (eqb ask 0) k (refused-keeps c w error.BadState)
-
 -- a call that is refused while an ask waits
 
-guarded-by : (r s : List ℕ) (n : ℕ) → length r ≡ 58 → (e : Effect) → Keeps e (viewOf r .waiting)
-    → let g : Effect = guardedOf (waitingAsk (viewOf r .waiting)) (viewOf r .csrs) (viewOf r .waiting) e in
-    (s ≡ hostWords r g) × (n ≡ replyWord (g .reply)) → Done (hostLeaves r) (unlessAsking (viewOf r) e) s n
-unfolding unlessAsking
-guarded-by r s n l e k h =
-    let g : Effect = guardedOf (waitingAsk (viewOf r .waiting)) (viewOf r .csrs) (viewOf r .waiting) e in
-    let d : Done (hostLeaves r) (applied (viewOf r) g) (hostWords r g) (replyWord (g .reply)) =
-    host-done r l g (guarded-keeps (waitingAsk (viewOf r .waiting)) (viewOf r .csrs) (viewOf r .waiting) e k) in
-    record { shows = ap viewOf (h .0) ∙ d .shows; waits = ap (λ (k : List ℕ). drop 54 k) (h .0) ∙ d .waits; says = h .1 ∙ d .says }
+waits-so : (r : List ℕ) (w : Waiting) (ask : ℕ) (b : Bool) → w ≡ viewOf r .waiting → ask ≡ waitingAsk w → eqb ask 0 ≡ b → eqb (waitingAsk (viewOf r .waiting)) 0 ≡ b
+waits-so r w ask b q a z = ap (λ (u : Waiting). eqb (waitingAsk u) 0) (sym q) ∙ ap (λ (n : ℕ). eqb n 0) (sym a) ∙ z
 
--- the same, as the function comes by it
-pub guarded-made : (r s : List ℕ) (n : ℕ) → length r ≡ 58 → (c : Csrs) (w : Waiting) (e : Effect) → c ≡ viewOf r .csrs → w ≡ viewOf r .waiting → Keeps e w
-    → let g : Effect = guardedOf (waitingAsk w) c w e in
-    (s ≡ hostWords r g) × (n ≡ replyWord (g .reply)) → Done (hostLeaves r) (unlessAsking (viewOf r) e) s n
-guarded-made r s n l c w e p q k h =
-    guarded-by r s n l e (subst (λ (u : Waiting). Keeps e u) q k)
-    (subst (λ (u : Waiting). (s ≡ hostWords r (guardedOf (waitingAsk u) (viewOf r .csrs) u e)) × (n ≡ replyWord (guardedOf (waitingAsk u) (viewOf r .csrs) u e .reply))) q
-    (subst (λ (d : Csrs). (s ≡ hostWords r (guardedOf (waitingAsk w) d w e)) × (n ≡ replyWord (guardedOf (waitingAsk w) d w e .reply))) p h))
+pub free-made : (r s : List ℕ) (n : ℕ) → length r ≡ 58 → (w : Waiting) (e : Effect) (ask : ℕ) → w ≡ viewOf r .waiting → ask ≡ waitingAsk w → eqb ask 0 ≡ true → Keeps e w
+    → (s ≡ hostWords r e) × (n ≡ replyWord (e .reply)) → Done (hostLeaves r) (unlessAsking (viewOf r) e) s n
+unfolding unlessAsking guardedOf
+free-made r s n l w e ask q a z k h =
+    let d : Done (hostLeaves r) (applied (viewOf r) e) (hostWords r e) (replyWord (e .reply)) = host-done r l e (subst (λ (u : Waiting). Keeps e u) q k) in
+    rw (waits-so r w ask true q a z)
+    (record { shows = ap viewOf (h .0) ∙ d .shows; waits = ap (λ (k : List ℕ). drop 54 k) (h .0) ∙ d .waits; says = h .1 ∙ d .says })
+
+pub busy-made : (r : List ℕ) (w : Waiting) (e : Effect) (ask : ℕ) → w ≡ viewOf r .waiting → ask ≡ waitingAsk w → eqb ask 0 ≡ false → Done (hostLeaves r) (unlessAsking (viewOf r) e) r 0x102
+unfolding unlessAsking guardedOf refusedOf applied noArgs stored counted bumped eventNumber listed replyWord errorNumber hostLeaves
+busy-made r w e ask q a z = rw (waits-so r w ask false q a z) (record { shows = refl; waits = refl; says = refl })
 
 -- the n of ask 4, where it waits
 

@@ -12,7 +12,7 @@ pub fn set_pending(r: &mut [u64; 58], vector: u64, level: bool) -> u64
     let c = place_read::csrs(r);
     let w = place_read::waiting(r);
     let e = host_calls::pending_effect(c, w, vector, level);
-    place_host::unless_asking(r, c, w, e)
+    place_host::unless_asking(r, w, e)
 }
 
 // Latches pending bits that the hardware raised.
@@ -22,7 +22,7 @@ pub fn latch_hvip(r: &mut [u64; 58], bits: u64) -> u64
     let c = place_read::csrs(r);
     let w = place_read::waiting(r);
     let e = effects::done(regs::with_hvip(c, c.hs.hvip | bits), Writes::Keep, w);
-    place_host::unless_asking(r, c, w, e)
+    place_host::unless_asking(r, w, e)
 }
 
 // Gives the guest the result of an IPI request.
@@ -36,5 +36,5 @@ pub fn complete_ipi(r: &mut [u64; 58], abi: IpiAbi, completion: IpiCompletion) -
         host_calls::ipi_writes(abi, sbi_ipi::completion_number(completion)),
         w,
     );
-    place_host::unless_asking(r, c, w, e)
+    place_host::unless_asking(r, w, e)
 }

@@ -13,7 +13,7 @@ pub fn setup(r: &mut [u64; 58]) -> u64
     let c = place_read::csrs(r);
     let w = place_read::waiting(r);
     let e = effects::done(host_calls::setup_csrs(c), Writes::Keep, w);
-    place_host::unless_asking(r, c, w, e)
+    place_host::unless_asking(r, w, e)
 }
 
 // Where the guest starts.
@@ -23,7 +23,7 @@ pub fn set_entry(r: &mut [u64; 58], entry: GuestPhysAddr) -> u64
     let c = place_read::csrs(r);
     let w = place_read::waiting(r);
     let e = effects::done(host_calls::entry_csrs(c, entry), Writes::Keep, w);
-    place_host::unless_asking(r, c, w, e)
+    place_host::unless_asking(r, w, e)
 }
 
 // Sets the guest-stage page table.
@@ -33,7 +33,7 @@ pub fn set_nested_page_table(r: &mut [u64; 58], levels: u64, mode: u64, root: u6
     let c = place_read::csrs(r);
     let w = place_read::waiting(r);
     let e = host_calls::paging_effect(c, w, levels, mode, root);
-    place_host::unless_asking(r, c, w, e)
+    place_host::unless_asking(r, w, e)
 }
 
 // A record of zeros but for what a guest finds at its start.

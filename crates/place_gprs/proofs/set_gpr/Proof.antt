@@ -19,7 +19,7 @@ unless-asking-requires c κs = search needs
 
 returns : tie.Need-returns
 unfolding setGprOf
-returns c = simp (c .before .before .write-effect .ensures, c .before .before .before .waiting .ensures, c .before .before .before .before .before .csrs .ensures) at (c .unless-asking .ensures (c .before .before .before .before .before .csrs .ensures) (c .before .before .before .waiting .ensures) (rw (c .before .before .write-effect .ensures) (write-keeps _ _ _ _)))
+returns c = simp (c .before .before .write-effect .ensures, c .before .before .before .waiting .ensures, c .before .before .before .before .before .csrs .ensures) at (c .unless-asking .ensures (c .before .before .before .waiting .ensures) (rw (c .before .before .write-effect .ensures) (write-keeps _ _ _ _)))
 
 pub set-gpr-spec : {M : Type 1} → statement M
 set-gpr-spec =

@@ -1,5 +1,6 @@
 -- `place_host::unless_asking` meets its contract.
-use Rattle.place_host.specs.Laws.{guarded-made}
+use borrow.Author.Tests.{eq-eqb, ne-eqb}
+use Rattle.place_host.specs.Laws.{free-made, busy-made}
 use borrow.Author.Needs.{needs}
 use Rattle.place_host.proofs.unless_asking.Statement.{statement}
 use Rattle.place_host.proofs.unless_asking.Tie as tie
@@ -10,15 +11,15 @@ sized-requires c κs = search needs
 ask-of-requires : tie.Need-ask-of-requires
 ask-of-requires c κs = search needs
 
-guarded-requires : tie.Need-guarded-requires
-guarded-requires c κs = search needs
-
 host-requires : tie.Need-host-requires
 host-requires c κs = search needs
 
 returns : tie.Need-returns
-returns c = λ p q k. guarded-made _ _ _ (c .before .before .before .before .sized .ensures) _ _ _ p q k (simp (c .before .guarded .ensures, c .before .before .ask-of .ensures) at (c .host .ensures))
+returns c = λ q k. free-made _ _ _ (c .before .before .before .before .sized .ensures) _ _ _ q (c .before .before .before .ask-of .ensures) (eq-eqb _ _ (c .before .before .if1 .taken)) k (c .host .ensures)
+
+returns-2 : tie.Need-returns-2
+returns-2 c = λ q k. busy-made _ _ _ _ q (c .before .ask-of .ensures) (ne-eqb _ _ (c .if1 .left))
 
 pub unless-asking-spec : {M : Type 1} → statement M
 unless-asking-spec =
-    tie.close (tie.spec sized-requires ask-of-requires guarded-requires host-requires returns)
+    tie.close (tie.spec sized-requires ask-of-requires host-requires returns returns-2)

@@ -19,7 +19,7 @@ unless-asking-requires c κs = search needs
 
 returns : tie.Need-returns
 unfolding pendingOf
-returns c = simp (c .before .before .pending-effect .ensures, c .before .before .before .waiting .ensures, c .before .before .before .before .before .csrs .ensures) at (c .unless-asking .ensures (c .before .before .before .before .before .csrs .ensures) (c .before .before .before .waiting .ensures) (rw (c .before .before .pending-effect .ensures) (pending-keeps _ _ _ _)))
+returns c = simp (c .before .before .pending-effect .ensures, c .before .before .before .waiting .ensures, c .before .before .before .before .before .csrs .ensures) at (c .unless-asking .ensures (c .before .before .before .waiting .ensures) (rw (c .before .before .pending-effect .ensures) (pending-keeps _ _ _ _)))
 
 pub set-pending-spec : {M : Type 1} → statement M
 set-pending-spec =
