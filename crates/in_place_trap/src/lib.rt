@@ -18,5 +18,5 @@ pub extern "C" fn vcpu_start(r: &mut [u64; 58], t: &[u64; 5], out: &mut [u64; 8]
 pub extern "C" fn vcpu_answer(r: &mut [u64; 58], a: &[u64; 3], out: &mut [u64; 8]) -> u64
     ensures { λ w. ⌜ Made (trapLeaves (now (r .entry))) (now (out .entry)) (calledOf (viewOf (now (r .entry))) (answerCall (now (a .entry)))) (now (r .exit)) (now (out .exit)) w ⌝ }
 {
-    place_answer::answer(r, out, place_answer::given_of(a))
+    place_answer::answer(r, out, place_answer::answer_words(a))
 }

@@ -13,23 +13,23 @@ ghost use Rattle.calls.specs.Entry.{calledOf};
 ghost use Rattle.calls.specs.Kinds.{answerBy};
 ghost use Rattle.words.specs.Words.{fetchOf};
 ghost use Rattle.place.specs.View.{Done, Made, trapLeaves, viewOf};
-ghost use Rattle.place_answer.specs.Words.{givenWords};
+ghost use Rattle.place_answer.specs.Words.{answerWords};
 use regs::Waiting;
 use types::Access;
 use types::GuestPhysAddr;
 
 // An answer: the ask's number, and two numbers.
-pub struct Given {
+pub struct AnswerWords {
     pub ask: u64,
     pub word: u64,
     pub more: u64,
 }
 
 // The answer of three words, read with no record in sight.
-pub fn given_of(a: &[u64; 3]) -> Given
-    ensures { λ g. ⌜ g ≡ givenWords (now (a .entry)) ⌝ }
+pub fn answer_words(a: &[u64; 3]) -> AnswerWords
+    ensures { λ g. ⌜ g ≡ answerWords (now (a .entry)) ⌝ }
 {
-    Given {
+    AnswerWords {
         ask: a[0],
         word: a[1],
         more: a[2],
@@ -37,7 +37,7 @@ pub fn given_of(a: &[u64; 3]) -> Given
 }
 
 // Answers the ask that waits.
-pub fn answer(r: &mut [u64; 58], out: &mut [u64; 8], a: Given) -> u64
+pub fn answer(r: &mut [u64; 58], out: &mut [u64; 8], a: AnswerWords) -> u64
     ensures { λ w. ⌜ Made (trapLeaves (now (r .entry))) (now (out .entry)) (calledOf (viewOf (now (r .entry))) (answerBy (a .ask) (a .word) (a .more))) (now (r .exit)) (now (out .exit)) w ⌝ }
 {
     let w = place_read::waiting(r);

@@ -1,9 +1,9 @@
--- `place_answer::given_of` meets its contract.
+-- `place_answer::answer_words` meets its contract.
 use mathlib.Core.Path.{refl}
-use Rattle.place_answer.specs.Words.{givenWords}
+use Rattle.place_answer.specs.Words.{answerWords}
 use borrow.Author.Needs.{needs}
-use Rattle.place_answer.proofs.given_of.Statement.{statement}
-use Rattle.place_answer.proofs.given_of.Tie as tie
+use Rattle.place_answer.proofs.answer_words.Statement.{statement}
+use Rattle.place_answer.proofs.answer_words.Tie as tie
 
 element-copy-out-t4 : tie.Need-element-copy-out-t4
 element-copy-out-t4 c = search needs
@@ -15,9 +15,9 @@ element-copy-out-t10 : tie.Need-element-copy-out-t10
 element-copy-out-t10 c = search needs
 
 returns : tie.Need-returns
-unfolding givenWords
+unfolding answerWords
 returns c = refl
 
-pub given-of-spec : {M : Type 1} → statement M
-given-of-spec =
+pub answer-words-spec : {M : Type 1} → statement M
+answer-words-spec =
     tie.close (tie.spec element-copy-out-t4 element-copy-out-t7 element-copy-out-t10 returns)
