@@ -41,6 +41,8 @@ import time
 ROOT = os.path.dirname(os.path.dirname(os.path.abspath(__file__)))
 WORK = f"{ROOT}/target/mutants"
 RESULTS = f"{ROOT}/docs/mutants.jsonl"
+# A library whose functions promise safety alone, and the program whose output shows what they do.
+SHOWN_BY = {"call_lines": "call_list"}
 SORTS = ("fact", "fact-new", "fit", "unfit", "run", "accepted")
 
 # ---- reading the code
@@ -444,33 +446,41 @@ class Copy:
             elif os.path.isfile(original):
                 shutil.copy(original, copy)
 
-    def rattle(self, verb, *words):
-        main = f"{self.dir}/src/main.rt"
-        line = [f"{self.own}/bin/rattle", verb, "--crate-name", self.crate, main if os.path.exists(main) else f"{self.dir}/src/lib.rt",
+    def rattle(self, verb, *words, program=None, rlib=None):
+        """Runs rattle on the crate, or on a program over the crate's rlib."""
+        crate, folder = (program, f"{ROOT}/crates/{program}") if program else (self.crate, self.dir)
+        main = f"{folder}/src/main.rt"
+        line = [f"{self.own}/bin/rattle", verb, "--crate-name", crate, main if os.path.exists(main) else f"{folder}/src/lib.rt",
                 "--extern", f"std={self.own}/rlib/std.rlib"]
-        for d in self.deps[self.crate]:
-            line += ["--extern", f"{d}={ROOT}/target/rlib/{d}.rlib" if d in self.deps else f"{d}={self.own}/rlib/{d}.rlib"]
+        for d in self.deps[crate]:
+            home = rlib if program and d == self.crate else f"{ROOT if d in self.deps else self.own}/{'target/' if d in self.deps else ''}rlib/{d}.rlib"
+            line += ["--extern", f"{d}={home}"]
         line += ["-L", f"dependency={ROOT}/target/rlib", "-L", f"dependency={self.own}/rlib", "--antt-project",
-                 f"{self.home}/logic/antt-project.json", "--logic-built", f"{self.own}/logic-built", "--incremental",
-                 f"{self.root}/target/inc/{self.crate}", *words]
+                 f"{self.home}/logic/antt-project.json", "--logic-built", f"{self.own}/logic-built", *words]
         done = subprocess.run(line, capture_output=True, text=True, cwd=self.root)
         return done.returncode, done.stdout + done.stderr
 
     def check(self, *words):
-        return self.rattle("check", *words)
+        return self.rattle("check", "--incremental", f"{self.root}/target/inc/{self.crate}", *words)
 
-    def runs_alike(self):
-        """Whether the program still writes what its file `stdout` has; and what happened. It runs as under `rt check`: over
-        a copy of its data, and as nobody where this is root."""
+    def runs_alike(self, program=None):
+        """Whether the crate, or a program over it, still writes what its file `stdout` has; and what happened. It runs as
+        under `rt check`: over a copy of its data, and as nobody where this is root."""
         tools, room = f"{self.own}/toolchain", tempfile.mkdtemp()
+        folder = f"{ROOT}/crates/{program}" if program else self.dir
         try:
-            status, said = self.rattle("build", "--toolchain", tools, "-o", f"{room}/program.o")
+            status, said = self.rattle("build", "-o", f"{room}/{self.crate}.rlib") if program else (0, "")
+            if not status:
+                kept = f"{self.root}/target/inc/{program or self.crate}"
+                os.makedirs(kept, exist_ok=True)
+                status, said = self.rattle("build", "--incremental", kept, "--toolchain", tools, "-o", f"{room}/program.o",
+                                           program=program, rlib=f"{room}/{self.crate}.rlib")
             if status:
                 return False, said[-160:]
             subprocess.run([f"{self.own}/bin/rattle-link", "--target", "x86_64-unknown-linux-gnu", "--toolchain", tools, "-o", f"{room}/program",
                             f"{room}/program.o", f"{self.home}/lib/libos_c.a"], check=True, capture_output=True)
-            part = lambda name: open(f"{self.dir}/{name}", "rb").read() if os.path.isfile(f"{self.dir}/{name}") else b""
-            shutil.copytree(f"{self.dir}/data", f"{room}/data") if os.path.isdir(f"{self.dir}/data") else os.mkdir(f"{room}/data")
+            part = lambda name: open(f"{folder}/{name}", "rb").read() if os.path.isfile(f"{folder}/{name}") else b""
+            shutil.copytree(f"{folder}/data", f"{room}/data") if os.path.isdir(f"{folder}/data") else os.mkdir(f"{room}/data")
             line = [f"{tools}/lib/ld-linux-x86-64.so.2", "--library-path", f"{tools}/lib", f"{room}/program", *part("args").decode().split("\n")]
             if line[-1] == "":
                 line.pop()
@@ -646,12 +656,12 @@ def prove_anew(copy, prover, batch):
 
 
 def run_accepted(copy, done):
-    """Of a program's accepted mutants, those that the comparison of its output notices."""
-    if os.path.exists(f"{copy.dir}/src/main.rt"):
+    """Of the accepted mutants of a program, or of its own library, those that the comparison of its output notices."""
+    if os.path.exists(f"{copy.dir}/src/main.rt") or copy.crate in SHOWN_BY:
         for k, (m, sort, message) in enumerate(done):
             if sort == "accepted":
                 change(copy, [m])
-                alike, said = copy.runs_alike()
+                alike, said = copy.runs_alike(SHOWN_BY.get(copy.crate))
                 done[k] = (m, "accepted" if alike else "run", said)
     return done
 
