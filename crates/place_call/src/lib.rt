@@ -1,6 +1,11 @@
 // An SBI call, done on the lent words once it is decided.
-ghost use Rattle.place.specs.Deeds.{Leaves, callLeft};
+ghost use mathlib.Core.Path.{_≡_};
+ghost use lib.ListN.{set};
+ghost use Rattle.place.specs.Deeds.{Leaves, callLeft, left, one, stepWords, three};
+ghost use Rattle.sbi.specs.declared.Call.the-variants as call;
+use regs::Event;
 use sbi::Call;
+use types::GuestPhysAddr;
 
 // Does an SBI call.
 pub fn do_call(r: &mut [u64; 58], out: &mut [u64; 8], d: Call) -> u64
@@ -30,80 +35,98 @@ pub fn do_call(r: &mut [u64; 58], out: &mut [u64; 8], d: Call) -> u64
             place::give(r, 0);
             0
         }
-        Call::PutChar(n) => {
-            out[0] = n;
-            r[place::KIND] = 9;
-            0x27
-        }
-        Call::GetChar => {
-            r[place::KIND] = 11;
-            0x28
-        }
-        Call::CopyMask(at) => {
-            out[0] = at.0;
-            r[place::KIND] = 4;
-            0x22
-        }
+        Call::PutChar(n) => tells(r, out, n, 9, 0x27),
+        Call::GetChar => waits(r, 11, 0x28),
+        Call::CopyMask(at) => tells(r, out, at.0, 4, 0x22),
         Call::SendIpi(request) => {
             let abi = request.abi;
-            out[0] = request.mask;
-            out[1] = request.base;
-            out[2] = codes::abi_number(abi);
-            place_change::step(r, 4);
-            2
+            passes(
+                r,
+                out,
+                request.mask,
+                request.base,
+                codes::abi_number(abi),
+                2,
+            )
         }
         Call::CpuUp(target_cpu, entry_point, arg) => {
-            out[0] = target_cpu;
-            out[1] = entry_point.0;
-            out[2] = arg;
-            place_change::step(r, 4);
-            3
+            passes(r, out, target_cpu, entry_point.0, arg, 3)
         }
-        Call::CpuDown => {
-            out[0] = 0;
-            r[place::KIND] = 0;
-            4
-        }
-        Call::Halt => {
-            r[place::KIND] = 0;
-            5
-        }
-        Call::SystemDown => {
-            r[place::KIND] = 0;
-            7
-        }
-        Call::Hypercall => {
-            out[0] = r[place::A6];
-            place_read::six(r, out);
-            place_change::step(r, 4);
-            6
-        }
-        Call::CopyIn(at, n) => {
-            out[0] = at.0;
-            out[1] = n;
-            r[place::KIND] = 5;
-            r[place::FIRST] = n;
-            0x23
-        }
-        Call::ReadConsole(at, n) => {
-            out[0] = n;
-            r[place::KIND] = 7;
-            r[place::FIRST] = n;
-            r[place::SECOND] = at.0;
-            0x25
-        }
-        Call::PutByte(n) => {
-            out[0] = n;
-            r[place::KIND] = 10;
-            0x27
-        }
-        Call::Forward(event) => {
-            out[0] = r[place::A7];
-            out[1] = r[place::A6];
-            place_read::six(r, out);
-            place_change::bump(r, place_change::event_number(event));
-            r[place::KIND] = 12;
-            0x29
-        }
+        Call::CpuDown => tells(r, out, 0, 0, 4),
+        Call::Halt => waits(r, 0, 5),
+        Call::SystemDown => waits(r, 0, 7),
+        Call::Hypercall => hypercall(r, out),
+        Call::CopyIn(at, n) => copy_in(r, out, at, n),
+        Call::ReadConsole(at, n) => read_console(r, out, at, n),
+        Call::PutByte(n) => tells(r, out, n, 10, 0x27),
+        Call::Forward(event) => forward(r, out, event),
     }
+}
+
+// The reply has no number; `kind` waits, or nothing does.
+fn waits(r: &mut [u64; 58], kind: u64, word: u64) -> u64
+    ensures { λ w. ⌜ (now (r .exit) ≡ set (now (r .entry)) 54 kind) × (w ≡ word) ⌝ }
+{
+    r[place::KIND] = kind;
+    word
+}
+
+// The same, and the reply has one number.
+fn tells(r: &mut [u64; 58], out: &mut [u64; 8], n: u64, kind: u64, word: u64) -> u64
+    ensures { λ w. ⌜ Leaves (left (set (now (r .entry)) 54 kind) (one (now (out .entry)) n) word) (now (r .exit)) (now (out .exit)) w ⌝ }
+{
+    out[0] = n;
+    r[place::KIND] = kind;
+    word
+}
+
+// An exit with three numbers, and sepc moves on.
+fn passes(r: &mut [u64; 58], out: &mut [u64; 8], a: u64, b: u64, c: u64, word: u64) -> u64
+    ensures { λ w. ⌜ Leaves (left (stepWords (now (r .entry)) 4) (three (now (out .entry)) a b c) word) (now (r .exit)) (now (out .exit)) w ⌝ }
+{
+    out[0] = a;
+    out[1] = b;
+    out[2] = c;
+    place_change::step(r, 4);
+    word
+}
+
+fn hypercall(r: &mut [u64; 58], out: &mut [u64; 8]) -> u64
+    ensures { λ w. ⌜ Leaves (callLeft (now (r .entry)) (now (out .entry)) call.Hypercall) (now (r .exit)) (now (out .exit)) w ⌝ }
+{
+    out[0] = r[place::A6];
+    place_read::six(r, out);
+    place_change::step(r, 4);
+    6
+}
+
+fn copy_in(r: &mut [u64; 58], out: &mut [u64; 8], at: GuestPhysAddr, n: u64) -> u64
+    ensures { λ w. ⌜ Leaves (callLeft (now (r .entry)) (now (out .entry)) (call.CopyIn at n)) (now (r .exit)) (now (out .exit)) w ⌝ }
+{
+    out[0] = at.0;
+    out[1] = n;
+    r[place::KIND] = 5;
+    r[place::FIRST] = n;
+    0x23
+}
+
+fn read_console(r: &mut [u64; 58], out: &mut [u64; 8], at: GuestPhysAddr, n: u64) -> u64
+    ensures { λ w. ⌜ Leaves (callLeft (now (r .entry)) (now (out .entry)) (call.ReadConsole at n)) (now (r .exit)) (now (out .exit)) w ⌝ }
+{
+    out[0] = n;
+    r[place::KIND] = 7;
+    r[place::FIRST] = n;
+    r[place::SECOND] = at.0;
+    0x25
+}
+
+fn forward(r: &mut [u64; 58], out: &mut [u64; 8], event: Event) -> u64
+    ensures { λ w. ⌜ Leaves (callLeft (now (r .entry)) (now (out .entry)) (call.Forward event)) (now (r .exit)) (now (out .exit)) w ⌝ }
+{
+    out[0] = r[place::A7];
+    out[1] = r[place::A6];
+    place_read::six(r, out);
+    place_change::bump(r, place_change::event_number(event));
+    r[place::KIND] = 12;
+    0x29
 }
