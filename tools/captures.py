@@ -6,6 +6,7 @@
 
 crates/replays/data/published/   a capture for each class of traps, with the output of the published Rust
 crates/replays/data/damaged/     captures cut or changed in one place, with the output of the plain Rust model
+crates/replays/data/wrong/       one of them with outputs that are wrong: the program must say so of each
 
 docs/CAPTURES.md says what they are. It needs cargo, and RISCV_VCPU_SRC for the first folder: without it that folder is
 left as it is. The seed is fixed, so a run writes the same bytes again. A test needs only what is stored.
@@ -184,6 +185,20 @@ def compare(count, seed):
     sys.exit(different > 0)
 
 
+def wrong():
+    """Writes a sound capture with three wrong outputs; the name of each, and the first byte at which it is wrong."""
+    folder, source = f"{DATA}/wrong", f"{DATA}/published/load-fetch"
+    shutil.rmtree(folder, ignore_errors=True)
+    os.makedirs(folder)
+    capture, output = open(f"{source}.capture", "rb").read(), open(f"{source}.replay", "rb").read()
+    middle = len(output) // 2
+    outputs = {"byte": output[:middle] + bytes([output[middle] ^ 1]) + output[middle + 1:], "longer": output + b"\n", "shorter": output[:-1]}
+    for name, expected in outputs.items():
+        open(f"{folder}/{name}.capture", "wb").write(capture)
+        open(f"{folder}/{name}.replay", "wb").write(expected)
+    return [("wrong/byte", middle), ("wrong/longer", len(output)), ("wrong/shorter", len(output) - 1)]
+
+
 def main():
     os.chdir(os.path.join(os.path.dirname(os.path.abspath(__file__)), ".."))
     if sys.argv[1:2] == ["--try"]:
@@ -213,8 +228,10 @@ def main():
         open(f"{folder}/{name}.replay", "wb").write(output)
         names.append(f"damaged/{name}")
     print(f"damaged: {bad} captures that end with bad=, {sound} that are sound")
+    told = wrong()
+    names += [name for name, _ in told]
     open(f"{CRATE}/args", "w").write("".join(name + "\n" for name in names))
-    open(f"{CRATE}/stdout", "w").write(f"{len(names)} captures, 0 different\n")
+    open(f"{CRATE}/stdout", "w").write("".join(f"{name}: byte {at} of the output differs\n" for name, at in told) + f"{len(names)} captures, {len(told)} different\n")
     print(f"{len(names)} captures")
 
 
