@@ -5,7 +5,7 @@ use mathlib.Core.List.{List, [], _∷_, _++_}
 use lib.Dec.{eqb, T}
 use lib.ListN.{replicate}
 use Rattle.types.specs.Pick.{and}
-use Rattle.types.specs.Numbers.{abiNumber, accessNumber, answerNumber, exitNumber, fetchNumber, flagOf, widthBytes}
+use Rattle.types.specs.Numbers.{abiNumber, accessNumber, answerNumber, errorNumber, exitNumber, fetchNumber, flagOf, widthBytes}
 use Rattle.types.specs.Values.{answerValues, askValues, exitValues, fetchValue}
 use Rattle.types.specs.declared.Access.the-variants as access
 use Rattle.types.specs.declared.Answer.{Answer}
@@ -20,14 +20,17 @@ use Rattle.types.specs.declared.Reply.the-variants as reply
 use Rattle.types.specs.declared.Width.the-variants as width
 use Rattle.consts.specs.Sbi.{eidPmu}
 use Rattle.registers.specs.Values.{delegatedExceptions, delegatedInterrupts}
+use Rattle.regs.specs.declared.Outcome.{Outcome}
 use Rattle.regs.specs.declared.Vcpu.{Vcpu}
 use Rattle.regs.specs.declared.Waiting.{Waiting}
 use Rattle.regs.specs.declared.Waiting.the-variants as waiting
 use Rattle.calls.specs.Calls.{firstOf, newOf, printCount, printedOf}
-use Rattle.place.specs.View.{askCount, besideOf, exitCount, outOf}
+use Rattle.words.specs.Words.{waitingWords}
+use Rattle.place.specs.View.{askCount, besideOf, exitCount, hostLeaves, outOf, refusalWord, replyWord, trapLeaves, waitingCount}
 use Rattle.lines.specs.Keys.{bytes}
 use Rattle.digits.specs.Hex.{digitOf, nibbleOf, pushOf, pushedOf, readOf}
 use Rattle.lines.specs.Lines.{Taken, atEndOf, begins, inDigitsOf, inKeyOf, lineOf, takenOf}
+use Rattle.put.specs.Put.{putAt}
 use Rattle.digits.specs.declared.Digits.{Digits}
 use Rattle.digits.specs.declared.Digits.the-variants as digits
 use Rattle.lines.specs.declared.Got.{Got}
@@ -48,6 +51,16 @@ over r = outOf (replicate 8 99) r (1 ∷ 2 ∷ 3 ∷ 4 ∷ 5 ∷ 6 ∷ [])
 -- the words behind the first n, of eight
 abbrev kept : ℕ → List ℕ
 kept n = replicate n 99
+
+-- a record whose waiting words are 21 to 24, and a trap on it that leaves this waiting and replies so
+abbrev marked : List ℕ
+marked = replicate 54 0 ++ (21 ∷ 22 ∷ 23 ∷ 24 ∷ [])
+
+abbrev left : Waiting → Reply → List ℕ
+left w r = trapLeaves marked (record { vcpu = holding w; reply = r; args = [] })
+
+abbrev stays : Waiting → List ℕ
+stays w = left w (reply.Exit exit.Nothing)
 
 -- how a line was read: its number, where it stands and the bytes that are left
 unfoldable gotNumbers : Got → List ℕ
@@ -135,6 +148,29 @@ further =
     -- each key is compared byte for byte with its fixed spelling
     ∷ row (flagOf (begins (bytes "a0=") (bytes "a0=1")) ∷ flagOf (begins (bytes "a0=") (bytes "a0=")) ∷ []) (1 ∷ 1 ∷ [])
     ∷ row (flagOf (begins (bytes "a0=") (bytes "a0")) ∷ flagOf (begins (bytes "a0=") (bytes "b0=")) ∷ flagOf (begins (bytes "a0=") (bytes "a1=")) ∷ []) (0 ∷ 0 ∷ 0 ∷ [])
+    -- a text at a place of a buffer: the bytes around it stay
+    ∷ row (putAt (1 ∷ 2 ∷ 3 ∷ 4 ∷ 5 ∷ []) 1 (8 ∷ 9 ∷ [])) (1 ∷ 8 ∷ 9 ∷ 4 ∷ 5 ∷ [])
+    -- the words that say refusal 1, 2 or 7, and some that say an exit, done, and errors 3 and 6
+    ∷ row (flagOf (refusalWord 0x101) ∷ flagOf (refusalWord 0x102) ∷ flagOf (refusalWord 0x107) ∷ []) (1 ∷ 1 ∷ 1 ∷ [])
+    ∷ row (flagOf (refusalWord 0) ∷ flagOf (refusalWord 0x40) ∷ flagOf (refusalWord 0x103) ∷ flagOf (refusalWord 0x106) ∷ flagOf (refusalWord 0x100) ∷ []) (0 ∷ 0 ∷ 0 ∷ 0 ∷ 0 ∷ [])
+    -- the waiting words that a trap leaves: its kind and what the kind carries; the others stay
+    ∷ row (stays waiting.Idle) (0 ∷ 22 ∷ 23 ∷ 24 ∷ [])
+    ∷ row (stays (waiting.Load 5 width.Half true)) (1 ∷ 5 ∷ 2 ∷ 1 ∷ [])
+    ∷ row (stays waiting.FetchCsr) (2 ∷ 22 ∷ 23 ∷ 24 ∷ [])
+    ∷ row (stays (waiting.FetchFault (record { 0 = 6 }) access.Write)) (3 ∷ 6 ∷ 2 ∷ 24 ∷ [])
+    ∷ row (stays waiting.CopyMask) (4 ∷ 22 ∷ 23 ∷ 24 ∷ [])
+    ∷ row (stays (waiting.CopyIn 6)) (5 ∷ 6 ∷ 23 ∷ 24 ∷ [])
+    ∷ row (stays (waiting.Print 6)) (6 ∷ 6 ∷ 23 ∷ 24 ∷ [])
+    ∷ row (stays (waiting.ReadConsole 6 (record { 0 = 7 }))) (7 ∷ 6 ∷ 7 ∷ 24 ∷ [])
+    ∷ row (stays (waiting.CopyOut 6)) (8 ∷ 6 ∷ 23 ∷ 24 ∷ [])
+    ∷ row (stays waiting.PutChar) (9 ∷ 22 ∷ 23 ∷ 24 ∷ [])
+    ∷ row (stays waiting.PutByte) (10 ∷ 22 ∷ 23 ∷ 24 ∷ [])
+    ∷ row (stays waiting.GetChar) (11 ∷ 22 ∷ 23 ∷ 24 ∷ [])
+    ∷ row (stays waiting.Forward) (12 ∷ 22 ∷ 23 ∷ 24 ∷ [])
+    -- a refusal leaves them as they were, an error does not; a host's own call leaves them as they were
+    ∷ row (left waiting.Idle (reply.Error error.WrongAnswer)) (21 ∷ 22 ∷ 23 ∷ 24 ∷ [])
+    ∷ row (left waiting.Idle (reply.Error error.Unsupported)) (0 ∷ 22 ∷ 23 ∷ 24 ∷ [])
+    ∷ row (hostLeaves marked (record { vcpu = holding waiting.Idle; reply = reply.Done; args = [] })) (21 ∷ 22 ∷ 23 ∷ 24 ∷ [])
     ∷ []
 
 equal : List ℕ → List ℕ → Bool
@@ -149,5 +185,5 @@ all (r ∷ rs) = and (equal (r .got) (r .wanted)) (all rs)
 
 -- the whole table
 table : T (all further)
-unfolding all equal further row holding gotNumbers digitNumbers taken answerNumber answerValues fetchNumber fetchValue flagOf firstOf newOf printCount printedOf delegatedExceptions delegatedInterrupts takenOf lineOf inKeyOf inDigitsOf atEndOf digitOf nibbleOf pushOf pushedOf readOf outOf exitCount askCount besideOf exitValues askValues exitNumber accessNumber abiNumber widthBytes
+unfolding all equal further row holding gotNumbers digitNumbers taken answerNumber answerValues fetchNumber fetchValue flagOf firstOf newOf printCount printedOf delegatedExceptions delegatedInterrupts takenOf lineOf inKeyOf inDigitsOf atEndOf digitOf nibbleOf pushOf pushedOf readOf outOf hostLeaves trapLeaves waitingCount waitingWords refusalWord replyWord errorNumber putAt exitCount askCount besideOf exitValues askValues exitNumber accessNumber abiNumber widthBytes
 table = tt
