@@ -721,6 +721,7 @@ def run(args, crates, deps):
             took = round((time.time() - began) / max(1, len(done)), 1)
             with open(RESULTS, "a") as out:
                 for m, sort, message in done:
+                    message = re.sub(r"/\S*?/(?=(?:crates|src|proofs|specs)/)", "", message)  # no path of this machine
                     out.write(json.dumps({"key": m.key, "name": m.name, "sort": sort, "message": message, "seconds": took}, ensure_ascii=False) + "\n")
                     if sort != "front":
                         print(f"{sort:9} {took:5} s  {m.name[:150]}", flush=True)
