@@ -1,4 +1,4 @@
--- The words of an answer.
+-- The words of an answer: the ask's number, word and more. 01, One trap.
 use Prim.Native.Nat.{ℕ}
 use mathlib.Core.List.{List}
 use lib.ListN.{getD}

@@ -1,4 +1,4 @@
--- The words that a trap is started with.
+-- The words that a trap is started with, in their order: what the hardware left, and the room of the lent buffer. 01, One trap.
 use Prim.Native.Nat.{ℕ}
 use mathlib.Core.List.{List}
 use lib.ListN.{getD}

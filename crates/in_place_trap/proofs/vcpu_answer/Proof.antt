@@ -1,7 +1,5 @@
 -- `in_place_trap::vcpu_answer` meets its contract.
 use Rattle.in_place_trap.specs.Calls.{answerCall}
-use Rattle.calls.specs.Kinds.{callBy}
-use Rattle.place_answer.specs.Words.{answerWords}
 use borrow.Author.Needs.{needs}
 use Rattle.in_place_trap.proofs.vcpu_answer.Statement.{statement}
 use Rattle.in_place_trap.proofs.vcpu_answer.Tie as tie
@@ -13,7 +11,7 @@ answer-requires : tie.Need-answer-requires
 answer-requires c κs = search needs
 
 returns : tie.Need-returns
-unfolding answerCall callBy answerWords
+unfolding answerCall
 returns c = rw (c .before .answer-words .ensures) at (c .answer .ensures)
 
 pub vcpu-answer-spec : {M : Type 1} → statement M

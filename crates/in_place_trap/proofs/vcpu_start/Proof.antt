@@ -1,8 +1,6 @@
 -- `in_place_trap::vcpu_start` meets its contract.
 use Rattle.calls.specs.Entry.{calledOf}
 use Rattle.in_place_trap.specs.Calls.{startCall}
-use Rattle.calls.specs.Kinds.{callBy}
-use Rattle.place_trap.specs.Words.{trapWords}
 use borrow.Author.Needs.{needs}
 use Rattle.in_place_trap.proofs.vcpu_start.Statement.{statement}
 use Rattle.in_place_trap.proofs.vcpu_start.Tie as tie
@@ -14,7 +12,7 @@ start-requires : tie.Need-start-requires
 start-requires c κs = search needs
 
 returns : tie.Need-returns
-unfolding calledOf startCall callBy trapWords
+unfolding calledOf startCall
 returns c = simp (c .before .trap-of .ensures) at (c .start .ensures)
 
 pub vcpu-start-spec : {M : Type 1} → statement M
