@@ -12,11 +12,11 @@ fn main() {
         None => Path::new(&env::var("CARGO_MANIFEST_DIR").unwrap()).join("../target").join(&arch),
     };
     println!("cargo:rustc-link-search=native={}", dir.display());
-    let archive = dir.join("libabi.a");
+    let archive = dir.join("libwords_entry.a");
     println!("cargo:rerun-if-changed={}", archive.display());
     if !archive.is_file() {
-        eprintln!("There is no {}: run 'tools/archive abi {arch}'.", archive.display());
+        eprintln!("There is no {}: run 'tools/archive words_entry {arch}'.", archive.display());
         std::process::exit(1);
     }
-    println!("cargo:rustc-link-lib=static=abi");
+    println!("cargo:rustc-link-lib=static=words_entry");
 }

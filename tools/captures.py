@@ -4,9 +4,9 @@
     tools/captures.py
     tools/captures.py --try [COUNT] [SEED]      runs replay on COUNT captures that are not stored (1,000 if not given)
 
-crates/replays/data/published/   a capture for each class of traps, with the output of the published Rust
-crates/replays/data/damaged/     captures cut or changed in one place, with the output of the plain Rust model
-crates/replays/data/wrong/       one of them with outputs that are wrong: the program must say so of each
+crates/test_replays/data/published/   a capture for each class of traps, with the output of the published Rust
+crates/test_replays/data/damaged/     captures cut or changed in one place, with the output of the plain Rust model
+crates/test_replays/data/wrong/       one of them with outputs that are wrong: the program must say so of each
 crates/replay/stdin, stdout      a long capture for the program `replay`, cut in its last line, with the output of the model
 
 docs/CAPTURES.md says what they are. It needs cargo, and RISCV_VCPU_SRC for the first folder: without it that folder is
@@ -22,7 +22,7 @@ import subprocess
 import sys
 
 SEED = "1"
-CRATE = "crates/replays"
+CRATE = "crates/test_replays"
 DATA = f"{CRATE}/data"
 RELEASE = "oracle/target/release"
 

@@ -6,7 +6,7 @@
     tools/definitions.py run [PART/PARTS] tries each that has no verdict yet
     tools/definitions.py laws             holds those that nothing noticed to the laws of every specs/
     tools/definitions.py table            what noticed each
-    tools/definitions.py listed           writes crates/listed, which holds the definitions to some of the lists in the gate
+    tools/definitions.py listed           writes crates/test_definitions, which holds the definitions to some of the lists in the gate
 
 A function is proved equal to its definition, so a wrong definition with a function that is wrong alike is accepted. What would
 notice it comes from outside: document 01's marked cases, the vectors, the fixed list of calls and the stored captures. Here each
@@ -213,7 +213,7 @@ all f (n ∷ m ∷ l) = both (eqb (f n) m) (all f l)
         tasks['s' + letter] = f'cutOf width.{width}'
         if letter != 'd':
             tasks[f'l{letter}u'] = f'extendOf width.{width} false'
-    data = f'{ROOT}/crates/vectors/data'
+    data = f'{ROOT}/crates/test_vectors/data'
     # the list `wrong` shows that the program can say so; here an equation would fail
     assert sorted([*tasks, 'wrong']) == sorted(os.listdir(data))
     rows = []
@@ -241,7 +241,7 @@ def traced():
         write(f'{WORK}/none/libin_place.a', '!<arch>\n')
         env = dict(os.environ, TRACE=path, CURBIZZOLU_LIB_DIR=f'{WORK}/none', CARGO_TARGET_DIR=f'{WORK}/cargo')
         subprocess.run(['cargo', 'test', '--quiet', '--offline', '--test', 'trace'], cwd=folder, env=env, check=True)
-    calls = [line for line in map(hexes, read(f'{ROOT}/crates/call_list/data/list').splitlines()) if line[0] != 0]
+    calls = [line for line in map(hexes, read(f'{ROOT}/crates/test_call_list/data/list').splitlines()) if line[0] != 0]
     lines = [hexes(line) for line in read(path).splitlines()]
     assert len(lines) == len(calls)
     for line, call in zip(lines, calls):
@@ -368,7 +368,7 @@ abbrev gave : State → List ℕ → List ℕ
 gave s [] = numbers (endOf s) []
 gave s (n ∷ l) = put (tookOf s n) (λ t. gave t l)
 '''
-    data = f'{ROOT}/crates/replays/data/published'
+    data = f'{ROOT}/crates/test_replays/data/published'
     rows = []
     for name in sorted(f[:-8] for f in os.listdir(data) if f.endswith('.capture')):
         lines = [line.split('=') for line in read(f'{data}/{name}.capture').splitlines()]
@@ -409,7 +409,7 @@ behind s (n ∷ l) rest = put (tookOf s n) (λ t. behind t l rest)
         return f'({numerals(data)})'
     rows = []
     for name in names:
-        capture, replay = (open(f'{ROOT}/crates/replays/data/damaged/{name}.{end}', 'rb').read() for end in ['capture', 'replay'])
+        capture, replay = (open(f'{ROOT}/crates/test_replays/data/damaged/{name}.{end}', 'rb').read() for end in ['capture', 'replay'])
         lines = capture.split(b'\n')
         bad = re.search(rb'bad=([0-9a-f]{16})\n$', replay)
         front = []
@@ -424,7 +424,7 @@ behind s (n ∷ l) rest = put (tookOf s n) (λ t. behind t l rest)
 
 
 def damaged():
-    return sorted(f[:-8] for f in os.listdir(f'{ROOT}/crates/replays/data/damaged') if f.endswith('.capture'))
+    return sorted(f[:-8] for f in os.listdir(f'{ROOT}/crates/test_replays/data/damaged') if f.endswith('.capture'))
 
 
 def table_of(mods, name):
@@ -549,12 +549,12 @@ def housed(mods, text):
 
 
 def write_listed():
-    """crates/listed: the rows of the list, and some of the vectors and captures, for the gate."""
+    """crates/test_definitions: the rows of the list, and some of the vectors and captures, for the gate."""
     mods = {k: m for k, m in modules().items() if k[0] != 'listed' or k[1] == 'Further'}
     about = {'Rows': ('The rows of the fixed list of calls (docs/CALLS.md): what the definitions give on each. The plain Rust program of document 01 says what is right.', rows_of(mods)),
              'Vectors': ('Every fortieth of the vectors (docs/VECTORS.md): what the definitions give. objdump and qemu say what is right.', vectors(mods, 40, 10 ** 6)),
              'Captures': ('The first four traps of each stored capture of the published Rust (docs/CAPTURES.md), by the numbers of its lines.', published(mods, 4, 10 ** 6))}
-    folder = f'{ROOT}/crates/listed/specs'
+    folder = f'{ROOT}/crates/test_definitions/specs'
     for name, (said, text) in about.items():
         write(f'{folder}/{name}.antt', f'-- {said}\n-- tools/definitions.py listed writes this file.\n' + housed(mods, text))
     needed = re.sub(r', (_[^\w∷]_|_\+\+_|ltb|T)(?=[,}])', '', IMPORTS)

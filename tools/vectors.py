@@ -1,7 +1,7 @@
 #!/usr/bin/env python3
 """Makes the lists that the program `vectors` compares the decoder with.
 
-    tools/vectors.py [FOLDER]       writes every list; FOLDER is crates/vectors/data unless named
+    tools/vectors.py [FOLDER]       writes every list; FOLDER is crates/test_vectors/data unless named
 
 It needs Debian's binutils-riscv64-linux-gnu, gcc-riscv64-linux-gnu and qemu-user. The gate doesn't run it: the lists
 are part of the repository. Two runs with the same tools write the same bytes.

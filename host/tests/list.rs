@@ -1,4 +1,4 @@
-//! The fixed list of calls and replies, crates/call_list/data/list. The plain Rust program of document 01 makes it; the program `call_list`
+//! The fixed list of calls and replies, crates/test_call_list/data/list. The plain Rust program of document 01 makes it; the program `call_list`
 //! (in the gate), host/c/list.c (on any processor) and the test below run it.
 //!
 //!     WRITE_LIST=1 cargo test --test list
@@ -9,9 +9,9 @@ use common::*;
 use std::collections::BTreeSet;
 use std::fmt::Write;
 
-const LIST: &str = concat!(env!("CARGO_MANIFEST_DIR"), "/../crates/call_list/data/list");
+const LIST: &str = concat!(env!("CARGO_MANIFEST_DIR"), "/../crates/test_call_list/data/list");
 /// One line once for each of its bytes, wrong in that byte alone: `call_list` must call every one wrong.
-const WRONG: &str = concat!(env!("CARGO_MANIFEST_DIR"), "/../crates/call_list/data/wrong");
+const WRONG: &str = concat!(env!("CARGO_MANIFEST_DIR"), "/../crates/test_call_list/data/wrong");
 const CALLS: u64 = 700;
 /// Of the first 3,000 seeds the one whose calls reach everything and the most different outcomes (`search` finds it).
 const SEED: u64 = 506;

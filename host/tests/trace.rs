@@ -9,7 +9,7 @@ mod common;
 use common::*;
 use std::fmt::Write;
 
-const LIST: &str = concat!(env!("CARGO_MANIFEST_DIR"), "/../crates/call_list/data/list");
+const LIST: &str = concat!(env!("CARGO_MANIFEST_DIR"), "/../crates/test_call_list/data/list");
 
 #[test]
 fn the_list_written_out() {

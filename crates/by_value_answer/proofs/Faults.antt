@@ -4,13 +4,13 @@ use mathlib.Core.List.{List, [], _∷_}
 use mathlib.Core.Path.{_≡_, refl}
 use types.Run.{OneOf, miss}
 use denote.Enum.Declared.{tagOf}
-use Rattle.types.specs.declared.Fetch.{Fetch}
-use Rattle.types.specs.declared.Fetch.the-variants as fetch
-use Rattle.types.proofs.Fetch as declared
-use Rattle.regs.specs.declared.Csrs.{Csrs}
-use Rattle.regs.specs.declared.Waiting.{Waiting}
-use Rattle.fetch.specs.Faults.{missedOf, missedEffect}
-use Rattle.calls.specs.Resume.{fetchedOf}
+use Rattle.scope.specs.declared.traps.Fetch.{Fetch}
+use Rattle.scope.specs.declared.traps.Fetch.the-variants as fetch
+use Rattle.scope.proofs.traps.Fetch as declared
+use Rattle.scope.specs.declared.machine.Csrs.{Csrs}
+use Rattle.scope.specs.declared.machine.Waiting.{Waiting}
+use Rattle.scope.specs.FetchFaults.{missedOf, missedEffect}
+use Rattle.scope.specs.Resume.{fetchedOf}
 
 pub no-word : (x : List ℕ) (c : Csrs) (n : Waiting) (f : Fetch)
     → OneOf (1 ∷ 2 ∷ 3 ∷ 4 ∷ 5 ∷ []) (tagOf declared.the-type f)

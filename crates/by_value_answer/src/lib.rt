@@ -1,28 +1,39 @@
 // How an answer carries a trap on. calls/specs/Resume.antt defines it.
 ghost use mathlib.Core.Path.{_≡_};
-ghost use Rattle.calls.specs.Resume.{answerEffect, continuedOf, fetchedOf, matchedOf, plainOf, resumedOf};
-use regs::Csrs;
-use regs::Effect;
-use regs::Waiting;
-use types::Answer;
-use types::Error;
-use types::Fetch;
+ghost use Rattle.scope.specs.Refusals.{refusedOf};
+ghost use Rattle.scope.specs.declared.traps.Error.the-variants as error;
+ghost use Rattle.isa_types.specs.Pick.{pick};
+ghost use lib.Dec.{eqb};
+ghost use Rattle.scope.specs.Resume.{answerEffect, continuedOf, fetchedOf, plainOf, resumedOf};
+use scope::Answer;
+use scope::Csrs;
+use scope::Effect;
+use scope::Error;
+use scope::Fetch;
+use scope::Waiting;
 
 // Carries a trap on with the host's answer.
 pub fn answer(x: [u64; 32], c: Csrs, w: Waiting, a: Answer) -> Effect
     ensures { λ r. ⌜ r ≡ answerEffect x c w a ⌝ }
 {
-    matched(regs::ask_of(w), numbers::answer_number(a), x, c, w, a)
+    matched(
+        decide_record::ask_of(w),
+        words_numbers::answer_number(a),
+        x,
+        c,
+        w,
+        a,
+    )
 }
 
 // An answer of another ask's kind, or to no ask, is refused.
 fn matched(ask: u64, number: u64, x: [u64; 32], c: Csrs, w: Waiting, a: Answer) -> Effect
-    ensures { λ r. ⌜ r ≡ matchedOf ask number x c w a ⌝ }
+    ensures { λ r. ⌜ r ≡ pick (eqb ask number) (continuedOf x c w a) (refusedOf c w error.WrongAnswer) ⌝ }
 {
     if ask == number {
         return continued(x, c, w, a);
     }
-    effects::refused(c, w, Error::WrongAnswer)
+    decide_effects::refused(c, w, Error::WrongAnswer)
 }
 
 fn continued(x: [u64; 32], c: Csrs, w: Waiting, a: Answer) -> Effect
@@ -44,7 +55,7 @@ fn continued(x: [u64; 32], c: Csrs, w: Waiting, a: Answer) -> Effect
 fn plain(c: Csrs, w: Waiting, word: u64, more: u64) -> Effect
     ensures { λ r. ⌜ r ≡ plainOf c w word more ⌝ }
 {
-    answers_effect::effect(c, w, answers::decide(w, word, more))
+    by_value_classes::answered(c, w, decide_answers::decide(w, word, more))
 }
 
 // A fetch gave a word, or its fault is handled.
@@ -52,7 +63,7 @@ fn fetched(x: [u64; 32], c: Csrs, w: Waiting, f: Fetch) -> Effect
     ensures { λ r. ⌜ r ≡ fetchedOf x c w f ⌝ }
 {
     let Fetch::Word(word) = f else {
-        return fetch::effect(c, fetch::decide(f));
+        return by_value_classes::missed(c, decide_fetch::decide(f));
     };
     resumed(x, c, w, word)
 }
@@ -62,28 +73,32 @@ fn resumed(x: [u64; 32], c: Csrs, w: Waiting, word: u32) -> Effect
     ensures { λ r. ⌜ r ≡ resumedOf x c w word ⌝ }
 {
     match w {
-        Waiting::Idle => effects::refused(c, w, Error::WrongAnswer),
+        Waiting::Idle => decide_effects::refused(c, w, Error::WrongAnswer),
         Waiting::Load {
             rd: _,
             width: _,
             signed: _,
-        } => effects::refused(c, w, Error::WrongAnswer),
+        } => decide_effects::refused(c, w, Error::WrongAnswer),
         Waiting::FetchCsr => {
             let wide = word as u64;
-            let rs1 = regs::register(x, fields::rs1(wide));
-            virtual_inst::effect(c, virtual_inst::decide(wide, c.vs.vstimecmp, rs1))
+            let rs1 = decide_record::register(x, isa_fields::rs1(wide));
+            by_value_classes::csr(c, decide_virtual_inst::decide(wide, c.vs.vstimecmp, rs1))
         }
         Waiting::FetchFault { at, access } => {
-            trap::mmio(x, c, at, access, decoder::from_fetched(word))
+            by_value_start::mmio(x, c, at, access, isa_decoder::from_fetched(word))
         }
-        Waiting::CopyMask => effects::refused(c, w, Error::WrongAnswer),
-        Waiting::CopyIn { count: _ } => effects::refused(c, w, Error::WrongAnswer),
-        Waiting::Print { count: _ } => effects::refused(c, w, Error::WrongAnswer),
-        Waiting::ReadConsole { count: _, at: _ } => effects::refused(c, w, Error::WrongAnswer),
-        Waiting::CopyOut { count: _ } => effects::refused(c, w, Error::WrongAnswer),
-        Waiting::PutChar => effects::refused(c, w, Error::WrongAnswer),
-        Waiting::PutByte => effects::refused(c, w, Error::WrongAnswer),
-        Waiting::GetChar => effects::refused(c, w, Error::WrongAnswer),
-        Waiting::Forward => effects::refused(c, w, Error::WrongAnswer),
+        Waiting::CopyMask => decide_effects::refused(c, w, Error::WrongAnswer),
+        Waiting::CopyIn { count: _ } => decide_effects::refused(c, w, Error::WrongAnswer),
+        Waiting::Print { count: _ } => decide_effects::refused(c, w, Error::WrongAnswer),
+        Waiting::ReadConsole { count: _, at: _ } => decide_effects::refused(
+            c,
+            w,
+            Error::WrongAnswer,
+        ),
+        Waiting::CopyOut { count: _ } => decide_effects::refused(c, w, Error::WrongAnswer),
+        Waiting::PutChar => decide_effects::refused(c, w, Error::WrongAnswer),
+        Waiting::PutByte => decide_effects::refused(c, w, Error::WrongAnswer),
+        Waiting::GetChar => decide_effects::refused(c, w, Error::WrongAnswer),
+        Waiting::Forward => decide_effects::refused(c, w, Error::WrongAnswer),
     }
 }

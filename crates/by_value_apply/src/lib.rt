@@ -1,12 +1,12 @@
 // An effect applied to a record: the one place where a record changes. regs/specs/Effects.antt defines it.
 ghost use mathlib.Core.Path.{_≡_};
-ghost use Rattle.regs.specs.Record.{bumped, counted, eventNumber, stored};
-ghost use Rattle.regs.specs.Effects.{applied, unlessAsking};
-use regs::Effect;
-use regs::Event;
-use regs::Outcome;
-use regs::Vcpu;
-use regs::Writes;
+ghost use Rattle.scope.specs.Record.{bumped, counted, eventNumber, stored, applied};
+ghost use Rattle.scope.specs.Refusals.{unlessAsking};
+use scope::Effect;
+use scope::Event;
+use scope::Outcome;
+use scope::Vcpu;
+use scope::Writes;
 
 // The outcome of an effect on a record.
 pub fn apply(v: Vcpu, e: Effect) -> Outcome
@@ -47,7 +47,10 @@ pub fn unless_asking(v: Vcpu, e: Effect) -> Outcome
 {
     let c = v.csrs;
     let w = v.waiting;
-    apply(v, effects::guarded(regs::ask_of(w), c, w, e))
+    apply(
+        v,
+        decide_effects::guarded(decide_record::ask_of(w), c, w, e),
+    )
 }
 
 // x0 is never written.
@@ -108,7 +111,7 @@ fn bump(counts: [u64; 9], number: usize) -> [u64; 9]
     }
     if number < 10 {
         let at = number - 1;
-        let next = regs::plus(counts[at], 1);
+        let next = decide_record::plus(counts[at], 1);
         let mut k = counts;
         k[at] = next;
         return k;

@@ -1,54 +1,67 @@
-// What an answer and a load's completion do to the record. answers/specs/Answers.antt defines it.
+// The effects of a virtual instruction, a guest page fault, a failed fetch and an answer, and of a load's completion, each once it is
+// decided.
 ghost use mathlib.Core.Path.{_≡_};
-ghost use Rattle.answers.specs.Answers.{answeredEffect, completedOf};
-use answers::Answered;
-use regs::Csrs;
-use regs::Effect;
-use regs::Event;
-use regs::Waiting;
-use regs::Writes;
-use types::Ask;
-use types::Error;
-use types::Exit;
+ghost use Rattle.scope.specs.Ecalls.{answeredEffect};
+ghost use Rattle.scope.specs.GuestPageFault.{completedOf, faultEffect};
+ghost use Rattle.scope.specs.FetchFaults.{askFetchOf, missedEffect};
+ghost use Rattle.scope.specs.VirtualInstruction.{csrEffect};
+use isa_types::GuestPhysAddr;
+use isa_types::GuestVirtAddr;
+use scope::Access;
+use scope::Answered;
+use scope::Ask;
+use scope::Csr;
+use scope::Csrs;
+use scope::Effect;
+use scope::Error;
+use scope::Event;
+use scope::Exit;
+use scope::Fault;
+use scope::Fetch;
+use scope::Missed;
+use scope::Reply;
+use scope::Waiting;
+use scope::Writes;
 
-pub fn effect(c: Csrs, w: Waiting, d: Answered) -> Effect
+// The effect of an answer.
+pub fn answered(c: Csrs, w: Waiting, d: Answered) -> Effect
     ensures { λ r. ⌜ r ≡ answeredEffect c w d ⌝ }
 {
     match d {
-        Answered::Wrong => effects::refused(c, w, Error::WrongAnswer),
-        Answered::Moves => effects::finished(
-            regs::advance(c, 4),
+        Answered::Wrong => decide_effects::refused(c, w, Error::WrongAnswer),
+        Answered::Moves => decide_effects::finished(
+            decide_record::advance(c, 4),
             Event::Quiet,
             Writes::Keep,
             Exit::Nothing,
         ),
-        Answered::Gives(n) => effects::finished(
-            regs::advance(c, 4),
+        Answered::Gives(n) => decide_effects::finished(
+            decide_record::advance(c, 4),
             Event::Quiet,
             Writes::One(10, n),
             Exit::Nothing,
         ),
-        Answered::Returns(e, v) => effects::finished(
-            regs::advance(c, 4),
+        Answered::Returns(e, v) => decide_effects::finished(
+            decide_record::advance(c, 4),
             Event::Quiet,
             Writes::Pair(e, v),
             Exit::Nothing,
         ),
-        Answered::SendIpi(request) => effects::finished(
-            regs::advance(c, 4),
+        Answered::SendIpi(request) => decide_effects::finished(
+            decide_record::advance(c, 4),
             Event::Quiet,
             Writes::Keep,
             Exit::SendIpi(request),
         ),
         Answered::Print(count) => {
-            effects::asking(
+            decide_effects::asking(
                 c,
                 Event::Quiet,
                 Waiting::Print { count },
                 Ask::Print { count },
             )
         }
-        Answered::CopyOut(at, count) => effects::asking(
+        Answered::CopyOut(at, count) => decide_effects::asking(
             c,
             Event::Quiet,
             Waiting::CopyOut { count },
@@ -62,22 +75,114 @@ pub fn complete(c: Csrs, w: Waiting, n: u64) -> Effect
     ensures { λ r. ⌜ r ≡ completedOf c w n ⌝ }
 {
     match w {
-        Waiting::Idle => effects::refused(c, w, Error::BadState),
-        Waiting::Load { rd, width, signed } => effects::done(
+        Waiting::Idle => decide_effects::refused(c, w, Error::BadState),
+        Waiting::Load { rd, width, signed } => decide_effects::done(
             c,
-            Writes::One(rd, extension::extend(width, signed, n)),
+            Writes::One(rd, isa_extension::extend(width, signed, n)),
             Waiting::Idle,
         ),
-        Waiting::FetchCsr => effects::refused(c, w, Error::BadState),
-        Waiting::FetchFault { at: _, access: _ } => effects::refused(c, w, Error::BadState),
-        Waiting::CopyMask => effects::refused(c, w, Error::BadState),
-        Waiting::CopyIn { count: _ } => effects::refused(c, w, Error::BadState),
-        Waiting::Print { count: _ } => effects::refused(c, w, Error::BadState),
-        Waiting::ReadConsole { count: _, at: _ } => effects::refused(c, w, Error::BadState),
-        Waiting::CopyOut { count: _ } => effects::refused(c, w, Error::BadState),
-        Waiting::PutChar => effects::refused(c, w, Error::BadState),
-        Waiting::PutByte => effects::refused(c, w, Error::BadState),
-        Waiting::GetChar => effects::refused(c, w, Error::BadState),
-        Waiting::Forward => effects::refused(c, w, Error::BadState),
+        Waiting::FetchCsr => decide_effects::refused(c, w, Error::BadState),
+        Waiting::FetchFault { at: _, access: _ } => decide_effects::refused(c, w, Error::BadState),
+        Waiting::CopyMask => decide_effects::refused(c, w, Error::BadState),
+        Waiting::CopyIn { count: _ } => decide_effects::refused(c, w, Error::BadState),
+        Waiting::Print { count: _ } => decide_effects::refused(c, w, Error::BadState),
+        Waiting::ReadConsole { count: _, at: _ } => decide_effects::refused(c, w, Error::BadState),
+        Waiting::CopyOut { count: _ } => decide_effects::refused(c, w, Error::BadState),
+        Waiting::PutChar => decide_effects::refused(c, w, Error::BadState),
+        Waiting::PutByte => decide_effects::refused(c, w, Error::BadState),
+        Waiting::GetChar => decide_effects::refused(c, w, Error::BadState),
+        Waiting::Forward => decide_effects::refused(c, w, Error::BadState),
+    }
+}
+
+// Asks for the instruction at sepc, with the guest's rights.
+pub fn ask_fetch(c: Csrs, waiting: Waiting) -> Effect
+    ensures { λ r. ⌜ r ≡ askFetchOf c waiting ⌝ }
+{
+    let at = GuestVirtAddr(c.guest.sepc);
+    let supervisor = isa_registers::spvp(c.guest.hstatus);
+    decide_effects::asking(c, Event::Quiet, waiting, Ask::Fetch { at, supervisor })
+}
+
+// The effect of a failed fetch.
+pub fn missed(c: Csrs, m: Missed) -> Effect
+    ensures { λ r. ⌜ r ≡ missedEffect c m ⌝ }
+{
+    match m {
+        Missed::Inject { cause, addr } => {
+            let csrs = decide_fetch::inject(c, cause, addr);
+            decide_effects::finished(csrs, Event::Quiet, Writes::Keep, Exit::Nothing)
+        }
+        Missed::Nested(addr) => {
+            let exit = Exit::NestedPageFault {
+                addr,
+                access: Access::Execute,
+            };
+            decide_effects::finished(c, Event::Quiet, Writes::Keep, exit)
+        }
+        Missed::Unhandled => decide_effects::failed(c, Event::Quiet, Error::GuestMemoryFault),
+    }
+}
+
+// The effect of a virtual instruction.
+pub fn csr(c: Csrs, d: Csr) -> Effect
+    ensures { λ r. ⌜ r ≡ csrEffect c d ⌝ }
+{
+    match d {
+        Csr::Illegal => decide_effects::failed(c, Event::IllegalInsn, Error::Unsupported),
+        Csr::Fetch => ask_fetch(c, Waiting::FetchCsr),
+        Csr::Write { rd, timer } => {
+            let armed = decide_record::with_timer(c, timer);
+            decide_effects::finished(
+                decide_record::advance(armed, 4),
+                Event::Quiet,
+                Writes::One(rd, c.vs.vstimecmp),
+                Exit::Nothing,
+            )
+        }
+    }
+}
+
+// The effect of a guest page fault.
+pub fn fault(c: Csrs, at: GuestPhysAddr, access: Access, d: Fault) -> Effect
+    ensures { λ r. ⌜ r ≡ faultEffect c at access d ⌝ }
+{
+    match d {
+        Fault::Fetch => ask_fetch(c, Waiting::FetchFault { at, access }),
+        Fault::Walk => decide_effects::failed(c, Event::Quiet, Error::Unsupported),
+        Fault::Unfit => decide_effects::failed(c, Event::Quiet, Error::DecodeFailed),
+        Fault::Nested => decide_effects::finished(
+            c,
+            Event::Quiet,
+            Writes::Keep,
+            Exit::NestedPageFault { addr: at, access },
+        ),
+        Fault::Load {
+            width,
+            signed,
+            rd,
+            length,
+        } => Effect {
+            csrs: decide_record::advance(c, length),
+            event: Event::Quiet,
+            writes: Writes::Keep,
+            waiting: Waiting::Load { rd, width, signed },
+            reply: Reply::Exit(Exit::MmioRead { addr: at, width }),
+            args: decide_effects::no_args(),
+        },
+        Fault::Store {
+            width,
+            data,
+            length,
+        } => decide_effects::finished(
+            decide_record::advance(c, length),
+            Event::Quiet,
+            Writes::Keep,
+            Exit::MmioWrite {
+                addr: at,
+                width,
+                data,
+            },
+        ),
     }
 }

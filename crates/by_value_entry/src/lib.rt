@@ -1,37 +1,34 @@
 // Every call on a vCPU record behind one function, by value.
 ghost use mathlib.Core.Path.{_≡_};
-ghost use Rattle.calls.specs.Entry.{calledOf, readOf};
-use calls::HostCall;
-use regs::Outcome;
-use regs::Vcpu;
-use types::Answer;
+ghost use Rattle.scope.specs.Calls.{calledOf, readOf};
+use scope::Answer;
+use scope::HostCall;
+use scope::Outcome;
+use scope::Vcpu;
 
 // Makes the call on a record that is handed over by value.
 pub fn call(v: Vcpu, c: HostCall) -> Outcome
     ensures { λ r. ⌜ r ≡ calledOf v c ⌝ }
 {
     match c {
-        HostCall::Setup => setup::setup(v),
-        HostCall::SetEntry(at) => setup::set_entry(v, at),
+        HostCall::Setup => by_value_setup::setup(v),
+        HostCall::SetEntry(at) => by_value_setup::set_entry(v, at),
         HostCall::GetGpr { index } => read(v, index),
-        HostCall::SetGpr { index, value } => gprs::set_gpr(v, index, value),
-        HostCall::SetReturnValue { value } => gprs::set_return_value(v, value),
-        HostCall::SetNestedPageTable { levels, mode, root } => setup::set_nested_page_table(
+        HostCall::SetGpr { index, value } => by_value_gprs::set_gpr(v, index, value),
+        HostCall::SetReturnValue { value } => by_value_gprs::set_return_value(v, value),
+        HostCall::SetNestedPageTable { levels, mode, root } =>
+            by_value_setup::set_nested_page_table(v, levels, mode, root),
+        HostCall::SetPending { vector, level } =>
+            by_value_interrupts::set_virtual_interrupt_pending(v, vector, level),
+        HostCall::LatchHvip { bits } => by_value_interrupts::latch_hvip(v, bits),
+        HostCall::CompleteIpi { abi, completion } => by_value_interrupts::complete_ipi(
             v,
-            levels,
-            mode,
-            root,
+            abi,
+            completion,
         ),
-        HostCall::SetPending { vector, level } => interrupts::set_virtual_interrupt_pending(
-            v,
-            vector,
-            level,
-        ),
-        HostCall::LatchHvip { bits } => interrupts::latch_hvip(v, bits),
-        HostCall::CompleteIpi { abi, completion } => interrupts::complete_ipi(v, abi, completion),
-        HostCall::Start(t) => vcpu::start(v, t),
-        HostCall::Answer(a) => vcpu::answer(v, a),
-        HostCall::CompleteLoad { number } => vcpu::complete_load(v, number),
+        HostCall::Start(t) => by_value_vcpu::start(v, t),
+        HostCall::Answer(a) => by_value_vcpu::answer(v, a),
+        HostCall::CompleteLoad { number } => by_value_vcpu::complete_load(v, number),
     }
 }
 
@@ -39,7 +36,7 @@ pub fn call(v: Vcpu, c: HostCall) -> Outcome
 fn read(v: Vcpu, index: usize) -> Outcome
     ensures { λ r. ⌜ r ≡ readOf v index ⌝ }
 {
-    let reply = gprs::get_gpr(v, index);
+    let reply = by_value_gprs::get_gpr(v, index);
     Outcome {
         vcpu: v,
         reply,

@@ -1,11 +1,11 @@
 // The guest's general registers, read and written by the host.
 ghost use mathlib.Core.Path.{_≡_};
-ghost use Rattle.calls.specs.Calls.{getGprOf, setGprOf, setReturnOf};
-use regs::Outcome;
-use regs::Vcpu;
-use regs::Writes;
-use types::Error;
-use types::Reply;
+ghost use Rattle.scope.specs.Calls.{getGprOf, setGprOf, setReturnOf};
+use scope::Error;
+use scope::Outcome;
+use scope::Reply;
+use scope::Vcpu;
+use scope::Writes;
 
 // Reads a general register.
 pub fn get_gpr(v: Vcpu, index: usize) -> Reply
@@ -13,7 +13,7 @@ pub fn get_gpr(v: Vcpu, index: usize) -> Reply
 {
     let x = v.x;
     if index < 32 {
-        return Reply::Value(regs::register(x, index));
+        return Reply::Value(decide_record::register(x, index));
     }
     Reply::Error(Error::InvalidInput)
 }
@@ -24,8 +24,8 @@ pub fn set_gpr(v: Vcpu, index: usize, value: u64) -> Outcome
 {
     let c = v.csrs;
     let w = v.waiting;
-    let e = host_calls::write_effect(c, w, index, value);
-    apply::unless_asking(v, e)
+    let e = decide_host::write_effect(c, w, index, value);
+    by_value_apply::unless_asking(v, e)
 }
 
 // Writes a0.
@@ -34,6 +34,6 @@ pub fn set_return_value(v: Vcpu, value: u64) -> Outcome
 {
     let c = v.csrs;
     let w = v.waiting;
-    let e = effects::done(c, Writes::One(10, value), w);
-    apply::unless_asking(v, e)
+    let e = decide_effects::done(c, Writes::One(10, value), w);
+    by_value_apply::unless_asking(v, e)
 }

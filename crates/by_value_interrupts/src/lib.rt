@@ -1,12 +1,12 @@
 // The guest's interrupts, raised and latched by the host, and the results of its IPI requests.
 ghost use mathlib.Core.Bool.{true};
 ghost use mathlib.Core.Path.{_≡_};
-ghost use Rattle.calls.specs.Calls.{completeIpiOf, latchOf, pendingOf};
-use regs::Outcome;
-use regs::Vcpu;
-use regs::Writes;
-use sbi_ipi::IpiCompletion;
-use types::IpiAbi;
+ghost use Rattle.scope.specs.Calls.{completeIpiOf, latchOf, pendingOf};
+use scope::IpiAbi;
+use scope::IpiCompletion;
+use scope::Outcome;
+use scope::Vcpu;
+use scope::Writes;
 
 // Sets or clears a pending interrupt of the guest, by the host's vector.
 pub fn set_virtual_interrupt_pending(v: Vcpu, vector: u64, pending: bool) -> Outcome
@@ -14,8 +14,8 @@ pub fn set_virtual_interrupt_pending(v: Vcpu, vector: u64, pending: bool) -> Out
 {
     let c = v.csrs;
     let w = v.waiting;
-    let e = host_calls::pending_effect(c, w, vector, pending);
-    apply::unless_asking(v, e)
+    let e = decide_host::pending_effect(c, w, vector, pending);
+    by_value_apply::unless_asking(v, e)
 }
 
 // Sets a pending interrupt.
@@ -29,7 +29,7 @@ pub fn inject_interrupt(v: Vcpu, vector: u64) -> Outcome
 pub fn set_vseip_level(v: Vcpu, asserted: bool) -> Outcome
     ensures { λ r. ⌜ r ≡ pendingOf v 9 asserted ⌝ }
 {
-    set_virtual_interrupt_pending(v, consts::S_EXT_CODE, asserted)
+    set_virtual_interrupt_pending(v, isa_consts::S_EXT_CODE, asserted)
 }
 
 // Latches pending bits that the hardware raised.
@@ -38,8 +38,12 @@ pub fn latch_hvip(v: Vcpu, bits: u64) -> Outcome
 {
     let c = v.csrs;
     let w = v.waiting;
-    let e = effects::done(regs::with_hvip(c, c.hs.hvip | bits), Writes::Keep, w);
-    apply::unless_asking(v, e)
+    let e = decide_effects::done(
+        decide_record::with_hvip(c, c.hs.hvip | bits),
+        Writes::Keep,
+        w,
+    );
+    by_value_apply::unless_asking(v, e)
 }
 
 // Gives the guest the result of an IPI request.
@@ -48,10 +52,10 @@ pub fn complete_ipi(v: Vcpu, abi: IpiAbi, completion: IpiCompletion) -> Outcome
 {
     let c = v.csrs;
     let w = v.waiting;
-    let e = effects::done(
+    let e = decide_effects::done(
         c,
-        host_calls::ipi_writes(abi, sbi_ipi::completion_number(completion)),
+        decide_host::ipi_writes(abi, decide_ipi::completion_number(completion)),
         w,
     );
-    apply::unless_asking(v, e)
+    by_value_apply::unless_asking(v, e)
 }

@@ -1,9 +1,9 @@
 -- Only one outcome fits the entry's promise.
 use mathlib.Core.Path.{_≡_, sym, _∙_}
-use Rattle.regs.specs.declared.Vcpu.{Vcpu}
-use Rattle.thin.specs.declared.Given.{Given}
-use Rattle.calls.specs.declared.HostCall.{HostCall}
-use Rattle.thin.specs.Thin.{Stored}
+use Rattle.scope.specs.declared.machine.Vcpu.{Vcpu}
+use Rattle.by_value_lent.specs.declared.Given.{Given}
+use Rattle.scope.specs.declared.hosts.HostCall.{HostCall}
+use Rattle.by_value_lent.specs.Thin.{Stored}
 
 -- two records at exit that meet the promise are equal, and so is what is given beside them
 pub one-outcome : (v : Vcpu) (c : HostCall) (w₁ w₂ : Vcpu) (g₁ g₂ : Given) → Stored v c w₁ g₁ → Stored v c w₂ g₂ → (w₁ ≡ w₂) × (g₁ ≡ g₂)

@@ -1,10 +1,10 @@
 -- What the thin entry leaves in the host's record, and what it gives back. 01, Which shape goes where.
 use mathlib.Core.Path.{_≡_}
-use Rattle.regs.specs.declared.Outcome.{Outcome}
-use Rattle.regs.specs.declared.Vcpu.{Vcpu}
-use Rattle.calls.specs.declared.HostCall.{HostCall}
-use Rattle.calls.specs.Entry.{calledOf}
-use Rattle.thin.specs.declared.Given.{Given}
+use Rattle.scope.specs.declared.machine.Outcome.{Outcome}
+use Rattle.scope.specs.declared.machine.Vcpu.{Vcpu}
+use Rattle.scope.specs.declared.hosts.HostCall.{HostCall}
+use Rattle.scope.specs.Calls.{calledOf}
+use Rattle.by_value_lent.specs.declared.Given.{Given}
 
 -- an outcome less its record
 abbrev pub restOf : Outcome → Given

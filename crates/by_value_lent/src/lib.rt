@@ -1,8 +1,8 @@
 // 01's thin entry: every call on a vCPU record behind one function, made where the host's record lies.
-ghost use Rattle.thin.specs.Thin.{Stored};
-use calls::HostCall;
-use regs::Vcpu;
-use types::Reply;
+ghost use Rattle.by_value_lent.specs.Thin.{Stored};
+use scope::HostCall;
+use scope::Reply;
+use scope::Vcpu;
 
 // What the host gets back when its record is changed where it lies: an outcome less the record.
 pub struct Given {
@@ -14,7 +14,7 @@ pub struct Given {
 pub fn call_in_place(v: &mut Vcpu, c: HostCall) -> Given
     ensures { λ r. ⌜ Stored (now (v .entry)) c (now (v .exit)) r ⌝ }
 {
-    let o = entry::call(*v, c);
+    let o = by_value_entry::call(*v, c);
     *v = o.vcpu;
     Given {
         reply: o.reply,

@@ -1,8 +1,8 @@
 // The part of the lent buffer that ask 4 prints.
 ghost use mathlib.Core.Path.{_≡_};
-ghost use Rattle.calls.specs.Calls.{firstOf, printCount, printedOf};
-use regs::Vcpu;
-use regs::Waiting;
+ghost use Rattle.scope.specs.Calls.{firstOf, printCount, printedOf};
+use scope::Vcpu;
+use scope::Waiting;
 
 // The bytes to print: the first n of the lent buffer under ask 4, if it has n; else none.
 pub fn to_print<'a>(v: Vcpu, buffer: &'a [u8]) -> &'a [u8]

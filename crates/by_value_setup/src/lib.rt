@@ -1,15 +1,15 @@
 // What the host sets up before a guest runs: the record, its CSRs, where it starts, its page table.
 ghost use mathlib.Core.Path.{_≡_};
-ghost use Rattle.calls.specs.Calls.{newOf, pagingOf, setEntryOf, setupOf};
-use regs::Csrs;
-use regs::GuestCsrs;
-use regs::HsCsrs;
-use regs::Outcome;
-use regs::Vcpu;
-use regs::VsCsrs;
-use regs::Waiting;
-use regs::Writes;
-use types::GuestPhysAddr;
+ghost use Rattle.scope.specs.Calls.{newOf, pagingOf, setEntryOf, setupOf};
+use isa_types::GuestPhysAddr;
+use scope::Csrs;
+use scope::GuestCsrs;
+use scope::HsCsrs;
+use scope::Outcome;
+use scope::Vcpu;
+use scope::VsCsrs;
+use scope::Waiting;
+use scope::Writes;
 
 // A record of zeros but for what a guest finds at its start: a0 is its hart, a1 where the device tree lies.
 pub fn new(hart_id: u64, dtb_addr: u64) -> Vcpu
@@ -53,8 +53,8 @@ pub fn setup(v: Vcpu) -> Outcome
 {
     let c = v.csrs;
     let w = v.waiting;
-    let e = effects::done(host_calls::setup_csrs(c), Writes::Keep, w);
-    apply::unless_asking(v, e)
+    let e = decide_effects::done(decide_host::setup_csrs(c), Writes::Keep, w);
+    by_value_apply::unless_asking(v, e)
 }
 
 // Where the guest starts.
@@ -63,8 +63,8 @@ pub fn set_entry(v: Vcpu, entry: GuestPhysAddr) -> Outcome
 {
     let c = v.csrs;
     let w = v.waiting;
-    let e = effects::done(host_calls::entry_csrs(c, entry), Writes::Keep, w);
-    apply::unless_asking(v, e)
+    let e = decide_effects::done(decide_host::entry_csrs(c, entry), Writes::Keep, w);
+    by_value_apply::unless_asking(v, e)
 }
 
 // Sets the guest-stage page table: 3 levels with mode 8, or 4 with mode 9, and a root at a multiple of 16 KiB.
@@ -73,6 +73,6 @@ pub fn set_nested_page_table(v: Vcpu, levels: u64, mode: u64, root: u64) -> Outc
 {
     let c = v.csrs;
     let w = v.waiting;
-    let e = host_calls::paging_effect(c, w, levels, mode, root);
-    apply::unless_asking(v, e)
+    let e = decide_host::paging_effect(c, w, levels, mode, root);
+    by_value_apply::unless_asking(v, e)
 }

@@ -1,11 +1,11 @@
 // The vCPU exit handler: a trap's start, its answers and its load's completion, by value. Each call gives the whole
 // outcome, and its promise names it: the later record, the reply, and a hypercall's arguments.
 ghost use mathlib.Core.Path.{_≡_};
-ghost use Rattle.calls.specs.Calls.{answerOf, completeLoadOf, startOf};
-use regs::Outcome;
-use regs::Vcpu;
-use types::Answer;
-use types::Trap;
+ghost use Rattle.scope.specs.Calls.{answerOf, completeLoadOf, startOf};
+use scope::Answer;
+use scope::Outcome;
+use scope::Trap;
+use scope::Vcpu;
 
 // Starts a trap.
 pub fn start(v: Vcpu, t: Trap) -> Outcome
@@ -14,7 +14,7 @@ pub fn start(v: Vcpu, t: Trap) -> Outcome
     let x = v.x;
     let c = v.csrs;
     let w = v.waiting;
-    apply::apply(v, trap::start(x, c, w, t))
+    by_value_apply::apply(v, by_value_start::start(x, c, w, t))
 }
 
 // Answers the ask that waits.
@@ -24,7 +24,7 @@ pub fn answer(v: Vcpu, a: Answer) -> Outcome
     let x = v.x;
     let c = v.csrs;
     let w = v.waiting;
-    apply::apply(v, resume::answer(x, c, w, a))
+    by_value_apply::apply(v, by_value_answer::answer(x, c, w, a))
 }
 
 // Completes the load that waits.
@@ -33,5 +33,5 @@ pub fn complete_load(v: Vcpu, n: u64) -> Outcome
 {
     let c = v.csrs;
     let w = v.waiting;
-    apply::apply(v, answers_effect::complete(c, w, n))
+    by_value_apply::apply(v, by_value_classes::complete(c, w, n))
 }

@@ -1,43 +1,47 @@
 // SBI, 'Debug Console Extension': what a call does, by its function, its arguments and the room in the console buffer.
 ghost use mathlib.Core.Path.{_≡_};
-ghost use Rattle.sbi.specs.Calls.{consoleOf, dbcnOf, lesserOf, spanOf};
-use sbi::Call;
-use types::Args;
-use types::GuestPhysAddr;
+ghost use Prim.Native.Nat.{ℕ};
+ghost use Rattle.scope.specs.declared.machine.Csrs.{Csrs};
+ghost use Rattle.scope.specs.declared.traps.Args.{Args};
+ghost use Rattle.scope.specs.Decided.{callEffect};
+ghost use Rattle.scope.specs.Ecalls.{consoleEffect, dbcnEffect, lesserOf, spanEffect};
+use isa_types::GuestPhysAddr;
+use scope::Args;
+use scope::Call;
 
 pub fn dbcn(fid: u64, a: Args, room: u64) -> Call
-    ensures { λ r. ⌜ r ≡ dbcnOf fid a room ⌝ }
+    ensures { λ r. ⌜ ((c : Csrs) (eid : ℕ) → callEffect c eid fid a r ≡ dbcnEffect c fid a room) ⌝ }
 {
-    if fid == consts::FID_CONSOLE_WRITE {
+    if fid == isa_consts::FID_CONSOLE_WRITE {
         return console(true, a, room);
     }
-    if fid == consts::FID_CONSOLE_READ {
+    if fid == isa_consts::FID_CONSOLE_READ {
         return console(false, a, room);
     }
-    if fid == consts::FID_CONSOLE_WRITE_BYTE {
+    if fid == isa_consts::FID_CONSOLE_WRITE_BYTE {
         return Call::PutByte(a.a0 % 256);
     }
-    sbi::not_supported()
+    decide_ecall_extensions::not_supported()
 }
 
 // The checks that console write and read share.
 fn console(write: bool, a: Args, room: u64) -> Call
-    ensures { λ r. ⌜ r ≡ consoleOf write a room ⌝ }
+    ensures { λ r. ⌜ ((c : Csrs) (eid fid : ℕ) → callEffect c eid fid a r ≡ consoleEffect c write a room) ⌝ }
 {
     if a.a0 == 0 {
-        return Call::Returns(consts::RET_SUCCESS, 0);
+        return Call::Returns(isa_consts::RET_SUCCESS, 0);
     }
     if a.a2 == 0 {
         return span(write, GuestPhysAddr(a.a1), lesser(a.a0, room));
     }
-    Call::Returns(consts::RET_ERR_INVALID_PARAM, 0)
+    Call::Returns(isa_consts::RET_ERR_INVALID_PARAM, 0)
 }
 
 fn span(write: bool, at: GuestPhysAddr, count: u64) -> Call
-    ensures { λ r. ⌜ r ≡ spanOf write at count ⌝ }
+    ensures { λ r. ⌜ ((c : Csrs) (eid fid : ℕ) (a : Args) → callEffect c eid fid a r ≡ spanEffect c write at count) ⌝ }
 {
     if count == 0 {
-        return Call::Returns(consts::RET_SUCCESS, 0);
+        return Call::Returns(isa_consts::RET_SUCCESS, 0);
     }
     if write {
         return Call::CopyIn(at, count);

@@ -1,74 +1,53 @@
 // What a guest's SBI calls do, and the extensions whose calls are decided by their function alone.
 ghost use mathlib.Core.Path.{_≡_};
-ghost use Rattle.sbi.specs.Calls.{hsmOf, notSupportedOf, rfncOf, spiOf, srstOf, timeOf};
-use regs::Event;
-use types::Args;
-use types::GuestPhysAddr;
-use types::GuestVirtAddr;
-use types::IpiRequest;
-
-// What an SBI call does. Each case is a row of document 01's list.
-pub enum Call {
-    // a0 and a1 are these, sepc moves on.
-    Returns(u64, u64),
-    // sepc moves on and no register is written.
-    Moves,
-    LegacyTimer(u64),
-    SetTimer(u64),
-    ClearIpi,
-    PutChar(u64),
-    GetChar,
-    CopyMask(GuestVirtAddr),
-    SendIpi(IpiRequest),
-    CpuUp(u64, GuestPhysAddr, u64),
-    CpuDown,
-    Halt,
-    SystemDown,
-    Hypercall,
-    CopyIn(GuestPhysAddr, u64),
-    ReadConsole(GuestPhysAddr, u64),
-    PutByte(u64),
-    Forward(Event),
-}
+ghost use Prim.Native.Nat.{ℕ};
+ghost use Rattle.scope.specs.declared.machine.Csrs.{Csrs};
+ghost use Rattle.scope.specs.declared.traps.Args.{Args};
+ghost use Rattle.scope.specs.Decided.{callEffect};
+ghost use Rattle.scope.specs.Ecalls.{hsmEffect, notSupportedEffect, rfncEffect, spiEffect, srstEffect, timeEffect};
+use isa_types::GuestPhysAddr;
+use scope::Args;
+use scope::Call;
+use scope::Event;
 
 pub fn time(fid: u64, a: Args) -> Call
-    ensures { λ r. ⌜ r ≡ timeOf fid a ⌝ }
+    ensures { λ r. ⌜ ((c : Csrs) (eid : ℕ) → callEffect c eid fid a r ≡ timeEffect c fid a) ⌝ }
 {
-    if fid == consts::FID_SET_TIMER {
+    if fid == isa_consts::FID_SET_TIMER {
         return Call::SetTimer(a.a0);
     }
     not_supported()
 }
 
 pub fn spi(fid: u64, a: Args) -> Call
-    ensures { λ r. ⌜ r ≡ spiOf fid a ⌝ }
+    ensures { λ r. ⌜ ((c : Csrs) (eid : ℕ) → callEffect c eid fid a r ≡ spiEffect c fid a) ⌝ }
 {
-    if fid == consts::FID_SEND_IPI {
-        return Call::SendIpi(sbi_ipi::standard_request(a.a0, a.a1));
+    if fid == isa_consts::FID_SEND_IPI {
+        return Call::SendIpi(decide_ipi::standard_request(a.a0, a.a1));
     }
     not_supported()
 }
 
 pub fn hsm(fid: u64, a: Args) -> Call
-    ensures { λ r. ⌜ r ≡ hsmOf fid a ⌝ }
+    ensures { λ r. ⌜ ((c : Csrs) (eid : ℕ) → callEffect c eid fid a r ≡ hsmEffect c fid a) ⌝ }
 {
-    if fid == consts::FID_HART_START {
+    if fid == isa_consts::FID_HART_START {
         return Call::CpuUp(a.a0, GuestPhysAddr(a.a1), a.a2);
     }
-    if fid == consts::FID_HART_STOP {
+    if fid == isa_consts::FID_HART_STOP {
         return Call::CpuDown;
     }
-    if fid == consts::FID_HART_SUSPEND {
+    if fid == isa_consts::FID_HART_SUSPEND {
         return Call::Halt;
     }
     not_supported()
 }
 
 pub fn srst(fid: u64, a: Args) -> Call
-    ensures { λ r. ⌜ r ≡ srstOf fid a ⌝ }
+    ensures { λ r. ⌜ ((c : Csrs) (eid : ℕ) → callEffect c eid fid a r ≡ srstEffect c fid a) ⌝ }
 {
-    if fid == consts::FID_SYSTEM_RESET {
-        if a.a0 == consts::RESET_TYPE_SHUTDOWN {
+    if fid == isa_consts::FID_SYSTEM_RESET {
+        if a.a0 == isa_consts::RESET_TYPE_SHUTDOWN {
             return Call::SystemDown;
         }
         return not_supported();
@@ -78,7 +57,7 @@ pub fn srst(fid: u64, a: Args) -> Call
 
 // Remote fences are counted by their kind, and all are forwarded.
 pub fn rfnc(fid: u64) -> Call
-    ensures { λ r. ⌜ r ≡ rfncOf fid ⌝ }
+    ensures { λ r. ⌜ ((c : Csrs) (eid : ℕ) (a : Args) → callEffect c eid fid a r ≡ rfncEffect c eid fid a) ⌝ }
 {
     match fid {
         0 => Call::Forward(Event::FenceI),
@@ -93,7 +72,7 @@ pub fn rfnc(fid: u64) -> Call
 }
 
 pub fn not_supported() -> Call
-    ensures { λ r. ⌜ r ≡ notSupportedOf ⌝ }
+    ensures { λ r. ⌜ ((c : Csrs) (eid fid : ℕ) (a : Args) → callEffect c eid fid a r ≡ notSupportedEffect c) ⌝ }
 {
-    Call::Returns(consts::RET_ERR_NOT_SUPPORTED, 0)
+    Call::Returns(isa_consts::RET_ERR_NOT_SUPPORTED, 0)
 }

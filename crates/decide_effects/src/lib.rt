@@ -1,16 +1,17 @@
 // How a call ends: an effect for each kind of end, built in one place. regs/specs/Effects.antt defines them.
 ghost use mathlib.Core.Path.{_≡_};
-ghost use Rattle.regs.specs.Effects.{askingOf, doneOf, failedOf, finishedOf, guardedOf, noArgs, refusedOf};
-use regs::Csrs;
-use regs::Effect;
-use regs::Event;
-use regs::Waiting;
-use regs::Writes;
-use types::Args;
-use types::Ask;
-use types::Error;
-use types::Exit;
-use types::Reply;
+ghost use Rattle.scope.specs.Refusals.{askingOf, doneOf, failedOf, finishedOf, guardedOf, refusedOf};
+ghost use Rattle.scope.specs.Record.{noArgs};
+use scope::Args;
+use scope::Ask;
+use scope::Csrs;
+use scope::Effect;
+use scope::Error;
+use scope::Event;
+use scope::Exit;
+use scope::Reply;
+use scope::Waiting;
+use scope::Writes;
 
 // The trap is finished with an exit.
 pub fn finished(csrs: Csrs, event: Event, writes: Writes, exit: Exit) -> Effect

@@ -1,15 +1,15 @@
 // What the host's own calls do to a record: setup, entry, registers, page table, interrupts, IPI results.
 ghost use mathlib.Core.Path.{_≡_};
-ghost use Rattle.host_calls.specs.HostCalls.{entryCsrs, ipiWrites, pagingBy, pagingEffect, pendingBy, pendingEffect, setupCsrs, tableCsrs, writeEffect};
-use regs::Csrs;
-use regs::Effect;
-use regs::GuestCsrs;
-use regs::HsCsrs;
-use regs::Waiting;
-use regs::Writes;
-use types::Error;
-use types::GuestPhysAddr;
-use types::IpiAbi;
+ghost use Rattle.scope.specs.Host.{entryCsrs, ipiWrites, pagingBy, pagingEffect, pendingBy, pendingEffect, setupCsrs, tableCsrs, writeEffect};
+use isa_types::GuestPhysAddr;
+use scope::Csrs;
+use scope::Effect;
+use scope::Error;
+use scope::GuestCsrs;
+use scope::HsCsrs;
+use scope::IpiAbi;
+use scope::Waiting;
+use scope::Writes;
 
 // The CSRs that a guest starts with.
 pub fn setup_csrs(c: Csrs) -> Csrs
@@ -17,13 +17,13 @@ pub fn setup_csrs(c: Csrs) -> Csrs
 {
     let guest = GuestCsrs {
         sepc: c.guest.sepc,
-        sstatus: consts::SETUP_SSTATUS,
-        hstatus: consts::SETUP_HSTATUS,
+        sstatus: isa_consts::SETUP_SSTATUS,
+        hstatus: isa_consts::SETUP_HSTATUS,
     };
-    let timed = regs::with_timer(c, consts::NO_TIMER);
+    let timed = decide_record::with_timer(c, isa_consts::NO_TIMER);
     let vs = timed.vs;
     let hs = HsCsrs {
-        hie: consts::SETUP_HIE,
+        hie: isa_consts::SETUP_HIE,
         hvip: 0,
         hgeie: 0,
         hgatp: c.hs.hgatp,
@@ -45,9 +45,9 @@ pub fn write_effect(c: Csrs, w: Waiting, index: usize, value: u64) -> Effect
     ensures { λ r. ⌜ r ≡ writeEffect c w index value ⌝ }
 {
     if index < 32 {
-        return effects::done(c, Writes::One(index, value), w);
+        return decide_effects::done(c, Writes::One(index, value), w);
     }
-    effects::refused(c, w, Error::InvalidInput)
+    decide_effects::refused(c, w, Error::InvalidInput)
 }
 
 // Sets the guest-stage page table.
@@ -57,7 +57,7 @@ pub fn paging_effect(c: Csrs, w: Waiting, levels: u64, mode: u64, root: u64) -> 
     match levels {
         3 => paging_by(c, w, 8, mode, root),
         4 => paging_by(c, w, 9, mode, root),
-        _ => effects::refused(c, w, Error::InvalidInput),
+        _ => decide_effects::refused(c, w, Error::InvalidInput),
     }
 }
 
@@ -65,7 +65,7 @@ pub fn paging_effect(c: Csrs, w: Waiting, levels: u64, mode: u64, root: u64) -> 
 pub fn pending_effect(c: Csrs, w: Waiting, vector: u64, on: bool) -> Effect
     ensures { λ r. ⌜ r ≡ pendingEffect c w vector on ⌝ }
 {
-    pending_by(c, w, vector, consts::is_supervisor_external(vector), on)
+    pending_by(c, w, vector, isa_consts::is_supervisor_external(vector), on)
 }
 
 // The registers that an IPI result goes to.
@@ -83,17 +83,17 @@ fn paging_by(c: Csrs, w: Waiting, wanted: u64, mode: u64, root: u64) -> Effect
 {
     if mode == wanted {
         if root % 0x4000 == 0 {
-            return effects::done(table_csrs(c, mode, root), Writes::Keep, w);
+            return decide_effects::done(table_csrs(c, mode, root), Writes::Keep, w);
         }
-        return effects::refused(c, w, Error::InvalidInput);
+        return decide_effects::refused(c, w, Error::InvalidInput);
     }
-    effects::refused(c, w, Error::InvalidInput)
+    decide_effects::refused(c, w, Error::InvalidInput)
 }
 
 fn table_csrs(c: Csrs, mode: u64, root: u64) -> Csrs
     ensures { λ r. ⌜ r ≡ tableCsrs c mode root ⌝ }
 {
-    let hgatp = registers::hgatp_value(mode, root);
+    let hgatp = isa_registers::hgatp_value(mode, root);
     let mut n = c;
     n.hs.hgatp = hgatp;
     n
@@ -102,17 +102,17 @@ fn table_csrs(c: Csrs, mode: u64, root: u64) -> Csrs
 fn pending_by(c: Csrs, w: Waiting, vector: u64, external: bool, on: bool) -> Effect
     ensures { λ r. ⌜ r ≡ pendingBy c w vector external on ⌝ }
 {
-    if vector == consts::S_SOFT {
-        let hvip = registers::with_bits(c.hs.hvip, consts::VSSIP, on);
-        return effects::done(regs::with_hvip(c, hvip), Writes::Keep, w);
+    if vector == isa_consts::S_SOFT {
+        let hvip = isa_registers::with_bits(c.hs.hvip, isa_consts::VSSIP, on);
+        return decide_effects::done(decide_record::with_hvip(c, hvip), Writes::Keep, w);
     }
-    if vector == consts::S_TIMER {
-        let hvip = registers::with_bits(c.hs.hvip, consts::VSTIP, on);
-        return effects::done(regs::with_hvip(c, hvip), Writes::Keep, w);
+    if vector == isa_consts::S_TIMER {
+        let hvip = isa_registers::with_bits(c.hs.hvip, isa_consts::VSTIP, on);
+        return decide_effects::done(decide_record::with_hvip(c, hvip), Writes::Keep, w);
     }
     if external {
-        let hvip = registers::with_bits(c.hs.hvip, consts::VSEIP, on);
-        return effects::done(regs::with_hvip(c, hvip), Writes::Keep, w);
+        let hvip = isa_registers::with_bits(c.hs.hvip, isa_consts::VSEIP, on);
+        return decide_effects::done(decide_record::with_hvip(c, hvip), Writes::Keep, w);
     }
-    effects::refused(c, w, Error::InvalidInput)
+    decide_effects::refused(c, w, Error::InvalidInput)
 }

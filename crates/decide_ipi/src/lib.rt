@@ -1,24 +1,10 @@
 // Inter-processor interrupts: the requests that a guest makes through SBI, and the results that it gets back.
 ghost use mathlib.Core.Path.{_≡_};
-ghost use Rattle.sbi_ipi.specs.Ipi.{completionNumber, legacyRequest, standardRequest};
-use types::IpiAbi;
-use types::IpiRequest;
-
-// What the host made of a request.
-pub enum IpiCompletion {
-    // Every hart that the mask names takes the interrupt.
-    Success,
-    // The mask names a hart that the guest doesn't have.
-    InvalidParameter,
-    // The request was sound and delivery failed.
-    Failed,
-}
-
-// A legacy call's mask lies in guest memory, and reading it can fall short.
-pub enum LegacyRequest {
-    Request(IpiRequest),
-    ShortRead,
-}
+ghost use Rattle.scope.specs.Ecalls.{completionNumber, legacyRequest, standardRequest};
+use scope::IpiAbi;
+use scope::IpiCompletion;
+use scope::IpiRequest;
+use scope::LegacyRequest;
 
 // The request of extension sPI: mask and base as given.
 pub fn standard_request(mask: u64, base: u64) -> IpiRequest
@@ -35,7 +21,7 @@ pub fn standard_request(mask: u64, base: u64) -> IpiRequest
 pub fn legacy_request(count: u64, bytes: u64) -> LegacyRequest
     ensures { λ r. ⌜ r ≡ legacyRequest count bytes ⌝ }
 {
-    if count == consts::HART_MASK_BYTES {
+    if count == isa_consts::HART_MASK_BYTES {
         return LegacyRequest::Request(IpiRequest {
             mask: bytes,
             base: 0,
@@ -50,8 +36,8 @@ pub fn completion_number(c: IpiCompletion) -> u64
     ensures { λ r. ⌜ r ≡ completionNumber c ⌝ }
 {
     match c {
-        IpiCompletion::Success => consts::RET_SUCCESS,
-        IpiCompletion::InvalidParameter => consts::RET_ERR_INVALID_PARAM,
-        IpiCompletion::Failed => consts::RET_ERR_FAILED,
+        IpiCompletion::Success => isa_consts::RET_SUCCESS,
+        IpiCompletion::InvalidParameter => isa_consts::RET_ERR_INVALID_PARAM,
+        IpiCompletion::Failed => isa_consts::RET_ERR_FAILED,
     }
 }

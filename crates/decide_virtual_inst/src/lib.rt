@@ -1,61 +1,33 @@
 // A virtual-instruction trap: the guest's CSR instruction on stimecmp, in its six forms.
 ghost use mathlib.Core.Path.{_≡_};
-ghost use Rattle.virtual_inst.specs.Stimecmp.{clearedOf, csrBy, csrEffect, csrOf, setOf, startOf, startBy, stimecmpOf};
-use regs::Csrs;
-use regs::Effect;
-use regs::Event;
-use regs::Waiting;
-use regs::Writes;
-use types::Error;
-use types::Exit;
-
-// What a virtual instruction does.
-pub enum Csr {
-    // The trap ends in an error and is counted.
-    Illegal,
-    // The word has to be fetched.
-    Fetch,
-    // rd gets the old timer, and the timer is this.
-    Write { rd: usize, timer: u64 },
-}
+ghost use Rattle.scope.specs.VirtualInstruction.{clearedOf, csrBy, csrOf, setOf, startOf, startBy, stimecmpOf};
+use scope::Csr;
 
 // What the word in stval does, with the old timer and rs1's content.
 pub fn start(stval: u64, old: u64, rs1: u64) -> Csr
     ensures { λ r. ⌜ r ≡ startOf stval old rs1 ⌝ }
 {
     let word = stval % 0x1_0000_0000;
-    start_by(fields::opcode(word), word, old, rs1)
+    start_by(isa_fields::opcode(word), word, old, rs1)
 }
 
 // What a word that stval or a fetch gave does.
 pub fn decide(word: u64, old: u64, rs1: u64) -> Csr
     ensures { λ r. ⌜ r ≡ csrOf word old rs1 ⌝ }
 {
-    decide_by(fields::opcode(word), fields::csr(word), word, old, rs1)
-}
-
-pub fn effect(c: Csrs, d: Csr) -> Effect
-    ensures { λ r. ⌜ r ≡ csrEffect c d ⌝ }
-{
-    match d {
-        Csr::Illegal => effects::failed(c, Event::IllegalInsn, Error::Unsupported),
-        Csr::Fetch => fetch::ask(c, Waiting::FetchCsr),
-        Csr::Write { rd, timer } => {
-            let armed = regs::with_timer(c, timer);
-            effects::finished(
-                regs::advance(armed, 4),
-                Event::Quiet,
-                Writes::One(rd, c.vs.vstimecmp),
-                Exit::Nothing,
-            )
-        }
-    }
+    decide_by(
+        isa_fields::opcode(word),
+        isa_fields::csr(word),
+        word,
+        old,
+        rs1,
+    )
 }
 
 fn start_by(opcode: u64, word: u64, old: u64, rs1: u64) -> Csr
     ensures { λ r. ⌜ r ≡ startBy opcode word old rs1 ⌝ }
 {
-    if opcode == consts::SYSTEM_OPCODE {
+    if opcode == isa_consts::SYSTEM_OPCODE {
         return decide(word, old, rs1);
     }
     Csr::Fetch
@@ -64,12 +36,12 @@ fn start_by(opcode: u64, word: u64, old: u64, rs1: u64) -> Csr
 fn decide_by(opcode: u64, csr: u64, word: u64, old: u64, rs1: u64) -> Csr
     ensures { λ r. ⌜ r ≡ csrBy opcode csr word old rs1 ⌝ }
 {
-    if opcode == consts::SYSTEM_OPCODE {
-        if csr == consts::CSR_STIMECMP {
+    if opcode == isa_consts::SYSTEM_OPCODE {
+        if csr == isa_consts::CSR_STIMECMP {
             return stimecmp(
-                fields::funct3(word),
-                fields::rd(word),
-                fields::rs1(word) as u64,
+                isa_fields::funct3(word),
+                isa_fields::rd(word),
+                isa_fields::rs1(word) as u64,
                 old,
                 rs1,
             );
@@ -112,7 +84,7 @@ fn set(field: u64, old: u64, bits: u64) -> u64
     if field == 0 {
         return old;
     }
-    registers::with_bits(old, bits, true)
+    isa_registers::with_bits(old, bits, true)
 }
 
 fn clear(field: u64, old: u64, bits: u64) -> u64
@@ -121,5 +93,5 @@ fn clear(field: u64, old: u64, bits: u64) -> u64
     if field == 0 {
         return old;
     }
-    registers::with_bits(old, bits, false)
+    isa_registers::with_bits(old, bits, false)
 }

@@ -4,29 +4,29 @@ use native.Mathlib.Omega.{arith}
 use mathlib.Core.Bool.{Bool, true, false}
 use mathlib.Core.List.{List}
 use mathlib.Core.Path.{_≡_, refl, ap, sym, subst, _∙_}
-use Rattle.types.specs.declared.Answer.{Answer}
-use Rattle.types.specs.declared.Ask.{Ask}
-use Rattle.types.specs.declared.Error.{Error}
-use Rattle.types.specs.declared.Error.the-variants as error
-use Rattle.types.specs.declared.Exit.{Exit}
-use Rattle.types.specs.declared.GuestPhysAddr.{GuestPhysAddr}
-use Rattle.types.specs.declared.IpiAbi.{IpiAbi}
-use Rattle.types.specs.declared.Reply.{Reply}
-use Rattle.types.specs.declared.Reply.the-variants as reply
-use Rattle.types.specs.declared.Trap.{Trap}
-use Rattle.sbi_ipi.specs.declared.IpiCompletion.{IpiCompletion}
-use Rattle.regs.specs.declared.Csrs.{Csrs}
-use Rattle.regs.specs.declared.Effect.{Effect}
-use Rattle.regs.specs.declared.Event.the-variants as event
-use Rattle.regs.specs.declared.Outcome.{Outcome}
-use Rattle.regs.specs.declared.Vcpu.{Vcpu}
-use Rattle.regs.specs.declared.Waiting.{Waiting}
-use Rattle.regs.specs.declared.Writes.the-variants as writes
-use Rattle.regs.specs.Record.{bumped, counted, eventNumber, stored}
-use Rattle.regs.specs.Effects.{applied, unlessAsking}
-use Rattle.calls.specs.Calls.{answerOf, completeIpiOf, completeLoadOf, latchOf, pagingOf, pendingOf, setEntryOf, setGprOf, setReturnOf, setupOf, startOf}
-use Rattle.total.specs.Leaves.{Asked, Failed, Left, Says, Sound, Unchanged, Waits}
-use Rattle.total.specs.Sound.{any-done-sound, answer-sound, completed-sound, guarded-sound, paging-sound, pending-sound, start-sound, write-sound}
+use Rattle.scope.specs.declared.traps.Answer.{Answer}
+use Rattle.scope.specs.declared.traps.Ask.{Ask}
+use Rattle.scope.specs.declared.traps.Error.{Error}
+use Rattle.scope.specs.declared.traps.Error.the-variants as error
+use Rattle.scope.specs.declared.traps.Exit.{Exit}
+use Rattle.isa_types.specs.declared.GuestPhysAddr.{GuestPhysAddr}
+use Rattle.scope.specs.declared.traps.IpiAbi.{IpiAbi}
+use Rattle.scope.specs.declared.traps.Reply.{Reply}
+use Rattle.scope.specs.declared.traps.Reply.the-variants as reply
+use Rattle.scope.specs.declared.traps.Trap.{Trap}
+use Rattle.scope.specs.declared.decided.IpiCompletion.{IpiCompletion}
+use Rattle.scope.specs.declared.machine.Csrs.{Csrs}
+use Rattle.scope.specs.declared.machine.Effect.{Effect}
+use Rattle.scope.specs.declared.machine.Event.the-variants as event
+use Rattle.scope.specs.declared.machine.Outcome.{Outcome}
+use Rattle.scope.specs.declared.machine.Vcpu.{Vcpu}
+use Rattle.scope.specs.declared.machine.Waiting.{Waiting}
+use Rattle.scope.specs.declared.machine.Writes.the-variants as writes
+use Rattle.scope.specs.Record.{bumped, counted, eventNumber, stored, applied}
+use Rattle.scope.specs.Refusals.{unlessAsking}
+use Rattle.scope.specs.Calls.{answerOf, completeIpiOf, completeLoadOf, latchOf, pagingOf, pendingOf, setEntryOf, setGprOf, setReturnOf, setupOf, startOf}
+use Rattle.demand1.specs.Leaves.{Asked, Failed, Left, Says, Sound, Unchanged, Waits}
+use Rattle.demand1.specs.Sound.{any-done-sound, answer-sound, completed-sound, guarded-sound, paging-sound, pending-sound, start-sound, write-sound}
 
 -- refusals 1, 2 and 7
 unfoldable pub refuses : Reply → Bool

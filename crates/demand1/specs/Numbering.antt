@@ -3,17 +3,16 @@ use Prim.Native.Nat.{ℕ}
 use mathlib.Core.List.{List}
 use mathlib.Core.Path.{_≡_, refl}
 use lib.ListN.{getD}
-use Rattle.types.specs.Numbers.{askNumber, answerNumber}
-use Rattle.types.specs.Values.{answerValues}
-use Rattle.types.specs.declared.Answer.{Answer}
-use Rattle.types.specs.declared.Answer.the-variants as answer
-use Rattle.types.specs.declared.Ask.{Ask}
-use Rattle.types.specs.declared.Fetch.{Fetch}
-use Rattle.regs.specs.declared.Csrs.{Csrs}
-use Rattle.regs.specs.declared.Waiting.{Waiting}
-use Rattle.regs.specs.Record.{waitingAsk}
-use Rattle.calls.specs.Resume.{continuedOf, fetchedOf, plainOf}
-use Rattle.total.specs.Leaves.{Waits, fetch-csr, fetch-fault, copy-mask, copy-in, print, read-console, copy-out, put-char, put-byte, get-char, forward}
+use Rattle.scope.specs.Trap.{askNumber, answerNumber, answerValues}
+use Rattle.scope.specs.declared.traps.Answer.{Answer}
+use Rattle.scope.specs.declared.traps.Answer.the-variants as answer
+use Rattle.scope.specs.declared.traps.Ask.{Ask}
+use Rattle.scope.specs.declared.traps.Fetch.{Fetch}
+use Rattle.scope.specs.declared.machine.Csrs.{Csrs}
+use Rattle.scope.specs.declared.machine.Waiting.{Waiting}
+use Rattle.scope.specs.Record.{waitingAsk}
+use Rattle.scope.specs.Resume.{continuedOf, fetchedOf, plainOf}
+use Rattle.demand1.specs.Leaves.{Waits, fetch-csr, fetch-fault, copy-mask, copy-in, print, read-console, copy-out, put-char, put-byte, get-char, forward}
 
 -- what waits has the number of the ask that was asked, and an answer fits by that number alone
 pub waits-number : {a : Ask} {n : Waiting} → Waits a n → waitingAsk n ≡ askNumber a

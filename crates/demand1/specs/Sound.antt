@@ -2,48 +2,48 @@
 use Prim.Native.Nat.{ℕ, _%_, _^_}
 use mathlib.Core.Bool.{Bool, true, false}
 use mathlib.Core.List.{List}
-use mathlib.Core.Path.{_≡_, refl}
+use mathlib.Core.Path.{_≡_, refl, subst}
 use lib.Dec.{eqb, ltb}
-use Rattle.types.specs.Pick.{pick}
-use Rattle.types.specs.Numbers.{answerNumber}
-use Rattle.types.specs.declared.Access.{Access}
-use Rattle.types.specs.declared.Answer.{Answer}
-use Rattle.types.specs.declared.Answer.the-variants as answer
-use Rattle.types.specs.declared.Args.{Args}
-use Rattle.types.specs.declared.Error.the-variants as error
-use Rattle.types.specs.declared.Fetch.{Fetch}
-use Rattle.types.specs.declared.Fetch.the-variants as fetch
-use Rattle.types.specs.declared.GuestPhysAddr.{GuestPhysAddr}
-use Rattle.types.specs.declared.Trap.{Trap}
-use Rattle.consts.specs.Traps.{envCallFromVs, virtualInstruction, loadGuestPageFault, storeGuestPageFault, supervisorSoft, supervisorTimer, supervisorExt, supervisorExternal}
-use Rattle.decoder.specs.declared.Trapped.{Trapped}
-use Rattle.regs.specs.declared.Csrs.{Csrs}
-use Rattle.regs.specs.declared.Effect.{Effect}
-use Rattle.regs.specs.declared.Waiting.{Waiting}
-use Rattle.regs.specs.declared.Waiting.the-variants as waiting
-use Rattle.regs.specs.declared.Writes.{Writes}
-use Rattle.regs.specs.Record.{isIdle, waitingAsk}
-use Rattle.regs.specs.Effects.{askingOf, doneOf, failedOf, finishedOf, guardedOf, refusedOf}
-use Rattle.sbi.specs.declared.Call.{Call}
-use Rattle.sbi.specs.declared.Call.the-variants as call
-use Rattle.ecall_effect.specs.Doing.{callEffect}
-use Rattle.deeds.specs.Deeds.{asksOf, clearIpiOf, hypercallOf, movesOf, returnsOf, setTimerOf, staysOf}
-use Rattle.fetch.specs.declared.Missed.{Missed}
-use Rattle.fetch.specs.declared.Missed.the-variants as missed
-use Rattle.fetch.specs.Faults.{askFetchOf, missedEffect}
-use Rattle.virtual_inst.specs.declared.Csr.{Csr}
-use Rattle.virtual_inst.specs.declared.Csr.the-variants as csr
-use Rattle.virtual_inst.specs.Stimecmp.{csrEffect}
-use Rattle.page_fault.specs.declared.Fault.{Fault}
-use Rattle.page_fault.specs.declared.Fault.the-variants as fault
-use Rattle.page_fault.specs.Mmio.{faultEffect}
-use Rattle.answers.specs.declared.Answered.{Answered}
-use Rattle.answers.specs.declared.Answered.the-variants as answered
-use Rattle.answers.specs.Answers.{answeredEffect, completedOf}
-use Rattle.host_calls.specs.HostCalls.{pagingBy, pagingEffect, pendingBy, pendingEffect, writeEffect}
-use Rattle.calls.specs.Traps.{causeOf, externalOf, mmioOf, otherOf, pageFaultOf, sbiOf, startEffect, startedOf, stimecmpOf, trapOf}
-use Rattle.calls.specs.Resume.{answerEffect, continuedOf, fetchedOf, matchedOf, plainOf, resumedOf}
-use Rattle.total.specs.Leaves.{Sound, Says, Left, Failed, Unchanged, Ended, AtMostIllegal, quiet, illegal, Asked, Waits, Loads, fetch-csr, fetch-fault, copy-mask, copy-in, print, read-console, copy-out, put-char, put-byte, get-char, forward, load}
+use Rattle.isa_types.specs.Pick.{pick}
+use Rattle.scope.specs.Decided.{ecall-decided}
+use Rattle.scope.specs.Trap.{answerNumber}
+use Rattle.scope.specs.declared.traps.Access.{Access}
+use Rattle.scope.specs.declared.traps.Answer.{Answer}
+use Rattle.scope.specs.declared.traps.Answer.the-variants as answer
+use Rattle.scope.specs.declared.traps.Args.{Args}
+use Rattle.scope.specs.declared.traps.Error.the-variants as error
+use Rattle.scope.specs.declared.traps.Fetch.{Fetch}
+use Rattle.scope.specs.declared.traps.Fetch.the-variants as fetch
+use Rattle.isa_types.specs.declared.GuestPhysAddr.{GuestPhysAddr}
+use Rattle.scope.specs.declared.traps.Trap.{Trap}
+use Rattle.isa_consts.specs.Traps.{envCallFromVs, virtualInstruction, loadGuestPageFault, storeGuestPageFault, supervisorSoft, supervisorTimer, supervisorExt, supervisorExternal}
+use Rattle.isa_decoder.specs.declared.Trapped.{Trapped}
+use Rattle.scope.specs.declared.machine.Csrs.{Csrs}
+use Rattle.scope.specs.declared.machine.Effect.{Effect}
+use Rattle.scope.specs.declared.machine.Waiting.{Waiting}
+use Rattle.scope.specs.declared.machine.Waiting.the-variants as waiting
+use Rattle.scope.specs.declared.machine.Writes.{Writes}
+use Rattle.scope.specs.Record.{isIdle, waitingAsk}
+use Rattle.scope.specs.Refusals.{askingOf, doneOf, failedOf, finishedOf, guardedOf, refusedOf}
+use Rattle.scope.specs.declared.decided.Call.{Call}
+use Rattle.scope.specs.declared.decided.Call.the-variants as call
+use Rattle.scope.specs.Decided.{callEffect}
+use Rattle.scope.specs.Ecalls.{asksOf, clearIpiOf, hypercallOf, movesOf, returnsOf, setTimerOf, staysOf, answeredEffect}
+use Rattle.scope.specs.declared.decided.Missed.{Missed}
+use Rattle.scope.specs.declared.decided.Missed.the-variants as missed
+use Rattle.scope.specs.FetchFaults.{askFetchOf, missedEffect}
+use Rattle.scope.specs.declared.decided.Csr.{Csr}
+use Rattle.scope.specs.declared.decided.Csr.the-variants as csr
+use Rattle.scope.specs.VirtualInstruction.{csrEffect}
+use Rattle.scope.specs.declared.decided.Fault.{Fault}
+use Rattle.scope.specs.declared.decided.Fault.the-variants as fault
+use Rattle.scope.specs.GuestPageFault.{faultEffect, completedOf}
+use Rattle.scope.specs.declared.decided.Answered.{Answered}
+use Rattle.scope.specs.declared.decided.Answered.the-variants as answered
+use Rattle.scope.specs.Host.{pagingBy, pagingEffect, pendingBy, pendingEffect, writeEffect}
+use Rattle.scope.specs.Classes.{externalOf, mmioOf, otherOf, pageFaultOf, sbiOf, startEffect, stimecmpOf, trapOf}
+use Rattle.scope.specs.Resume.{answerEffect, continuedOf, fetchedOf, plainOf, resumedOf}
+use Rattle.demand1.specs.Leaves.{Sound, Says, Left, Failed, Unchanged, Ended, AtMostIllegal, quiet, illegal, Asked, Waits, Loads, fetch-csr, fetch-fault, copy-mask, copy-in, print, read-console, copy-out, put-char, put-byte, get-char, forward, load}
 
 -- one of two by a test
 picked : {c : Csrs} {n : Waiting} (b : Bool) {e f : Effect} → Sound c n e → Sound c n f → Sound c n (pick b e f)
@@ -134,7 +134,7 @@ other-sound c n false = record { says = (record { csrs = refl; writes = refl; wa
 
 sbi-sound : (c : Csrs) (n : Waiting) (eid fid : ℕ) (a : Args) (room : ℕ) → Sound c n (sbiOf c eid fid a room)
 unfolding sbiOf
-sbi-sound c n eid fid a room = call-sound c n eid fid a _
+sbi-sound c n eid fid a room = subst (Sound c n) (ecall-decided c eid fid a room) (call-sound c n eid fid a _)
 
 stimecmp-sound : (c : Csrs) (n : Waiting) (stval rs1 : ℕ) → Sound c n (stimecmpOf c stval rs1)
 unfolding stimecmpOf
@@ -148,22 +148,22 @@ page-sound : (x : List ℕ) (c : Csrs) (n : Waiting) (t : Trap) (k : Access) →
 unfolding pageFaultOf
 page-sound x c n t k = mmio-sound x c n _ k _
 
-cause-sound : (s : ℕ) (x : List ℕ) (c : Csrs) (n : Waiting) (t : Trap) → Sound c n (causeOf s x c t)
-unfolding causeOf
-cause-sound s x c n t =
-    picked (eqb s envCallFromVs) (sbi-sound c n _ _ _ _)
-    (picked (eqb s virtualInstruction) (stimecmp-sound c n _ _)
-    (picked (eqb s loadGuestPageFault) (page-sound x c n t _)
-    (picked (eqb s storeGuestPageFault) (page-sound x c n t _)
-    (picked (eqb s supervisorSoft) (external-sound c n _)
-    (picked (eqb s supervisorTimer) (external-sound c n _)
-    (picked (eqb s supervisorExt) (external-sound c n _)
+cause-sound : (x : List ℕ) (c : Csrs) (n : Waiting) (t : Trap) → Sound c n (trapOf x c t)
+unfolding trapOf
+cause-sound x c n t =
+    picked (eqb (t .scause) envCallFromVs) (sbi-sound c n _ _ _ _)
+    (picked (eqb (t .scause) virtualInstruction) (stimecmp-sound c n _ _)
+    (picked (eqb (t .scause) loadGuestPageFault) (page-sound x c n t _)
+    (picked (eqb (t .scause) storeGuestPageFault) (page-sound x c n t _)
+    (picked (eqb (t .scause) supervisorSoft) (external-sound c n _)
+    (picked (eqb (t .scause) supervisorTimer) (external-sound c n _)
+    (picked (eqb (t .scause) supervisorExt) (external-sound c n _)
     (other-sound c n _)))))))
 
 -- a start
 pub start-sound : (x : List ℕ) (c : Csrs) (n : Waiting) (t : Trap) → Sound c n (startEffect x c n t)
-unfolding startEffect startedOf trapOf
-start-sound x c n t = picked (isIdle n) (cause-sound _ x c n t) (state-sound c n)
+unfolding startEffect trapOf
+start-sound x c n t = picked (isIdle n) (cause-sound x c n t) (state-sound c n)
 
 plain-sound : (c : Csrs) (n : Waiting) (word more : ℕ) → Sound c n (plainOf c n word more)
 unfolding plainOf
@@ -208,7 +208,7 @@ continued-sound x c n (answer.Forwarded e v) = plain-sound c n e v
 
 -- an answer
 pub answer-sound : (x : List ℕ) (c : Csrs) (n : Waiting) (a : Answer) → Sound c n (answerEffect x c n a)
-unfolding answerEffect matchedOf
+unfolding answerEffect
 answer-sound x c n a = picked (eqb (waitingAsk n) (answerNumber a)) (continued-sound x c n a) (wrong-sound c n)
 
 -- a load's completion

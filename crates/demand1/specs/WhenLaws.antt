@@ -4,60 +4,60 @@ use mathlib.Core.Bool.{Bool, true, false}
 use mathlib.Core.List.{List}
 use mathlib.Core.Path.{_≡_, refl, ap, ap₂, sym, _∙_}
 use lib.Dec.{eqb, leb, ltb}
-use Rattle.types.specs.Pick.{pick, or, and, not}
-use Rattle.types.specs.Numbers.{answerNumber, errorNumber}
-use Rattle.types.specs.declared.Access.{Access}
-use Rattle.types.specs.declared.Access.the-variants as access
-use Rattle.types.specs.declared.Answer.{Answer}
-use Rattle.types.specs.declared.Answer.the-variants as answer
-use Rattle.types.specs.declared.Args.{Args}
-use Rattle.types.specs.declared.Error.{Error}
-use Rattle.types.specs.declared.Error.the-variants as error
-use Rattle.types.specs.declared.Fetch.{Fetch}
-use Rattle.types.specs.declared.Fetch.the-variants as fetch
-use Rattle.types.specs.declared.GuestPhysAddr.{GuestPhysAddr}
-use Rattle.types.specs.declared.IpiAbi.{IpiAbi}
-use Rattle.types.specs.declared.Reply.{Reply}
-use Rattle.types.specs.declared.Reply.the-variants as reply
-use Rattle.types.specs.declared.Trap.{Trap}
-use Rattle.consts.specs.Csr.{systemOpcode, stimecmp}
-use Rattle.consts.specs.Traps.{envCallFromVs, virtualInstruction, loadGuestPageFault, storeGuestPageFault, supervisorSoft, supervisorTimer, supervisorExt, supervisorExternal, knownCause}
-use Rattle.sbi_ipi.specs.declared.IpiCompletion.{IpiCompletion}
-use Rattle.sbi_ipi.specs.declared.LegacyRequest.{LegacyRequest}
-use Rattle.sbi_ipi.specs.declared.LegacyRequest.the-variants as legacy
-use Rattle.decoder.specs.declared.Decoded.{Decoded}
-use Rattle.decoder.specs.declared.Decoded.the-variants as decoded
-use Rattle.decoder.specs.declared.Trapped.{Trapped}
-use Rattle.decoder.specs.declared.Trapped.the-variants as trapped
-use Rattle.fields.specs.Fields.{opcodeField, funct3Field, csrField}
-use Rattle.decoder.specs.Length as length
-use Rattle.decoder.specs.Errors.{isPseudo, isUnfit, longWord, pseudoWord, unfitWord, htinst-pseudo, htinst-unfit, fetched-unfit, fetched-real}
-use Rattle.regs.specs.declared.Csrs.{Csrs}
-use Rattle.regs.specs.declared.Effect.{Effect}
-use Rattle.regs.specs.declared.Vcpu.{Vcpu}
-use Rattle.regs.specs.declared.Waiting.{Waiting}
-use Rattle.regs.specs.declared.Waiting.the-variants as waiting
-use Rattle.regs.specs.declared.Writes.{Writes}
-use Rattle.regs.specs.Record.{isIdle, waitingAsk}
-use Rattle.regs.specs.Effects.{applied, askingOf, doneOf, failedOf, finishedOf, guardedOf, refusedOf, unlessAsking}
-use Rattle.sbi.specs.declared.Call.{Call}
-use Rattle.sbi.specs.declared.Call.the-variants as call
-use Rattle.ecall_effect.specs.Doing.{callEffect}
-use Rattle.deeds.specs.Deeds.{asksOf, clearIpiOf, hypercallOf, movesOf, returnsOf, setTimerOf, staysOf}
-use Rattle.fetch.specs.Faults.{askFetchOf, missedEffect, missedOf}
-use Rattle.virtual_inst.specs.declared.Csr.{Csr}
-use Rattle.virtual_inst.specs.declared.Csr.the-variants as csr
-use Rattle.virtual_inst.specs.Stimecmp as virt
-use Rattle.page_fault.specs.Mmio.{faultEffect, faultOf, loadOf, storeOf}
-use Rattle.answers.specs.declared.Answered.{Answered}
-use Rattle.answers.specs.declared.Answered.the-variants as answered
-use Rattle.answers.specs.Answers.{answeredEffect, answeredOf, completedOf, copiedOf, copiedOutOf, maskOf, readOf}
-use Rattle.host_calls.specs.HostCalls.{pagingBy, pagingEffect, pendingBy, pendingEffect, writeEffect}
-use Rattle.calls.specs.Traps.{causeOf, externalOf, mmioOf, otherOf, pageFaultOf, sbiOf, startEffect, startedOf, stimecmpOf, trapOf}
-use Rattle.calls.specs.Resume.{answerEffect, continuedOf, fetchedOf, matchedOf, plainOf, resumedOf}
-use Rattle.calls.specs.Calls.{answerOf, completeIpiOf, completeLoadOf, getGprOf, latchOf, pagingOf, pendingOf, setEntryOf, setGprOf, setReturnOf, setupOf, startOf}
-use Rattle.third.specs.Kinds.{csrFunct3, onStimecmp}
-use Rattle.total.specs.When.{is, gives, Class, ecall, virtual-instruction, page-fault, host-interrupt, not-handled, unknown, classOf, otherWord, otherStval, classWhen, startWhen, wordWhen, fetchWhen, fittingWhen, answerWhen, loadWaits, loadWhen, changingWhen, indexAllowed, pagingAllowed, vectorAllowed}
+use Rattle.isa_types.specs.Pick.{pick, or, and, not}
+use Rattle.scope.specs.Decided.{ecall-decided}
+use Rattle.scope.specs.Trap.{answerNumber}
+use Rattle.scope.specs.Refusals.{errorNumber, askingOf, doneOf, failedOf, finishedOf, guardedOf, refusedOf, unlessAsking}
+use Rattle.scope.specs.declared.traps.Access.{Access}
+use Rattle.scope.specs.declared.traps.Access.the-variants as access
+use Rattle.scope.specs.declared.traps.Answer.{Answer}
+use Rattle.scope.specs.declared.traps.Answer.the-variants as answer
+use Rattle.scope.specs.declared.traps.Args.{Args}
+use Rattle.scope.specs.declared.traps.Error.{Error}
+use Rattle.scope.specs.declared.traps.Error.the-variants as error
+use Rattle.scope.specs.declared.traps.Fetch.{Fetch}
+use Rattle.scope.specs.declared.traps.Fetch.the-variants as fetch
+use Rattle.isa_types.specs.declared.GuestPhysAddr.{GuestPhysAddr}
+use Rattle.scope.specs.declared.traps.IpiAbi.{IpiAbi}
+use Rattle.scope.specs.declared.traps.Reply.{Reply}
+use Rattle.scope.specs.declared.traps.Reply.the-variants as reply
+use Rattle.scope.specs.declared.traps.Trap.{Trap}
+use Rattle.isa_consts.specs.Csr.{systemOpcode, stimecmp}
+use Rattle.isa_consts.specs.Traps.{envCallFromVs, virtualInstruction, loadGuestPageFault, storeGuestPageFault, supervisorSoft, supervisorTimer, supervisorExt, supervisorExternal, knownCause}
+use Rattle.scope.specs.declared.decided.IpiCompletion.{IpiCompletion}
+use Rattle.scope.specs.declared.decided.LegacyRequest.{LegacyRequest}
+use Rattle.scope.specs.declared.decided.LegacyRequest.the-variants as legacy
+use Rattle.isa_decoder.specs.declared.Decoded.{Decoded}
+use Rattle.isa_decoder.specs.declared.Decoded.the-variants as decoded
+use Rattle.isa_decoder.specs.declared.Trapped.{Trapped}
+use Rattle.isa_decoder.specs.declared.Trapped.the-variants as trapped
+use Rattle.isa_fields.specs.Fields.{opcodeField, funct3Field, csrField}
+use Rattle.isa_decoder.specs.Length as length
+use Rattle.isa_decoder.specs.Errors.{isPseudo, isUnfit, longWord, pseudoWord, unfitWord, htinst-pseudo, htinst-unfit, fetched-unfit, fetched-real}
+use Rattle.scope.specs.declared.machine.Csrs.{Csrs}
+use Rattle.scope.specs.declared.machine.Effect.{Effect}
+use Rattle.scope.specs.declared.machine.Vcpu.{Vcpu}
+use Rattle.scope.specs.declared.machine.Waiting.{Waiting}
+use Rattle.scope.specs.declared.machine.Waiting.the-variants as waiting
+use Rattle.scope.specs.declared.machine.Writes.{Writes}
+use Rattle.scope.specs.Record.{isIdle, waitingAsk, applied}
+use Rattle.scope.specs.declared.decided.Call.{Call}
+use Rattle.scope.specs.declared.decided.Call.the-variants as call
+use Rattle.scope.specs.Decided.{callEffect}
+use Rattle.scope.specs.Ecalls.{asksOf, clearIpiOf, hypercallOf, movesOf, returnsOf, setTimerOf, staysOf, answeredEffect, answeredOf, copiedOf, copiedOutOf, maskOf, readOf}
+use Rattle.scope.specs.FetchFaults.{askFetchOf, missedEffect, missedOf}
+use Rattle.scope.specs.declared.decided.Csr.{Csr}
+use Rattle.scope.specs.declared.decided.Csr.the-variants as csr
+use Rattle.scope.specs.VirtualInstruction as virt
+use Rattle.scope.specs.GuestPageFault.{faultEffect, faultOf, loadOf, storeOf, completedOf}
+use Rattle.scope.specs.declared.decided.Answered.{Answered}
+use Rattle.scope.specs.declared.decided.Answered.the-variants as answered
+use Rattle.scope.specs.Host.{pagingBy, pagingEffect, pendingBy, pendingEffect, writeEffect}
+use Rattle.scope.specs.Classes.{externalOf, mmioOf, otherOf, pageFaultOf, sbiOf, startEffect, stimecmpOf, trapOf}
+use Rattle.scope.specs.Resume.{answerEffect, continuedOf, fetchedOf, plainOf, resumedOf}
+use Rattle.scope.specs.Calls.{answerOf, completeIpiOf, completeLoadOf, getGprOf, latchOf, pagingOf, pendingOf, setEntryOf, setGprOf, setReturnOf, setupOf, startOf}
+use Rattle.demand3.specs.Kinds.{csrFunct3, onStimecmp}
+use Rattle.demand1.specs.When.{is, gives, Class, ecall, virtual-instruction, page-fault, host-interrupt, not-handled, unknown, classOf, otherWord, otherStval, classWhen, startWhen, wordWhen, fetchWhen, fittingWhen, answerWhen, loadWaits, loadWhen, changingWhen, indexAllowed, pagingAllowed, vectorAllowed}
 
 -- the same test on both sides
 split : {A B : Type 0} (f : A → B) (b : Bool) {x y : A} {p q : B} → f x ≡ p → f y ≡ q → f (pick b x y) ≡ pick b p q
@@ -159,9 +159,9 @@ external-gives : (e : Error) (c : Csrs) (v : ℕ) → givesIn e (externalOf c v)
 unfolding externalOf finishedOf gives
 external-gives e c v = refl
 
-sbi-gives : (e : Error) (c : Csrs) (t : Trap) (eid fid : ℕ) (a : Args) (k : Call) → givesIn e (callEffect c eid fid a k) ≡ classWhen ecall t e
-unfolding classWhen
-sbi-gives e c t eid fid a k = call-gives e c eid fid a k
+sbi-gives : (e : Error) (c : Csrs) (t : Trap) (eid fid : ℕ) (a : Args) (room : ℕ) → givesIn e (sbiOf c eid fid a room) ≡ classWhen ecall t e
+unfolding classWhen sbiOf
+sbi-gives e c t eid fid a room = ap (givesIn e) (sym (ecall-decided c eid fid a room)) ∙ call-gives e c eid fid a _
 
 virtual-gives : (e : Error) (c : Csrs) (t : Trap) (rs1 : ℕ) → givesIn e (stimecmpOf c (t .stval) rs1) ≡ classWhen virtual-instruction t e
 unfolding classWhen
@@ -180,17 +180,17 @@ class-split : {e : Error} {t : Trap} (b : Bool) {x y : Effect} {k l : Class} →
 class-split true h g = h
 class-split false h g = g
 
-cause-fits : (e : Error) (s : ℕ) (x : List ℕ) (c : Csrs) (t : Trap) → Fits e t (causeOf s x c t) (classOf s)
-unfolding causeOf classOf sbiOf
-cause-fits e s x c t =
-    class-split (eqb s envCallFromVs) (record { fits = sbi-gives e c t _ _ _ _ })
-    (class-split (eqb s virtualInstruction) (record { fits = virtual-gives e c t _ })
-    (class-split (eqb s loadGuestPageFault) (record { fits = page-gives e x c t access.Read })
-    (class-split (eqb s storeGuestPageFault) (record { fits = page-gives e x c t access.Write })
-    (class-split (eqb s supervisorSoft) (record { fits = interrupt-gives e c t s })
-    (class-split (eqb s supervisorTimer) (record { fits = interrupt-gives e c t s })
-    (class-split (eqb s supervisorExt) (record { fits = interrupt-gives e c t s })
-    (record { fits = other-gives e c t (knownCause s) })))))))
+cause-fits : (e : Error) (x : List ℕ) (c : Csrs) (t : Trap) → Fits e t (trapOf x c t) (classOf (t .scause))
+unfolding trapOf classOf
+cause-fits e x c t =
+    class-split (eqb (t .scause) envCallFromVs) (record { fits = sbi-gives e c t _ _ _ _ })
+    (class-split (eqb (t .scause) virtualInstruction) (record { fits = virtual-gives e c t _ })
+    (class-split (eqb (t .scause) loadGuestPageFault) (record { fits = page-gives e x c t access.Read })
+    (class-split (eqb (t .scause) storeGuestPageFault) (record { fits = page-gives e x c t access.Write })
+    (class-split (eqb (t .scause) supervisorSoft) (record { fits = interrupt-gives e c t (t .scause) })
+    (class-split (eqb (t .scause) supervisorTimer) (record { fits = interrupt-gives e c t (t .scause) })
+    (class-split (eqb (t .scause) supervisorExt) (record { fits = interrupt-gives e c t (t .scause) })
+    (record { fits = other-gives e c t (knownCause (t .scause)) })))))))
 
 refused-gives : (e y : Error) (c : Csrs) (n : Waiting) → givesIn e (refusedOf c n y) ≡ is e y
 unfolding refusedOf gives
@@ -198,9 +198,9 @@ refused-gives e y c n = refl
 
 -- a start
 pub start-gives : (e : Error) (v : Vcpu) (t : Trap) → gives e (startOf v t .reply) ≡ startWhen v t e
-unfolding startOf applied startEffect startedOf trapOf startWhen
+unfolding startOf applied startEffect trapOf startWhen
 start-gives e v t =
-    split (givesIn e) (isIdle (v .waiting)) (cause-fits e (t .scause) (v .x) (v .csrs) t .fits) (refused-gives e error.BadState (v .csrs) (v .waiting))
+    split (givesIn e) (isIdle (v .waiting)) (cause-fits e (v .x) (v .csrs) t .fits) (refused-gives e error.BadState (v .csrs) (v .waiting))
 
 fetched-fault-gives : (e : Error) (x : List ℕ) (c : Csrs) (at : GuestPhysAddr) (k : Access) (w : ℕ)
     → givesIn e (mmioOf x c at k (length.fetchedOf w)) ≡ and (longWord w) (is e error.DecodeFailed)
@@ -305,7 +305,7 @@ plain-gives e c waiting.Forward word more k h g = split (givesIn e) (eqb 9 k) (r
 
 -- an answer
 pub answer-gives : (e : Error) (v : Vcpu) (a : Answer) → gives e (answerOf v a .reply) ≡ answerWhen v a e
-unfolding answerOf applied answerEffect matchedOf continuedOf answerWhen fittingWhen answerNumber
+unfolding answerOf applied answerEffect continuedOf answerWhen fittingWhen answerNumber
 answer-gives e v (answer.Fetched f) =
     split (givesIn e) (eqb (waitingAsk (v .waiting)) 1) (fetched-gives e (v .x) (v .csrs) (v .waiting) f) (refused-gives e error.WrongAnswer (v .csrs) (v .waiting))
 answer-gives e v (answer.MaskCopied n b) = plain-gives e (v .csrs) (v .waiting) n b 2 refl refl

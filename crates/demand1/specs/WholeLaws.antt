@@ -5,57 +5,57 @@ use mathlib.Core.Bool.{Bool, true, false}
 use mathlib.Core.List.{List, [], _∷_}
 use mathlib.Core.Path.{_≡_, refl, ap, subst, sym, _∙_}
 use lib.Dec.{eqb}
-use Rattle.types.specs.Pick.{pick}
-use Rattle.types.specs.Numbers.{answerNumber}
-use Rattle.types.specs.declared.Access.{Access}
-use Rattle.types.specs.declared.Answer.{Answer}
-use Rattle.types.specs.declared.Answer.the-variants as answer
-use Rattle.types.specs.declared.Args.{Args}
-use Rattle.types.specs.declared.Error.the-variants as error
-use Rattle.types.specs.declared.Error.{Error}
-use Rattle.types.specs.declared.Fetch.{Fetch}
-use Rattle.types.specs.declared.Fetch.the-variants as fetch
-use Rattle.types.specs.declared.GuestPhysAddr.{GuestPhysAddr}
-use Rattle.types.specs.declared.Reply.{Reply}
-use Rattle.types.specs.declared.Reply.the-variants as reply
-use Rattle.types.specs.declared.Trap.{Trap}
-use Rattle.consts.specs.Traps.{envCallFromVs, virtualInstruction, loadGuestPageFault, storeGuestPageFault, supervisorSoft, supervisorTimer, supervisorExt, knownCause}
-use Rattle.decoder.specs.declared.Trapped.{Trapped}
-use Rattle.regs.specs.declared.Csrs.{Csrs}
-use Rattle.regs.specs.declared.Effect.{Effect}
-use Rattle.regs.specs.declared.Event.{Event}
-use Rattle.regs.specs.declared.Event.the-variants as event
-use Rattle.regs.specs.declared.Outcome.{Outcome}
-use Rattle.regs.specs.declared.Vcpu.{Vcpu}
-use Rattle.regs.specs.declared.Waiting.{Waiting}
-use Rattle.regs.specs.declared.Waiting.the-variants as waiting
-use Rattle.regs.specs.declared.Writes.{Writes}
-use Rattle.regs.specs.declared.Writes.the-variants as writes
-use Rattle.regs.specs.Record.{counted, bumped, eventNumber, isIdle, stored, waitingAsk}
-use Rattle.regs.specs.Effects.{applied, askingOf, failedOf, finishedOf, refusedOf}
-use Rattle.sbi.specs.declared.Call.{Call}
-use Rattle.sbi.specs.declared.Call.the-variants as call
-use Rattle.ecall_effect.specs.Doing.{callEffect}
-use Rattle.deeds.specs.Deeds.{asksOf, clearIpiOf, hypercallOf, movesOf, returnsOf, setTimerOf, staysOf}
-use Rattle.fetch.specs.declared.Missed.{Missed}
-use Rattle.fetch.specs.declared.Missed.the-variants as missed
-use Rattle.fetch.specs.Faults.{askFetchOf, missedEffect}
-use Rattle.virtual_inst.specs.declared.Csr.{Csr}
-use Rattle.virtual_inst.specs.declared.Csr.the-variants as csr
-use Rattle.virtual_inst.specs.Stimecmp.{csrEffect}
-use Rattle.page_fault.specs.declared.Fault.{Fault}
-use Rattle.page_fault.specs.declared.Fault.the-variants as fault
-use Rattle.page_fault.specs.Mmio.{faultEffect}
-use Rattle.answers.specs.declared.Answered.{Answered}
-use Rattle.answers.specs.declared.Answered.the-variants as answered
-use Rattle.answers.specs.Answers.{answeredEffect}
-use Rattle.calls.specs.Traps.{causeOf, externalOf, mmioOf, otherOf, pageFaultOf, sbiOf, startEffect, startedOf, stimecmpOf, trapOf}
-use Rattle.calls.specs.Resume.{answerEffect, continuedOf, fetchedOf, matchedOf, plainOf, resumedOf}
-use Rattle.calls.specs.Calls.{startOf, answerOf}
-use Rattle.total.specs.Leaves.{AtMostIllegal, Ended, Failed, Says, Sound}
-use Rattle.total.specs.Leaves as leaves
-use Rattle.total.specs.Sound.{start-sound, answer-sound}
-use Rattle.total.specs.Whole.{carried, wholeOf, endsTrap, inError, Counted, same, illegal, Over}
+use Rattle.isa_types.specs.Pick.{pick}
+use Rattle.scope.specs.Decided.{ecall-decided}
+use Rattle.scope.specs.Trap.{answerNumber}
+use Rattle.scope.specs.declared.traps.Access.{Access}
+use Rattle.scope.specs.declared.traps.Answer.{Answer}
+use Rattle.scope.specs.declared.traps.Answer.the-variants as answer
+use Rattle.scope.specs.declared.traps.Args.{Args}
+use Rattle.scope.specs.declared.traps.Error.the-variants as error
+use Rattle.scope.specs.declared.traps.Error.{Error}
+use Rattle.scope.specs.declared.traps.Fetch.{Fetch}
+use Rattle.scope.specs.declared.traps.Fetch.the-variants as fetch
+use Rattle.isa_types.specs.declared.GuestPhysAddr.{GuestPhysAddr}
+use Rattle.scope.specs.declared.traps.Reply.{Reply}
+use Rattle.scope.specs.declared.traps.Reply.the-variants as reply
+use Rattle.scope.specs.declared.traps.Trap.{Trap}
+use Rattle.isa_consts.specs.Traps.{envCallFromVs, virtualInstruction, loadGuestPageFault, storeGuestPageFault, supervisorSoft, supervisorTimer, supervisorExt, knownCause}
+use Rattle.isa_decoder.specs.declared.Trapped.{Trapped}
+use Rattle.scope.specs.declared.machine.Csrs.{Csrs}
+use Rattle.scope.specs.declared.machine.Effect.{Effect}
+use Rattle.scope.specs.declared.machine.Event.{Event}
+use Rattle.scope.specs.declared.machine.Event.the-variants as event
+use Rattle.scope.specs.declared.machine.Outcome.{Outcome}
+use Rattle.scope.specs.declared.machine.Vcpu.{Vcpu}
+use Rattle.scope.specs.declared.machine.Waiting.{Waiting}
+use Rattle.scope.specs.declared.machine.Waiting.the-variants as waiting
+use Rattle.scope.specs.declared.machine.Writes.{Writes}
+use Rattle.scope.specs.declared.machine.Writes.the-variants as writes
+use Rattle.scope.specs.Record.{counted, bumped, eventNumber, isIdle, stored, waitingAsk, applied}
+use Rattle.scope.specs.Refusals.{askingOf, failedOf, finishedOf, refusedOf}
+use Rattle.scope.specs.declared.decided.Call.{Call}
+use Rattle.scope.specs.declared.decided.Call.the-variants as call
+use Rattle.scope.specs.Decided.{callEffect}
+use Rattle.scope.specs.Ecalls.{asksOf, clearIpiOf, hypercallOf, movesOf, returnsOf, setTimerOf, staysOf, answeredEffect}
+use Rattle.scope.specs.declared.decided.Missed.{Missed}
+use Rattle.scope.specs.declared.decided.Missed.the-variants as missed
+use Rattle.scope.specs.FetchFaults.{askFetchOf, missedEffect}
+use Rattle.scope.specs.declared.decided.Csr.{Csr}
+use Rattle.scope.specs.declared.decided.Csr.the-variants as csr
+use Rattle.scope.specs.VirtualInstruction.{csrEffect}
+use Rattle.scope.specs.declared.decided.Fault.{Fault}
+use Rattle.scope.specs.declared.decided.Fault.the-variants as fault
+use Rattle.scope.specs.GuestPageFault.{faultEffect}
+use Rattle.scope.specs.declared.decided.Answered.{Answered}
+use Rattle.scope.specs.declared.decided.Answered.the-variants as answered
+use Rattle.scope.specs.Classes.{externalOf, mmioOf, otherOf, pageFaultOf, sbiOf, startEffect, stimecmpOf, trapOf}
+use Rattle.scope.specs.Resume.{answerEffect, continuedOf, fetchedOf, plainOf, resumedOf}
+use Rattle.scope.specs.Calls.{startOf, answerOf}
+use Rattle.demand1.specs.Leaves.{AtMostIllegal, Ended, Failed, Says, Sound}
+use Rattle.demand1.specs.Leaves as leaves
+use Rattle.demand1.specs.Sound.{start-sound, answer-sound}
+use Rattle.demand1.specs.Whole.{carried, wholeOf, endsTrap, inError, Counted, same, illegal, Over}
 
 never : {A : Type 0} → false ≡ true → A
 never h = let z : _≡_ {A = ℕ} 0 1 = cc in absurd (omega arith)
@@ -158,21 +158,25 @@ mmio-held : (x : List ℕ) (c : Csrs) (at : GuestPhysAddr) (k : Access) (i : Tra
 unfolding mmioOf
 mmio-held x c at k i = fault-held c at k _
 
-cause-held : (s : ℕ) (x : List ℕ) (c : Csrs) (t : Trap) → Held c (causeOf s x c t)
-unfolding causeOf sbiOf stimecmpOf pageFaultOf
-cause-held s x c t =
-    either (eqb s envCallFromVs) (call-held c _ _ _ _)
-    (either (eqb s virtualInstruction) (csr-held c _)
-    (either (eqb s loadGuestPageFault) (mmio-held x c _ _ _)
-    (either (eqb s storeGuestPageFault) (mmio-held x c _ _ _)
-    (either (eqb s supervisorSoft) (external-held c _)
-    (either (eqb s supervisorTimer) (external-held c _)
-    (either (eqb s supervisorExt) (external-held c _)
+sbi-held : (c : Csrs) (eid fid : ℕ) (a : Args) (room : ℕ) → Held c (sbiOf c eid fid a room)
+unfolding sbiOf
+sbi-held c eid fid a room = subst (Held c) (ecall-decided c eid fid a room) (call-held c eid fid a _)
+
+cause-held : (x : List ℕ) (c : Csrs) (t : Trap) → Held c (trapOf x c t)
+unfolding trapOf stimecmpOf pageFaultOf
+cause-held x c t =
+    either (eqb (t .scause) envCallFromVs) (sbi-held c _ _ _ _)
+    (either (eqb (t .scause) virtualInstruction) (csr-held c _)
+    (either (eqb (t .scause) loadGuestPageFault) (mmio-held x c _ _ _)
+    (either (eqb (t .scause) storeGuestPageFault) (mmio-held x c _ _ _)
+    (either (eqb (t .scause) supervisorSoft) (external-held c _)
+    (either (eqb (t .scause) supervisorTimer) (external-held c _)
+    (either (eqb (t .scause) supervisorExt) (external-held c _)
     (other-held c _)))))))
 
 start-held : (x : List ℕ) (c : Csrs) (n : Waiting) (t : Trap) → Held c (startEffect x c n t)
-unfolding startEffect startedOf trapOf
-start-held x c n t = either (isIdle n) (cause-held _ x c t) (refused-held c n error.BadState)
+unfolding startEffect trapOf
+start-held x c n t = either (isIdle n) (cause-held x c t) (refused-held c n error.BadState)
 
 resumed-held : (x : List ℕ) (c : Csrs) (n : Waiting) (w : ℕ) → Held c (resumedOf x c n w)
 unfolding resumedOf
@@ -212,7 +216,7 @@ continued-held x c n (answer.Char k) = answered-held c n _
 continued-held x c n (answer.Forwarded e v) = answered-held c n _
 
 answer-held : (x : List ℕ) (c : Csrs) (n : Waiting) (a : Answer) → Held c (answerEffect x c n a)
-unfolding answerEffect matchedOf
+unfolding answerEffect
 answer-held x c n a =
     either (eqb (waitingAsk n) (answerNumber a)) (continued-held x c n a) (refused-held c n error.WrongAnswer)
 
@@ -236,7 +240,7 @@ contradicts p q = never (sym p ∙ q)
 fetch-ends : (x : List ℕ) (c : Csrs) (n : Waiting) (f : Fetch)
     → inError (answerEffect x c n (answer.Fetched f) .reply) ≡ true
     → fetching n ≡ true
-unfolding answerEffect matchedOf waitingAsk answerNumber refusedOf inError endsTrap fetching
+unfolding answerEffect waitingAsk answerNumber refusedOf inError endsTrap fetching
 fetch-ends x c waiting.Idle f h = h
 fetch-ends x c (waiting.Load rd l s) f h = h
 fetch-ends x c waiting.FetchCsr f h = refl
@@ -254,7 +258,7 @@ fetch-ends x c waiting.Forward f h = h
 answer-ends : (x : List ℕ) (c : Csrs) (n : Waiting) (a : Answer)
     → inError (answerEffect x c n a .reply) ≡ true
     → fetching n ≡ true
-unfolding answerEffect matchedOf continuedOf plainOf
+unfolding answerEffect continuedOf plainOf
 answer-ends x c n (answer.Fetched f) h = fetch-ends x c n f h
 answer-ends x c n (answer.MaskCopied k b) h = contradicts (goes-on c n (eqb (waitingAsk n) (answerNumber (answer.MaskCopied k b))) _) h
 answer-ends x c n (answer.CopiedIn k) h = contradicts (goes-on c n (eqb (waitingAsk n) (answerNumber (answer.CopiedIn k))) _) h
@@ -283,7 +287,7 @@ stays-fetch c n true (answered.CopyOut at k) h = never h
 fetch-fetches : (x : List ℕ) (c : Csrs) (n : Waiting) (f : Fetch)
     → fetching (answerEffect x c n (answer.Fetched f) .waiting) ≡ true
     → fetching n ≡ true
-unfolding answerEffect matchedOf waitingAsk answerNumber refusedOf fetching
+unfolding answerEffect waitingAsk answerNumber refusedOf fetching
 fetch-fetches x c waiting.Idle f h = h
 fetch-fetches x c (waiting.Load rd l s) f h = h
 fetch-fetches x c waiting.FetchCsr f h = refl
@@ -301,7 +305,7 @@ fetch-fetches x c waiting.Forward f h = h
 answer-fetches : (x : List ℕ) (c : Csrs) (n : Waiting) (a : Answer)
     → fetching (answerEffect x c n a .waiting) ≡ true
     → fetching n ≡ true
-unfolding answerEffect matchedOf continuedOf plainOf
+unfolding answerEffect continuedOf plainOf
 answer-fetches x c n (answer.Fetched f) h = fetch-fetches x c n f h
 answer-fetches x c n (answer.MaskCopied k b) h = stays-fetch c n (eqb (waitingAsk n) (answerNumber (answer.MaskCopied k b))) _ h
 answer-fetches x c n (answer.CopiedIn k) h = stays-fetch c n (eqb (waitingAsk n) (answerNumber (answer.CopiedIn k))) _ h

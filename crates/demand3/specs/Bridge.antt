@@ -3,17 +3,17 @@ use Prim.Native.Nat.{ℕ}
 use mathlib.Core.Bool.{Bool, true}
 use mathlib.Core.List.{List}
 use mathlib.Core.Path.{_≡_, refl}
-use Rattle.types.specs.declared.Answer.{Answer}
-use Rattle.types.specs.declared.GuestPhysAddr.{GuestPhysAddr}
-use Rattle.types.specs.declared.IpiAbi.{IpiAbi}
-use Rattle.types.specs.declared.Trap.{Trap}
-use Rattle.sbi_ipi.specs.declared.IpiCompletion.{IpiCompletion}
-use Rattle.regs.specs.declared.Vcpu.{Vcpu}
-use Rattle.regs.specs.Record.{stored, counted, bumped, eventNumber}
-use Rattle.regs.specs.Effects.{applied, unlessAsking}
-use Rattle.calls.specs.Calls.{setupOf, setEntryOf, getGprOf, setGprOf, setReturnOf, pagingOf, pendingOf, latchOf, completeIpiOf, startOf, answerOf, completeLoadOf, printedOf}
-use Rattle.reading.specs.Calls.{Call, setup, setEntry, getGpr, setGpr, setReturn, paging, pending, latch, completeIpi, start, answer, completeLoad, print}
-use Rattle.reading.specs.Runs.{unchanged, outcomeOf, bytesOf, stepOf, guarded, quiet, effectOf}
+use Rattle.scope.specs.declared.traps.Answer.{Answer}
+use Rattle.isa_types.specs.declared.GuestPhysAddr.{GuestPhysAddr}
+use Rattle.scope.specs.declared.traps.IpiAbi.{IpiAbi}
+use Rattle.scope.specs.declared.traps.Trap.{Trap}
+use Rattle.scope.specs.declared.decided.IpiCompletion.{IpiCompletion}
+use Rattle.scope.specs.declared.machine.Vcpu.{Vcpu}
+use Rattle.scope.specs.Record.{stored, counted, bumped, eventNumber, applied}
+use Rattle.scope.specs.Refusals.{unlessAsking}
+use Rattle.scope.specs.Calls.{setupOf, setEntryOf, getGprOf, setGprOf, setReturnOf, pagingOf, pendingOf, latchOf, completeIpiOf, startOf, answerOf, completeLoadOf, printedOf}
+use Rattle.demand3_table.specs.Calls.{Call, setup, setEntry, getGpr, setGpr, setReturn, paging, pending, latch, completeIpi, start, answer, completeLoad, print}
+use Rattle.demand3_table.specs.Runs.{unchanged, outcomeOf, bytesOf, stepOf, guarded, quiet, effectOf}
 
 pub is-setup : (v : Vcpu) → outcomeOf v setup ≡ setupOf v
 unfolding outcomeOf

@@ -9,16 +9,15 @@ use lib.ListN.{getD, set, length, length-set}
 use lib.Seq.{getD-set-same, getD-set-other}
 use lib.Dec.{eqb, ltb}
 use borrow.Author.Tests.{eqb-true, eqb-false, ne-eqb, lt-ltb}
-use Rattle.types.specs.Pick.{pick, wrapped}
-use Rattle.regs.specs.declared.Outcome.{Outcome}
-use Rattle.regs.specs.declared.Vcpu.{Vcpu}
-use Rattle.regs.specs.Record.{bumped, counted}
-use Rattle.regs.specs.Effects.{applied}
-use Rattle.reading.specs.Calls.{Call}
-use Rattle.reading.specs.Runs.{stepOf, runOf}
-use Rattle.third.specs.Bridge.{outcome-applied}
-use Rattle.third.specs.Kinds.{kindOf, traps}
-use Rattle.third.specs.Events.{event-kind}
+use Rattle.isa_types.specs.Pick.{pick, wrapped}
+use Rattle.scope.specs.declared.machine.Outcome.{Outcome}
+use Rattle.scope.specs.declared.machine.Vcpu.{Vcpu}
+use Rattle.scope.specs.Record.{bumped, counted, applied}
+use Rattle.demand3_table.specs.Calls.{Call}
+use Rattle.demand3_table.specs.Runs.{stepOf, runOf}
+use Rattle.demand3.specs.Bridge.{outcome-applied}
+use Rattle.demand3.specs.Kinds.{kindOf, traps}
+use Rattle.demand3.specs.Events.{event-kind}
 
 -- the counts of a record: nine numbers below 2^64
 pub record Counted (k : List ℕ) : Type 0 where

@@ -7,52 +7,51 @@ use mathlib.Core.Path.{_≡_, refl, ap, sym, _∙_}
 use lib.ListN.{getD}
 use lib.Dec.{eqb, ltb}
 use borrow.Author.Tests.{eqb-true, eqb-false, le-ltb}
-use Rattle.types.specs.Pick.{pick, or, and}
-use Rattle.types.specs.Numbers.{answerNumber}
-use Rattle.types.specs.declared.Access.{Access}
-use Rattle.types.specs.declared.Access.the-variants as access
-use Rattle.types.specs.declared.Answer.{Answer}
-use Rattle.types.specs.declared.Answer.the-variants as answers
-use Rattle.types.specs.declared.Args.{Args}
-use Rattle.types.specs.declared.Fetch.{Fetch}
-use Rattle.types.specs.declared.Fetch.the-variants as fetch
-use Rattle.types.specs.declared.GuestPhysAddr.{GuestPhysAddr}
-use Rattle.types.specs.declared.Trap.{Trap}
-use Rattle.consts.specs.Csr.{consoleRoom, systemOpcode, stimecmp}
-use Rattle.consts.specs.Sbi.{legacySetTimer, legacyPutchar, legacyGetchar, legacyClearIpi, legacySendIpi, legacyFenceI, legacySfenceVma, legacySfenceVmaAsid, legacyShutdown, eidTime, eidSpi, eidHsm, eidHvc, eidSrst, eidDbcn, eidRfnc}
-use Rattle.consts.specs.Traps.{envCallFromVs, virtualInstruction, loadGuestPageFault, storeGuestPageFault, supervisorSoft, supervisorTimer, supervisorExt, knownCause, supervisorExternal}
-use Rattle.decoder.specs.declared.Trapped.{Trapped}
-use Rattle.fields.specs.Fields.{opcodeField, rdField, funct3Field, rs1Field, csrField}
-use Rattle.regs.specs.declared.Csrs.{Csrs}
-use Rattle.regs.specs.declared.Effect.{Effect}
-use Rattle.regs.specs.declared.Vcpu.{Vcpu}
-use Rattle.regs.specs.declared.Waiting.{Waiting}
-use Rattle.regs.specs.declared.Waiting.the-variants as waiting
-use Rattle.regs.specs.Record.{eventNumber, isIdle, waitingAsk}
-use Rattle.regs.specs.Effects.{finishedOf, askingOf, failedOf, refusedOf, doneOf, guardedOf}
-use Rattle.sbi.specs.declared.Call as ecalls
-use Rattle.sbi.specs.Calls.{timeOf, spiOf, hsmOf, srstOf, dbcnOf, spanOf, consoleOf, rfncOf, callOf, lesserOf, notSupportedOf}
-use Rattle.ecall_effect.specs.Doing.{callEffect}
-use Rattle.deeds.specs.Deeds.{returnsOf, movesOf, staysOf, asksOf, setTimerOf, clearIpiOf, hypercallOf}
-use Rattle.fetch.specs.declared.Missed.{Missed}
-use Rattle.fetch.specs.declared.Missed.the-variants as missed
-use Rattle.fetch.specs.Faults.{askFetchOf, missedEffect}
-use Rattle.virtual_inst.specs.declared.Csr.{Csr}
-use Rattle.virtual_inst.specs.declared.Csr.the-variants as csr
-use Rattle.virtual_inst.specs.Stimecmp as virtual
-use Rattle.page_fault.specs.declared.Fault.{Fault}
-use Rattle.page_fault.specs.declared.Fault.the-variants as fault
-use Rattle.page_fault.specs.Mmio.{faultEffect}
-use Rattle.answers.specs.declared.Answered.{Answered}
-use Rattle.answers.specs.declared.Answered.the-variants as answered
-use Rattle.answers.specs.Answers.{answeredEffect, completedOf}
-use Rattle.host_calls.specs.HostCalls.{writeEffect, pagingBy, pagingEffect, pendingBy, pendingEffect}
-use Rattle.calls.specs.Traps.{argumentsOf, sbiOf, stimecmpOf, mmioOf, pageFaultOf, externalOf, otherOf, causeOf, trapOf, startedOf, startEffect}
-use Rattle.calls.specs.Resume as resume
-use Rattle.reading.specs.Calls.{Call, setup, setEntry, getGpr, setGpr, setReturn, paging, pending, latch, completeIpi, start, answer, completeLoad, print}
-use Rattle.reading.specs.Table.{a6, a7}
-use Rattle.reading.specs.Runs.{guarded, quiet, effectOf}
-use Rattle.third.specs.Kinds.{fenceKind, ecallKind, csrFunct3, onStimecmp, wordKind, stvalKind, causeKind, waitingKind, fetchKind, answerKind, kindOf}
+use Rattle.isa_types.specs.Pick.{pick, or, and}
+use Rattle.scope.specs.Decided.{ecall-decided}
+use Rattle.scope.specs.Trap.{answerNumber}
+use Rattle.scope.specs.declared.traps.Access.{Access}
+use Rattle.scope.specs.declared.traps.Access.the-variants as access
+use Rattle.scope.specs.declared.traps.Answer.{Answer}
+use Rattle.scope.specs.declared.traps.Answer.the-variants as answers
+use Rattle.scope.specs.declared.traps.Args.{Args}
+use Rattle.scope.specs.declared.traps.Fetch.{Fetch}
+use Rattle.scope.specs.declared.traps.Fetch.the-variants as fetch
+use Rattle.isa_types.specs.declared.GuestPhysAddr.{GuestPhysAddr}
+use Rattle.scope.specs.declared.traps.Trap.{Trap}
+use Rattle.isa_consts.specs.Csr.{consoleRoom, systemOpcode, stimecmp}
+use Rattle.isa_consts.specs.Sbi.{legacySetTimer, legacyPutchar, legacyGetchar, legacyClearIpi, legacySendIpi, legacyFenceI, legacySfenceVma, legacySfenceVmaAsid, legacyShutdown, eidTime, eidSpi, eidHsm, eidHvc, eidSrst, eidDbcn, eidRfnc}
+use Rattle.isa_consts.specs.Traps.{envCallFromVs, virtualInstruction, loadGuestPageFault, storeGuestPageFault, supervisorSoft, supervisorTimer, supervisorExt, knownCause, supervisorExternal}
+use Rattle.isa_decoder.specs.declared.Trapped.{Trapped}
+use Rattle.isa_fields.specs.Fields.{opcodeField, rdField, funct3Field, rs1Field, csrField}
+use Rattle.scope.specs.declared.machine.Csrs.{Csrs}
+use Rattle.scope.specs.declared.machine.Effect.{Effect}
+use Rattle.scope.specs.declared.machine.Vcpu.{Vcpu}
+use Rattle.scope.specs.declared.machine.Waiting.{Waiting}
+use Rattle.scope.specs.declared.machine.Waiting.the-variants as waiting
+use Rattle.scope.specs.Record.{eventNumber, isIdle, waitingAsk}
+use Rattle.scope.specs.Refusals.{finishedOf, askingOf, failedOf, refusedOf, doneOf, guardedOf}
+use Rattle.scope.specs.declared.decided.Call as ecalls
+use Rattle.scope.specs.Decided.{timeOf, spiOf, hsmOf, srstOf, dbcnOf, spanOf, consoleOf, rfncOf, callOf, notSupportedOf, callEffect}
+use Rattle.scope.specs.Ecalls.{lesserOf, returnsOf, movesOf, staysOf, asksOf, setTimerOf, clearIpiOf, hypercallOf, answeredEffect}
+use Rattle.scope.specs.declared.decided.Missed.{Missed}
+use Rattle.scope.specs.declared.decided.Missed.the-variants as missed
+use Rattle.scope.specs.FetchFaults.{askFetchOf, missedEffect}
+use Rattle.scope.specs.declared.decided.Csr.{Csr}
+use Rattle.scope.specs.declared.decided.Csr.the-variants as csr
+use Rattle.scope.specs.VirtualInstruction as virtual
+use Rattle.scope.specs.declared.decided.Fault.{Fault}
+use Rattle.scope.specs.declared.decided.Fault.the-variants as fault
+use Rattle.scope.specs.GuestPageFault.{faultEffect, completedOf}
+use Rattle.scope.specs.declared.decided.Answered.{Answered}
+use Rattle.scope.specs.declared.decided.Answered.the-variants as answered
+use Rattle.scope.specs.Host.{writeEffect, pagingBy, pagingEffect, pendingBy, pendingEffect}
+use Rattle.scope.specs.Classes.{argumentsOf, sbiOf, stimecmpOf, mmioOf, pageFaultOf, externalOf, otherOf, trapOf, startEffect}
+use Rattle.scope.specs.Resume as resume
+use Rattle.demand3_table.specs.Calls.{Call, setup, setEntry, getGpr, setGpr, setReturn, paging, pending, latch, completeIpi, start, answer, completeLoad, print}
+use Rattle.demand3_table.specs.Table.{a6, a7}
+use Rattle.demand3_table.specs.Runs.{guarded, quiet, effectOf}
+use Rattle.demand3.specs.Kinds.{fenceKind, ecallKind, csrFunct3, onStimecmp, wordKind, stvalKind, causeKind, waitingKind, fetchKind, answerKind, kindOf}
 
 -- both ways of a test give the same number
 both : {A : Type 0} (t : Bool) {p q : A} (g : A → ℕ) {n : ℕ} → g p ≡ n → g q ≡ n → g (pick t p q) ≡ n
@@ -214,17 +213,18 @@ module _ (c : Csrs) where
   completed-event waiting.GetChar n = refl
   completed-event waiting.Forward n = refl
 
-  cause-event : (scause : ℕ) (x : List ℕ) (t : Trap) → counts (causeOf scause x c t) ≡ causeKind scause x t
-  unfolding causeOf causeKind sbiOf pageFaultOf externalOf otherOf finishedOf failedOf eventNumber
-  cause-event scause x t =
-      each (eqb scause envCallFromVs) counts (ecall-event c (getD x a7 0) (getD x a6 0) (argumentsOf x) (t .room))
-      (each (eqb scause virtualInstruction) counts (stval-event (t .stval) _)
-      (both (eqb scause loadGuestPageFault) counts (mmio-event x _ access.Read _)
-      (both (eqb scause storeGuestPageFault) counts (mmio-event x _ access.Write _)
-      (both (eqb scause supervisorSoft) counts refl
-      (both (eqb scause supervisorTimer) counts refl
-      (both (eqb scause supervisorExt) counts refl
-      (both (knownCause scause) counts refl refl)))))))
+  cause-event : (x : List ℕ) (t : Trap) → counts (trapOf x c t) ≡ causeKind (t .scause) x t
+  unfolding trapOf causeKind sbiOf pageFaultOf externalOf otherOf finishedOf failedOf eventNumber
+  cause-event x t =
+      each (eqb (t .scause) envCallFromVs) counts
+      (ap counts (sym (ecall-decided c (getD x a7 0) (getD x a6 0) (argumentsOf x) (t .room))) ∙ ecall-event c (getD x a7 0) (getD x a6 0) (argumentsOf x) (t .room))
+      (each (eqb (t .scause) virtualInstruction) counts (stval-event (t .stval) _)
+      (both (eqb (t .scause) loadGuestPageFault) counts (mmio-event x _ access.Read _)
+      (both (eqb (t .scause) storeGuestPageFault) counts (mmio-event x _ access.Write _)
+      (both (eqb (t .scause) supervisorSoft) counts refl
+      (both (eqb (t .scause) supervisorTimer) counts refl
+      (both (eqb (t .scause) supervisorExt) counts refl
+      (both (knownCause (t .scause)) counts refl refl)))))))
 
   -- a host's call counts nothing
   paging-event : (w : Waiting) (wanted mode root : ℕ) → counts (pagingBy c w wanted mode root) ≡ 0
@@ -292,7 +292,7 @@ guarded-event v e h = both (eqb (waitingAsk (v .waiting)) 0) counts h refl
 
 -- one call
 pub event-kind : (v : Vcpu) (c : Call) → eventNumber (effectOf v c .event) ≡ kindOf v c
-unfolding effectOf kindOf quiet doneOf refusedOf pendingEffect startEffect startedOf trapOf resume.answerEffect resume.matchedOf eventNumber
+unfolding effectOf kindOf quiet doneOf refusedOf pendingEffect startEffect trapOf resume.answerEffect eventNumber
 event-kind v setup = guarded-event v _ refl
 event-kind v (setEntry entry) = guarded-event v _ refl
 event-kind v (getGpr index) = refl
@@ -303,7 +303,7 @@ event-kind v (pending vector on) =
     guarded-event v _ (pending-event (v .csrs) (v .waiting) vector (supervisorExternal vector) on)
 event-kind v (latch bits) = guarded-event v _ refl
 event-kind v (completeIpi abi completion) = guarded-event v _ refl
-event-kind v (start t) = each (isIdle (v .waiting)) counts (cause-event (v .csrs) (t .scause) (v .x) t) refl
+event-kind v (start t) = each (isIdle (v .waiting)) counts (cause-event (v .csrs) (v .x) t) refl
 event-kind v (answer a) =
     each (eqb (waitingAsk (v .waiting)) (answerNumber a)) counts (answer-event (v .x) (v .csrs) (v .waiting) a) refl
 event-kind v (completeLoad n) = completed-event (v .csrs) (v .waiting) n

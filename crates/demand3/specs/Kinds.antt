@@ -4,24 +4,24 @@ use mathlib.Core.Bool.{Bool}
 use mathlib.Core.List.{List, [], _∷_}
 use lib.ListN.{getD}
 use lib.Dec.{eqb, ltb}
-use Rattle.types.specs.Pick.{pick, or, and}
-use Rattle.types.specs.Numbers.{answerNumber}
-use Rattle.types.specs.declared.Answer.{Answer}
-use Rattle.types.specs.declared.Answer.the-variants as answers
-use Rattle.types.specs.declared.Fetch.{Fetch}
-use Rattle.types.specs.declared.Fetch.the-variants as fetch
-use Rattle.types.specs.declared.Trap.{Trap}
-use Rattle.consts.specs.Csr.{systemOpcode, stimecmp}
-use Rattle.consts.specs.Sbi.{legacySetTimer, eidTime, eidRfnc}
-use Rattle.consts.specs.Traps.{envCallFromVs, virtualInstruction}
-use Rattle.fields.specs.Fields.{opcodeField, funct3Field, csrField}
-use Rattle.regs.specs.declared.Vcpu.{Vcpu}
-use Rattle.regs.specs.declared.Waiting.{Waiting}
-use Rattle.regs.specs.declared.Waiting.the-variants as waiting
-use Rattle.regs.specs.Record.{isIdle, waitingAsk}
-use Rattle.reading.specs.Calls.{Call, setup, setEntry, getGpr, setGpr, setReturn, paging, pending, latch, completeIpi, start, answer, completeLoad, print}
-use Rattle.reading.specs.Table.{a6, a7}
-use Rattle.reading.specs.Runs.{stepOf}
+use Rattle.isa_types.specs.Pick.{pick, or, and}
+use Rattle.scope.specs.Trap.{answerNumber}
+use Rattle.scope.specs.declared.traps.Answer.{Answer}
+use Rattle.scope.specs.declared.traps.Answer.the-variants as answers
+use Rattle.scope.specs.declared.traps.Fetch.{Fetch}
+use Rattle.scope.specs.declared.traps.Fetch.the-variants as fetch
+use Rattle.scope.specs.declared.traps.Trap.{Trap}
+use Rattle.isa_consts.specs.Csr.{systemOpcode, stimecmp}
+use Rattle.isa_consts.specs.Sbi.{legacySetTimer, eidTime, eidRfnc}
+use Rattle.isa_consts.specs.Traps.{envCallFromVs, virtualInstruction}
+use Rattle.isa_fields.specs.Fields.{opcodeField, funct3Field, csrField}
+use Rattle.scope.specs.declared.machine.Vcpu.{Vcpu}
+use Rattle.scope.specs.declared.machine.Waiting.{Waiting}
+use Rattle.scope.specs.declared.machine.Waiting.the-variants as waiting
+use Rattle.scope.specs.Record.{isIdle, waitingAsk}
+use Rattle.demand3_table.specs.Calls.{Call, setup, setEntry, getGpr, setGpr, setReturn, paging, pending, latch, completeIpi, start, answer, completeLoad, print}
+use Rattle.demand3_table.specs.Table.{a6, a7}
+use Rattle.demand3_table.specs.Runs.{stepOf}
 
 -- SBI, 'RFENCE Extension': fids 0 to 6 are kinds 3 to 9 in order; any other fid is of no kind, 0
 unfoldable pub fenceKind : ℕ → ℕ

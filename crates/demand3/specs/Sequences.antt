@@ -4,21 +4,20 @@ use mathlib.Core.Bool.{Bool, true, false}
 use mathlib.Core.List.{List, [], _∷_, _++_}
 use mathlib.Core.Path.{_≡_, refl, ap, ap₂, sym, _∙_}
 use lib.ListN.{getD}
-use Rattle.types.specs.Pick.{or}
-use Rattle.regs.specs.declared.Effect.{Effect}
-use Rattle.regs.specs.declared.Outcome.{Outcome}
-use Rattle.regs.specs.declared.Vcpu.{Vcpu}
-use Rattle.regs.specs.declared.Waiting.{Waiting}
-use Rattle.regs.specs.Record.{counted}
-use Rattle.regs.specs.Effects.{applied}
-use Rattle.calls.specs.Calls.{printedOf, printCount, firstOf}
-use Rattle.reading.specs.Calls.{Call, setup, setEntry, getGpr, setGpr, setReturn, paging, pending, latch, completeIpi, start, answer, completeLoad, print}
-use Rattle.reading.specs.Table.{namesOf, readsOf}
-use Rattle.reading.specs.Runs.{bytesOf, sightOf, stepOf, runOf, seenOf, Apart, Untouched, effectOf, wrote, written}
-use Rattle.third.specs.Bridge.{outcome-applied}
-use Rattle.reading.specs.Alike.{Alike}
-use Rattle.reading.specs.Agree.{effect-alike}
-use Rattle.reading.specs.Stored.{neither, same-files, stored-files, stored-kept, stored-joined}
+use Rattle.isa_types.specs.Pick.{or}
+use Rattle.scope.specs.declared.machine.Effect.{Effect}
+use Rattle.scope.specs.declared.machine.Outcome.{Outcome}
+use Rattle.scope.specs.declared.machine.Vcpu.{Vcpu}
+use Rattle.scope.specs.declared.machine.Waiting.{Waiting}
+use Rattle.scope.specs.Record.{counted, applied}
+use Rattle.scope.specs.Calls.{printedOf, printCount, firstOf}
+use Rattle.demand3_table.specs.Calls.{Call, setup, setEntry, getGpr, setGpr, setReturn, paging, pending, latch, completeIpi, start, answer, completeLoad, print}
+use Rattle.demand3_table.specs.Table.{namesOf, readsOf}
+use Rattle.demand3_table.specs.Runs.{bytesOf, sightOf, stepOf, runOf, seenOf, Apart, Untouched, effectOf, wrote, written}
+use Rattle.demand3.specs.Bridge.{outcome-applied}
+use Rattle.demand3_table.specs.Alike.{Alike}
+use Rattle.demand3_table.specs.Agree.{effect-alike}
+use Rattle.demand3_table.specs.Stored.{neither, same-files, stored-files, stored-kept, stored-joined}
 
 -- a sequence that leaves r untouched does so in each of its beginnings
 pub beginning : (r : ℕ) (v : Vcpu) (front back : List Call) → Untouched r v (front ++ back) → Untouched r v front

@@ -5,23 +5,24 @@ use mathlib.Core.List.{List, [], _∷_, _++_}
 use mathlib.Core.Path.{_≡_}
 use lib.ListN.{getD, set, replicate}
 use lib.Dec.{eqb}
-use Rattle.types.specs.Pick.{pick, and}
-use Rattle.types.specs.Numbers.{exitNumber, askNumber, errorNumber}
-use Rattle.types.specs.declared.Ask.{Ask}
-use Rattle.types.specs.declared.Ask.the-variants as ask
-use Rattle.types.specs.declared.Exit.{Exit}
-use Rattle.types.specs.declared.Exit.the-variants as exit
-use Rattle.types.specs.declared.Reply.{Reply}
-use Rattle.types.specs.declared.Reply.the-variants as reply
-use Rattle.types.specs.declared.Trap.{Trap}
-use Rattle.consts.specs.Csr.{setupSstatus, setupHstatus, setupHie}
-use Rattle.regs.specs.declared.Vcpu.{Vcpu}
-use Rattle.regs.specs.declared.Waiting.the-variants as waiting
-use Rattle.regs.specs.Record.{listed}
-use Rattle.reading.specs.Calls.{Call, start}
-use Rattle.reading.specs.Table.{namesOf}
-use Rattle.reading.specs.Runs.{Sight, runOf, seenOf, among, Untouched}
-use Rattle.reading.specs.Alike.{Alike}
+use Rattle.isa_types.specs.Pick.{pick, and}
+use Rattle.scope.specs.Trap.{exitNumber, askNumber}
+use Rattle.scope.specs.Refusals.{errorNumber}
+use Rattle.scope.specs.declared.traps.Ask.{Ask}
+use Rattle.scope.specs.declared.traps.Ask.the-variants as ask
+use Rattle.scope.specs.declared.traps.Exit.{Exit}
+use Rattle.scope.specs.declared.traps.Exit.the-variants as exit
+use Rattle.scope.specs.declared.traps.Reply.{Reply}
+use Rattle.scope.specs.declared.traps.Reply.the-variants as reply
+use Rattle.scope.specs.declared.traps.Trap.{Trap}
+use Rattle.isa_consts.specs.Csr.{setupSstatus, setupHstatus, setupHie}
+use Rattle.scope.specs.declared.machine.Vcpu.{Vcpu}
+use Rattle.scope.specs.declared.machine.Waiting.the-variants as waiting
+use Rattle.scope.specs.Record.{listed}
+use Rattle.demand3_table.specs.Calls.{Call, start}
+use Rattle.demand3_table.specs.Table.{namesOf}
+use Rattle.demand3_table.specs.Runs.{Sight, runOf, seenOf, among, Untouched}
+use Rattle.demand3_table.specs.Alike.{Alike}
 
 -- a zero record after setup, with vstimecmp 7 and these registers
 abbrev pub recordOf : List ℕ → Vcpu

@@ -4,18 +4,18 @@ use mathlib.Core.List.{List, [], _∷_}
 use mathlib.Core.Path.{_≡_, refl, ap, subst, _∙_}
 use lib.ListN.{getD}
 use lib.Dec.{eqb, leb}
-use Rattle.types.specs.declared.Trap.{Trap}
-use Rattle.consts.specs.Sbi.{legacySetTimer, legacyPutchar, legacySendIpi, legacyShutdown, eidTime, eidSpi, eidHsm, eidHvc, eidSrst, eidDbcn, eidRfnc, eidPmu}
-use Rattle.consts.specs.Traps.{envCallFromVs}
-use Rattle.regs.specs.declared.Vcpu.{Vcpu}
-use Rattle.regs.specs.declared.Waiting.{Waiting}
-use Rattle.regs.specs.Record.{isIdle}
-use Rattle.reading.specs.Calls.{Call, setup, setEntry, getGpr, setGpr, setReturn, paging, pending, latch, completeIpi, start, answer, completeLoad, print}
-use Rattle.reading.specs.Table.{a6, a7, timeNames, srstNames, spiNames, hsmNames, dbcnNames, eidNames, ecallNames, causeNames, answerNames, namesOf}
-use Rattle.reading.specs.Runs.{stepOf, Apart, Untouched}
-use Rattle.reading.specs.Alike.{Files, Alike}
-use Rattle.reading.specs.Agree.{first, rest, parted}
-use Rattle.third.specs.Sequences.{next-alike}
+use Rattle.scope.specs.declared.traps.Trap.{Trap}
+use Rattle.isa_consts.specs.Sbi.{legacySetTimer, legacyPutchar, legacySendIpi, legacyShutdown, eidTime, eidSpi, eidHsm, eidHvc, eidSrst, eidDbcn, eidRfnc, eidPmu}
+use Rattle.isa_consts.specs.Traps.{envCallFromVs}
+use Rattle.scope.specs.declared.machine.Vcpu.{Vcpu}
+use Rattle.scope.specs.declared.machine.Waiting.{Waiting}
+use Rattle.scope.specs.Record.{isIdle}
+use Rattle.demand3_table.specs.Calls.{Call, setup, setEntry, getGpr, setGpr, setReturn, paging, pending, latch, completeIpi, start, answer, completeLoad, print}
+use Rattle.demand3_table.specs.Table.{a6, a7, timeNames, srstNames, spiNames, hsmNames, dbcnNames, eidNames, ecallNames, causeNames, answerNames, namesOf}
+use Rattle.demand3_table.specs.Runs.{stepOf, Apart, Untouched}
+use Rattle.demand3_table.specs.Alike.{Files, Alike}
+use Rattle.demand3_table.specs.Agree.{first, rest, parted}
+use Rattle.demand3.specs.Sequences.{next-alike}
 
 -- the names of a call that does not name r are the same on both records
 

@@ -5,11 +5,11 @@ use mathlib.Core.Bool.{true, false}
 use mathlib.Core.List.{List, _++_}
 use mathlib.Core.Path.{_≡_}
 use lib.ListN.{getD}
-use Rattle.regs.specs.declared.Vcpu.{Vcpu}
-use Rattle.reading.specs.Calls.{Call}
-use Rattle.reading.specs.Runs.{runOf, seenOf, Untouched, written}
-use Rattle.reading.specs.Alike.{Alike}
-use Rattle.third.specs.Sequences as sequences
+use Rattle.scope.specs.declared.machine.Vcpu.{Vcpu}
+use Rattle.demand3_table.specs.Calls.{Call}
+use Rattle.demand3_table.specs.Runs.{runOf, seenOf, Untouched, written}
+use Rattle.demand3_table.specs.Alike.{Alike}
+use Rattle.demand3.specs.Sequences as sequences
 
 pub record Third (r : ℕ) (v w : Vcpu) (cs : List Call) : Type 0 where
   -- all exits, host requests and refusals agree, with the hypercall array and the bytes printed

@@ -6,38 +6,36 @@ use mathlib.Core.List.{List, [], _∷_}
 use mathlib.Core.Path.{_≡_, refl, sym, _∙_}
 use lib.ListN.{set, length, replicate, length-set}
 use lib.Seq.{getD-set-other}
-use Rattle.types.specs.Numbers.{answerNumber, exitNumber, askNumber, errorNumber}
-use Rattle.types.specs.declared.Answer.the-variants as answers
-use Rattle.types.specs.declared.Ask.the-variants as ask
-use Rattle.types.specs.declared.Exit.the-variants as exit
-use Rattle.types.specs.declared.Fetch.the-variants as fetch
-use Rattle.types.specs.declared.Reply.the-variants as reply
-use Rattle.types.specs.declared.Trap.{Trap}
-use Rattle.types.specs.declared.Width.the-variants as width
-use Rattle.consts.specs.Sbi.{eidSpi, eidHsm, eidHvc, eidDbcn, eidRfnc}
-use Rattle.registers.specs.Bits.{spvpOf, sieOf, withBits}
-use Rattle.registers.specs.Values.{guestPageFaultAddr}
-use Rattle.sbi_ipi.specs.Ipi.{standardRequest}
-use Rattle.decoder.specs.Laws.{storeSource-store}
-use Rattle.decoder.specs.Examples.{lw-x7, sw-x7, cut-5, cut-6, csrrw-opcode, csrrw-csr, csrrw-funct3, csrrw-rs1, zero-opcode}
-use Rattle.regs.specs.declared.Vcpu.{Vcpu}
-use Rattle.regs.specs.Record.{valueOf, stored, moved, timed, pended, eventNumber, bumped, counted, waitingAsk, isIdle, listed}
-use Rattle.regs.specs.Effects.{applied, noArgs, finishedOf, askingOf, failedOf, refusedOf, doneOf}
-use Rattle.sbi.specs.Calls.{notSupportedOf, lesserOf, timeOf, spiOf, hsmOf, srstOf, spanOf, consoleOf, dbcnOf, rfncOf, callOf}
-use Rattle.ecall_effect.specs.Doing.{callEffect}
-use Rattle.deeds.specs.Deeds.{returnsOf, movesOf, staysOf, asksOf, setTimerOf, hypercallOf}
-use Rattle.fetch.specs.Faults.{askFetchOf, missedOf, trapStatusOf, injectedOf, missedEffect}
-use Rattle.virtual_inst.specs.Stimecmp as virtual
-use Rattle.page_fault.specs.Mmio.{loadOf, storeOf, faultOf, faultEffect}
-use Rattle.answers.specs.Answers.{copiedOf, answeredOf, answeredEffect, completedOf}
-use Rattle.calls.specs.Traps.{argumentsOf, sbiOf, stimecmpOf, mmioOf, pageFaultOf, causeOf, trapOf, startedOf, startEffect}
-use Rattle.calls.specs.Resume as resume
-use Rattle.calls.specs.Calls.{startOf, answerOf, completeLoadOf, printCount, firstOf, printedOf}
-use Rattle.reading.specs.Calls.{Call, start, answer, completeLoad, print}
-use Rattle.reading.specs.Table.{a0, a1, a2, a3, a4, a5, a7, sourceNames, forwardNames, timeNames, srstNames, spiNames, hsmNames, consoleNames, byteNames, dbcnNames, eidNames, ecallNames, funct3Names, stimecmpNames, storeNames, causeNames, accessNames, wordNames, fetchNames, answerNames, namesOf, readsOf}
-use Rattle.reading.specs.Runs.{unchanged, outcomeOf, bytesOf, sightOf, stepOf, runOf, seenOf, Apart, Untouched}
-use Rattle.reading.specs.Alike.{Alike}
-use Rattle.third.specs.Shown.{recordOf, other, Met, exitNumbers, askNumbers, replyNumbers, sightNumbers, toldOf, sameList, Row, matters, allMatter}
+use Rattle.scope.specs.Ecalls.{ecallEffect, timeEffect, spiEffect, hsmEffect, srstEffect, spanEffect, consoleEffect, dbcnEffect, rfncEffect, forwardEffect, notSupportedEffect}
+use Rattle.scope.specs.Trap.{answerNumber, exitNumber, askNumber}
+use Rattle.scope.specs.Refusals.{errorNumber, finishedOf, askingOf, failedOf, refusedOf, doneOf}
+use Rattle.scope.specs.declared.traps.Answer.the-variants as answers
+use Rattle.scope.specs.declared.traps.Ask.the-variants as ask
+use Rattle.scope.specs.declared.traps.Exit.the-variants as exit
+use Rattle.scope.specs.declared.traps.Fetch.the-variants as fetch
+use Rattle.scope.specs.declared.traps.Reply.the-variants as reply
+use Rattle.scope.specs.declared.traps.Trap.{Trap}
+use Rattle.isa_types.specs.declared.Width.the-variants as width
+use Rattle.isa_consts.specs.Sbi.{eidSpi, eidHsm, eidHvc, eidDbcn, eidRfnc}
+use Rattle.isa_registers.specs.Bits.{spvpOf, sieOf, withBits}
+use Rattle.isa_registers.specs.Values.{guestPageFaultAddr}
+use Rattle.scope.specs.Ecalls.{standardRequest, lesserOf, returnsOf, movesOf, staysOf, asksOf, setTimerOf, hypercallOf, copiedOf, answeredOf, answeredEffect}
+use Rattle.isa_decoder.specs.Laws.{storeSource-store}
+use Rattle.isa_decoder.specs.Examples.{lw-x7, sw-x7, cut-5, cut-6, csrrw-opcode, csrrw-csr, csrrw-funct3, csrrw-rs1, zero-opcode}
+use Rattle.scope.specs.declared.machine.Vcpu.{Vcpu}
+use Rattle.scope.specs.Record.{valueOf, stored, moved, timed, pended, eventNumber, bumped, counted, waitingAsk, isIdle, listed, applied, noArgs}
+use Rattle.scope.specs.Decided.{notSupportedOf, timeOf, spiOf, hsmOf, srstOf, spanOf, consoleOf, dbcnOf, rfncOf, callOf, callEffect}
+use Rattle.scope.specs.FetchFaults.{askFetchOf, missedOf, trapStatusOf, injectedOf, missedEffect}
+use Rattle.scope.specs.VirtualInstruction as virtual
+use Rattle.scope.specs.GuestPageFault.{loadOf, storeOf, faultOf, faultEffect, completedOf}
+use Rattle.scope.specs.Classes.{argumentsOf, sbiOf, stimecmpOf, mmioOf, pageFaultOf, trapOf, startEffect}
+use Rattle.scope.specs.Resume as resume
+use Rattle.scope.specs.Calls.{startOf, answerOf, completeLoadOf, printCount, firstOf, printedOf}
+use Rattle.demand3_table.specs.Calls.{Call, start, answer, completeLoad, print}
+use Rattle.demand3_table.specs.Table.{a0, a1, a2, a3, a4, a5, a7, sourceNames, forwardNames, timeNames, srstNames, spiNames, hsmNames, consoleNames, byteNames, dbcnNames, eidNames, ecallNames, funct3Names, stimecmpNames, storeNames, causeNames, accessNames, wordNames, fetchNames, answerNames, namesOf, readsOf}
+use Rattle.demand3_table.specs.Runs.{unchanged, outcomeOf, bytesOf, sightOf, stepOf, runOf, seenOf, Apart, Untouched}
+use Rattle.demand3_table.specs.Alike.{Alike}
+use Rattle.demand3.specs.Shown.{recordOf, other, Met, exitNumbers, askNumbers, replyNumbers, sightNumbers, toldOf, sameList, Row, matters, allMatter}
 
 other-alike : (r n : ℕ) (v : Vcpu) → length (v .x) ≡ 32 → Alike r v (other r n v)
 other-alike r n v h =
@@ -50,7 +48,7 @@ other-alike r n v h =
 
 -- one name that opens what a call goes through; the decoder stays shut
 opened : ℕ
-unfolding answerNumber exitNumber askNumber errorNumber spvpOf sieOf withBits guestPageFaultAddr standardRequest valueOf stored moved timed pended eventNumber bumped counted waitingAsk isIdle listed applied noArgs finishedOf askingOf failedOf refusedOf doneOf notSupportedOf lesserOf timeOf spiOf hsmOf srstOf spanOf consoleOf dbcnOf rfncOf callOf returnsOf movesOf staysOf asksOf setTimerOf hypercallOf callEffect askFetchOf missedOf trapStatusOf injectedOf missedEffect virtual.setOf virtual.clearedOf virtual.stimecmpOf virtual.csrBy virtual.csrOf virtual.startBy virtual.startOf virtual.csrEffect loadOf storeOf faultOf faultEffect copiedOf answeredOf answeredEffect completedOf argumentsOf sbiOf stimecmpOf mmioOf pageFaultOf causeOf trapOf startedOf startEffect resume.resumedOf resume.fetchedOf resume.plainOf resume.continuedOf resume.matchedOf resume.answerEffect startOf answerOf completeLoadOf printCount firstOf printedOf sourceNames forwardNames timeNames srstNames spiNames hsmNames consoleNames byteNames dbcnNames eidNames ecallNames funct3Names stimecmpNames storeNames causeNames accessNames wordNames fetchNames answerNames namesOf readsOf unchanged outcomeOf bytesOf sightOf stepOf runOf seenOf Untouched exitNumbers askNumbers replyNumbers sightNumbers toldOf sameList matters allMatter
+unfolding answerNumber exitNumber askNumber errorNumber spvpOf sieOf withBits guestPageFaultAddr standardRequest valueOf stored moved timed pended eventNumber bumped counted waitingAsk isIdle listed applied noArgs finishedOf askingOf failedOf refusedOf doneOf notSupportedOf lesserOf timeOf spiOf hsmOf srstOf spanOf consoleOf dbcnOf rfncOf callOf returnsOf movesOf staysOf asksOf setTimerOf hypercallOf callEffect askFetchOf missedOf trapStatusOf injectedOf missedEffect virtual.setOf virtual.clearedOf virtual.stimecmpOf virtual.csrBy virtual.csrOf virtual.startBy virtual.startOf virtual.csrEffect loadOf storeOf faultOf faultEffect copiedOf answeredOf answeredEffect completedOf argumentsOf sbiOf stimecmpOf mmioOf pageFaultOf trapOf startEffect resume.resumedOf resume.fetchedOf resume.plainOf resume.continuedOf resume.answerEffect startOf answerOf completeLoadOf printCount firstOf printedOf sourceNames forwardNames timeNames srstNames spiNames hsmNames consoleNames byteNames dbcnNames eidNames ecallNames funct3Names stimecmpNames storeNames causeNames accessNames wordNames fetchNames answerNames namesOf readsOf unchanged outcomeOf bytesOf sightOf stepOf runOf seenOf Untouched exitNumbers askNumbers replyNumbers sightNumbers toldOf sameList matters allMatter ecallEffect timeEffect spiEffect hsmEffect srstEffect spanEffect consoleEffect dbcnEffect rfncEffect forwardEffect notSupportedEffect
 opened = 0
 
 abbrev zeros : List ℕ

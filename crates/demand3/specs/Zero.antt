@@ -6,30 +6,30 @@ use mathlib.Core.Path.{_≡_, refl, sym}
 use lib.ListN.{getD}
 use lib.Dec.{eqb, leb, ltb}
 use borrow.Author.Tests.{eqb-false, ne-eqb}
-use Rattle.types.specs.Pick.{pick}
-use Rattle.types.specs.declared.Access.{Access}
-use Rattle.types.specs.declared.Access.the-variants as access
-use Rattle.types.specs.declared.Answer.{Answer}
-use Rattle.types.specs.declared.Answer.the-variants as answers
-use Rattle.types.specs.declared.Fetch.{Fetch}
-use Rattle.types.specs.declared.Fetch.the-variants as fetch
-use Rattle.types.specs.declared.Trap.{Trap}
-use Rattle.consts.specs.Csr.{systemOpcode, stimecmp}
-use Rattle.consts.specs.Sbi.{legacySetTimer, legacyPutchar, legacySendIpi, legacyShutdown, eidTime, eidSpi, eidHsm, eidHvc, eidSrst, eidDbcn, eidRfnc, eidPmu}
-use Rattle.consts.specs.Traps.{envCallFromVs, virtualInstruction, storeGuestPageFault}
-use Rattle.fields.specs.Fields.{opcodeField, funct3Field, rs1Field, csrField}
-use Rattle.decoder.specs.Length.{htinstOf, fetchedOf, storeSource}
-use Rattle.regs.specs.declared.Vcpu.{Vcpu}
-use Rattle.regs.specs.declared.Waiting.{Waiting}
-use Rattle.regs.specs.declared.Waiting.the-variants as waiting
-use Rattle.regs.specs.declared.Writes.{Writes}
-use Rattle.regs.specs.declared.Writes.the-variants as writes
-use Rattle.regs.specs.Record.{isIdle}
-use Rattle.reading.specs.Calls.{Call, setup, setEntry, getGpr, setGpr, setReturn, paging, pending, latch, completeIpi, start, answer, completeLoad, print}
-use Rattle.reading.specs.Table.{a0, a1, a2, a6, a7, sourceNames, forwardNames, timeNames, srstNames, spiNames, hsmNames, consoleNames, byteNames, dbcnNames, eidNames, ecallNames, funct3Names, stimecmpNames, storeNames, causeNames, accessNames, wordNames, fetchNames, answerNames, namesOf, readsOf}
-use Rattle.reading.specs.Runs.{stepOf, Apart, Untouched, effectOf, wrote, written}
-use Rattle.reading.specs.Alike.{Alike}
-use Rattle.third.specs.Third.{Third, third}
+use Rattle.isa_types.specs.Pick.{pick}
+use Rattle.scope.specs.declared.traps.Access.{Access}
+use Rattle.scope.specs.declared.traps.Access.the-variants as access
+use Rattle.scope.specs.declared.traps.Answer.{Answer}
+use Rattle.scope.specs.declared.traps.Answer.the-variants as answers
+use Rattle.scope.specs.declared.traps.Fetch.{Fetch}
+use Rattle.scope.specs.declared.traps.Fetch.the-variants as fetch
+use Rattle.scope.specs.declared.traps.Trap.{Trap}
+use Rattle.isa_consts.specs.Csr.{systemOpcode, stimecmp}
+use Rattle.isa_consts.specs.Sbi.{legacySetTimer, legacyPutchar, legacySendIpi, legacyShutdown, eidTime, eidSpi, eidHsm, eidHvc, eidSrst, eidDbcn, eidRfnc, eidPmu}
+use Rattle.isa_consts.specs.Traps.{envCallFromVs, virtualInstruction, storeGuestPageFault}
+use Rattle.isa_fields.specs.Fields.{opcodeField, funct3Field, rs1Field, csrField}
+use Rattle.isa_decoder.specs.Length.{htinstOf, fetchedOf, storeSource}
+use Rattle.scope.specs.declared.machine.Vcpu.{Vcpu}
+use Rattle.scope.specs.declared.machine.Waiting.{Waiting}
+use Rattle.scope.specs.declared.machine.Waiting.the-variants as waiting
+use Rattle.scope.specs.declared.machine.Writes.{Writes}
+use Rattle.scope.specs.declared.machine.Writes.the-variants as writes
+use Rattle.scope.specs.Record.{isIdle}
+use Rattle.demand3_table.specs.Calls.{Call, setup, setEntry, getGpr, setGpr, setReturn, paging, pending, latch, completeIpi, start, answer, completeLoad, print}
+use Rattle.demand3_table.specs.Table.{a0, a1, a2, a6, a7, sourceNames, forwardNames, timeNames, srstNames, spiNames, hsmNames, consoleNames, byteNames, dbcnNames, eidNames, ecallNames, funct3Names, stimecmpNames, storeNames, causeNames, accessNames, wordNames, fetchNames, answerNames, namesOf, readsOf}
+use Rattle.demand3_table.specs.Runs.{stepOf, Apart, Untouched, effectOf, wrote, written}
+use Rattle.demand3_table.specs.Alike.{Alike}
+use Rattle.demand3.specs.Third.{Third, third}
 
 none : Apart 0 []
 none = record { free = refl }

@@ -3,50 +3,51 @@ use Prim.Native.Nat.{ℕ, _<_, _≤_, _%_, _^_}
 use native.Mathlib.Omega.{arith}
 use mathlib.Core.Bool.{Bool, true, false}
 use mathlib.Core.List.{List, _∷_}
-use mathlib.Core.Path.{_≡_, refl, ap, ap₂, subst, _∙_}
+use mathlib.Core.Path.{_≡_, refl, ap, ap₂, subst, _∙_, sym}
 use lib.ListN.{getD}
 use lib.Dec.{eqb, leb, ltb}
 use borrow.Author.Tests.{eqb-true, eqb-false, lt-leb}
-use Rattle.types.specs.Pick.{pick}
-use Rattle.types.specs.declared.Access.{Access}
-use Rattle.types.specs.declared.Access.the-variants as access
-use Rattle.types.specs.declared.Answer.{Answer}
-use Rattle.types.specs.declared.Answer.the-variants as answers
-use Rattle.types.specs.declared.Args.{Args}
-use Rattle.types.specs.declared.Fetch.{Fetch}
-use Rattle.types.specs.declared.Fetch.the-variants as fetch
-use Rattle.types.specs.declared.GuestPhysAddr.{GuestPhysAddr}
-use Rattle.types.specs.declared.Trap.{Trap}
-use Rattle.types.specs.declared.Width.{Width}
-use Rattle.consts.specs.Csr.{consoleRoom, systemOpcode, stimecmp}
-use Rattle.consts.specs.Sbi.{legacySetTimer, legacyPutchar, legacyGetchar, legacyClearIpi, legacySendIpi, legacyFenceI, legacySfenceVma, legacySfenceVmaAsid, legacyShutdown, eidTime, eidSpi, eidHsm, eidHvc, eidSrst, eidDbcn, eidRfnc, success, invalidParam}
-use Rattle.consts.specs.Traps.{envCallFromVs, virtualInstruction, loadGuestPageFault, storeGuestPageFault}
-use Rattle.decoder.specs.declared.Decoded.the-variants as decoded
-use Rattle.decoder.specs.declared.Trapped.{Trapped}
-use Rattle.decoder.specs.declared.Trapped.the-variants as trapped
-use Rattle.fields.specs.Fields.{opcodeField, rdField, funct3Field, rs1Field, csrField}
-use Rattle.decoder.specs.Length.{htinstOf, fetchedOf, storeSource}
-use Rattle.regs.specs.declared.Csrs.{Csrs}
-use Rattle.regs.specs.declared.Effect.{Effect}
-use Rattle.regs.specs.declared.Event.the-variants as event
-use Rattle.regs.specs.declared.Vcpu.{Vcpu}
-use Rattle.regs.specs.declared.Waiting.{Waiting}
-use Rattle.regs.specs.declared.Waiting.the-variants as waiting
-use Rattle.regs.specs.Record.{valueOf, isIdle}
-use Rattle.sbi.specs.declared.Call.the-variants as call
-use Rattle.sbi.specs.Calls.{timeOf, spiOf, hsmOf, srstOf, dbcnOf, spanOf, consoleOf, rfncOf, callOf, lesserOf, notSupportedOf}
-use Rattle.ecall_effect.specs.Doing.{callEffect}
-use Rattle.sbi.specs.declared.Call as ecalls
-use Rattle.virtual_inst.specs.Stimecmp as virtual
-use Rattle.page_fault.specs.Mmio.{storeOf, faultOf, faultEffect}
-use Rattle.calls.specs.Traps.{argumentsOf, sbiOf, stimecmpOf, mmioOf, pageFaultOf, causeOf, trapOf, startedOf, startEffect}
-use Rattle.calls.specs.Resume as resume
-use Rattle.calls.specs.Calls.{getGprOf}
-use Rattle.reading.specs.Calls.{Call, setup, setEntry, getGpr, setGpr, setReturn, paging, pending, latch, completeIpi, start, answer, completeLoad, print}
-use Rattle.reading.specs.Table.{a0, a1, a2, a3, a4, a5, a6, a7, sourceNames, forwardNames, timeNames, srstNames, spiNames, hsmNames, consoleNames, byteNames, dbcnNames, eidNames, ecallNames, funct3Names, stimecmpNames, storeNames, causeNames, accessNames, wordNames, fetchNames, answerNames, namesOf, readsOf}
-use Rattle.reading.specs.Runs.{among, Apart, guarded, quiet, effectOf}
-use Rattle.reading.specs.Alike.{Files, Alike}
-use Rattle.reading.specs.Stored.{neither}
+use Rattle.isa_types.specs.Pick.{pick}
+use Rattle.scope.specs.Decided.{ecall-decided}
+use Rattle.scope.specs.declared.traps.Access.{Access}
+use Rattle.scope.specs.declared.traps.Access.the-variants as access
+use Rattle.scope.specs.declared.traps.Answer.{Answer}
+use Rattle.scope.specs.declared.traps.Answer.the-variants as answers
+use Rattle.scope.specs.declared.traps.Args.{Args}
+use Rattle.scope.specs.declared.traps.Fetch.{Fetch}
+use Rattle.scope.specs.declared.traps.Fetch.the-variants as fetch
+use Rattle.isa_types.specs.declared.GuestPhysAddr.{GuestPhysAddr}
+use Rattle.scope.specs.declared.traps.Trap.{Trap}
+use Rattle.isa_types.specs.declared.Width.{Width}
+use Rattle.isa_consts.specs.Csr.{consoleRoom, systemOpcode, stimecmp}
+use Rattle.isa_consts.specs.Sbi.{legacySetTimer, legacyPutchar, legacyGetchar, legacyClearIpi, legacySendIpi, legacyFenceI, legacySfenceVma, legacySfenceVmaAsid, legacyShutdown, eidTime, eidSpi, eidHsm, eidHvc, eidSrst, eidDbcn, eidRfnc, success, invalidParam}
+use Rattle.isa_consts.specs.Traps.{envCallFromVs, virtualInstruction, loadGuestPageFault, storeGuestPageFault}
+use Rattle.isa_decoder.specs.declared.Decoded.the-variants as decoded
+use Rattle.isa_decoder.specs.declared.Trapped.{Trapped}
+use Rattle.isa_decoder.specs.declared.Trapped.the-variants as trapped
+use Rattle.isa_fields.specs.Fields.{opcodeField, rdField, funct3Field, rs1Field, csrField}
+use Rattle.isa_decoder.specs.Length.{htinstOf, fetchedOf, storeSource}
+use Rattle.scope.specs.declared.machine.Csrs.{Csrs}
+use Rattle.scope.specs.declared.machine.Effect.{Effect}
+use Rattle.scope.specs.declared.machine.Event.the-variants as event
+use Rattle.scope.specs.declared.machine.Vcpu.{Vcpu}
+use Rattle.scope.specs.declared.machine.Waiting.{Waiting}
+use Rattle.scope.specs.declared.machine.Waiting.the-variants as waiting
+use Rattle.scope.specs.Record.{valueOf, isIdle}
+use Rattle.scope.specs.declared.decided.Call.the-variants as call
+use Rattle.scope.specs.Decided.{timeOf, spiOf, hsmOf, srstOf, dbcnOf, spanOf, consoleOf, rfncOf, callOf, notSupportedOf, callEffect}
+use Rattle.scope.specs.Ecalls.{lesserOf}
+use Rattle.scope.specs.declared.decided.Call as ecalls
+use Rattle.scope.specs.VirtualInstruction as virtual
+use Rattle.scope.specs.GuestPageFault.{storeOf, faultOf, faultEffect}
+use Rattle.scope.specs.Classes.{argumentsOf, sbiOf, stimecmpOf, mmioOf, pageFaultOf, trapOf, startEffect}
+use Rattle.scope.specs.Resume as resume
+use Rattle.scope.specs.Calls.{getGprOf}
+use Rattle.demand3_table.specs.Calls.{Call, setup, setEntry, getGpr, setGpr, setReturn, paging, pending, latch, completeIpi, start, answer, completeLoad, print}
+use Rattle.demand3_table.specs.Table.{a0, a1, a2, a3, a4, a5, a6, a7, sourceNames, forwardNames, timeNames, srstNames, spiNames, hsmNames, consoleNames, byteNames, dbcnNames, eidNames, ecallNames, funct3Names, stimecmpNames, storeNames, causeNames, accessNames, wordNames, fetchNames, answerNames, namesOf, readsOf}
+use Rattle.demand3_table.specs.Runs.{among, Apart, guarded, quiet, effectOf}
+use Rattle.demand3_table.specs.Alike.{Files, Alike}
+use Rattle.demand3_table.specs.Stored.{neither}
 
 -- a register that a list names is not r where r is apart from the list
 pub out : {r : ℕ} {l : List ℕ} (k : ℕ) → Apart r l → among k l ≡ true → k ≡ r → ⊥
@@ -234,7 +235,8 @@ module _ {r : ℕ} {x y : List ℕ} (f : Files r x y) where
   ecall-alike : (c : Csrs) (room : ℕ) → Apart r (ecallNames x) → sbiOf c (getD x a7 0) (getD x a6 0) (argumentsOf x) room ≡ sbiOf c (getD y a7 0) (getD y a6 0) (argumentsOf y) room
   unfolding sbiOf ecallNames
   ecall-alike c room h =
-      eid-alike c (getD x a7 0) room (rest h) ∙ ap (λ e. sbiOf c e (getD y a6 0) (argumentsOf y) room) (named a7 h refl)
+      sym (ecall-decided c (getD x a7 0) (getD x a6 0) (argumentsOf x) room) ∙ eid-alike c (getD x a7 0) room (rest h)
+      ∙ ecall-decided c (getD x a7 0) (getD y a6 0) (argumentsOf y) room ∙ ap (λ e. sbiOf c e (getD y a6 0) (argumentsOf y) room) (named a7 h refl)
 
   -- stimecmp: rs1 for funct3 1, 2, 3
   funct3-row : (funct3 rd s old : ℕ) → Apart r (funct3Names funct3 s) → virtual.stimecmpOf funct3 rd s old (valueOf x s) ≡ virtual.stimecmpOf funct3 rd s old (valueOf y s)
@@ -280,13 +282,13 @@ unfolding mmioOf storeOf
 execute-alike x y c at i = ap (faultEffect c at access.Execute) (reads-none access.Execute i _ _ (λ w n m l. refl))
 
 module _ {r : ℕ} {x y : List ℕ} (f : Files r x y) where
-  cause-alike : (scause : ℕ) (c : Csrs) (t : Trap) → Apart r (causeNames scause x t) → causeOf scause x c t ≡ causeOf scause y c t
-  unfolding causeOf causeNames pageFaultOf
-  cause-alike scause c t h =
-      rowed scause envCallFromVs names same same h (ecall-alike f c (t .room))
-      (λ n10. rowed scause virtualInstruction names same same h (virtual-alike f c (t .stval))
-      (λ n22. rowed scause loadGuestPageFault names same same h (λ h. read-alike x y c _ (htinstOf (t .htinst)))
-      (λ n21. rowed scause storeGuestPageFault names same same h (store-alike f c _ (htinstOf (t .htinst)))
+  cause-alike : (c : Csrs) (t : Trap) → Apart r (causeNames (t .scause) x t) → trapOf x c t ≡ trapOf y c t
+  unfolding trapOf causeNames pageFaultOf
+  cause-alike c t h =
+      rowed (t .scause) envCallFromVs names same same h (ecall-alike f c (t .room))
+      (λ n10. rowed (t .scause) virtualInstruction names same same h (virtual-alike f c (t .stval))
+      (λ n22. rowed (t .scause) loadGuestPageFault names same same h (λ h. read-alike x y c _ (htinstOf (t .htinst)))
+      (λ n21. rowed (t .scause) storeGuestPageFault names same same h (store-alike f c _ (htinstOf (t .htinst)))
       (λ n23. refl))))
     where
       names : ℕ → List ℕ
@@ -340,7 +342,7 @@ module _ {r : ℕ} {x y : List ℕ} (f : Files r x y) where
 
 -- one call, on two records that are alike
 pub effect-alike : (r : ℕ) (v w : Vcpu) (c : Call) → Alike r v w → Apart r (namesOf v c) → Apart r (readsOf c) → effectOf v c ≡ effectOf w c
-unfolding effectOf namesOf readsOf guarded quiet startEffect startedOf trapOf getGprOf resume.answerEffect resume.matchedOf
+unfolding effectOf namesOf readsOf guarded quiet startEffect trapOf getGprOf resume.answerEffect
 effect-alike r v w setup a h k = rw (a .csrs, a .waiting)
 effect-alike r v w (setEntry entry) a h k = rw (a .csrs, a .waiting)
 effect-alike r v w (getGpr index) a h k = rw (a .csrs, a .waiting, value-alike (a .files) index k)
@@ -352,7 +354,7 @@ effect-alike r v w (latch bits) a h k = rw (a .csrs, a .waiting)
 effect-alike r v w (completeIpi abi completion) a h k = rw (a .csrs, a .waiting)
 effect-alike r v w (start t) a h k =
     rw (← (a .csrs), ← (a .waiting))
-    (parted (isIdle (v .waiting)) (λ e. e) (λ e. e) h (cause-alike (a .files) (t .scause) (v .csrs) t) (λ h. refl))
+    (parted (isIdle (v .waiting)) (λ e. e) (λ e. e) h (cause-alike (a .files) (v .csrs) t) (λ h. refl))
 effect-alike r v w (answer n) a h k =
     rw (← (a .csrs), ← (a .waiting), answer-alike (a .files) (v .waiting) (v .csrs) n h)
 effect-alike r v w (completeLoad n) a h k = rw (a .csrs, a .waiting)

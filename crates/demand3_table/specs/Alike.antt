@@ -3,7 +3,7 @@ use Prim.Native.Nat.{ℕ}
 use mathlib.Core.List.{List}
 use mathlib.Core.Path.{_≡_}
 use lib.ListN.{getD, length}
-use Rattle.regs.specs.declared.Vcpu.{Vcpu}
+use Rattle.scope.specs.declared.machine.Vcpu.{Vcpu}
 
 -- two files of 32 registers that agree everywhere but in r
 pub record Files (r : ℕ) (x y : List ℕ) : Type 0 where

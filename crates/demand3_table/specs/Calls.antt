@@ -2,11 +2,11 @@
 use Prim.Native.Nat.{ℕ}
 use mathlib.Core.Bool.{Bool}
 use mathlib.Core.List.{List}
-use Rattle.types.specs.declared.Answer.{Answer}
-use Rattle.types.specs.declared.GuestPhysAddr.{GuestPhysAddr}
-use Rattle.types.specs.declared.IpiAbi.{IpiAbi}
-use Rattle.types.specs.declared.Trap.{Trap}
-use Rattle.sbi_ipi.specs.declared.IpiCompletion.{IpiCompletion}
+use Rattle.scope.specs.declared.traps.Answer.{Answer}
+use Rattle.isa_types.specs.declared.GuestPhysAddr.{GuestPhysAddr}
+use Rattle.scope.specs.declared.traps.IpiAbi.{IpiAbi}
+use Rattle.scope.specs.declared.traps.Trap.{Trap}
+use Rattle.scope.specs.declared.decided.IpiCompletion.{IpiCompletion}
 
 -- inject_interrupt and set_vseip_level are cases of pending; print has the lent buffer. (new takes no record.)
 pub data Call : Type 0 where

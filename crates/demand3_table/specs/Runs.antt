@@ -5,25 +5,25 @@ use mathlib.Core.List.{List, [], _∷_}
 use mathlib.Core.Path.{_≡_}
 use lib.Bits.{bitOr}
 use lib.Dec.{eqb, ltb}
-use Rattle.types.specs.Pick.{pick, or}
-use Rattle.types.specs.declared.Reply.{Reply}
-use Rattle.types.specs.declared.Reply.the-variants as reply
-use Rattle.sbi_ipi.specs.Ipi.{completionNumber}
-use Rattle.regs.specs.declared.Effect.{Effect}
-use Rattle.regs.specs.declared.Event.the-variants as event
-use Rattle.regs.specs.declared.Outcome.{Outcome}
-use Rattle.regs.specs.declared.Vcpu.{Vcpu}
-use Rattle.regs.specs.declared.Writes.{Writes}
-use Rattle.regs.specs.declared.Writes.the-variants as writes
-use Rattle.regs.specs.Record.{pended, waitingAsk, listed}
-use Rattle.regs.specs.Effects.{noArgs, doneOf, guardedOf}
-use Rattle.host_calls.specs.HostCalls.{setupCsrs, entryCsrs, writeEffect, pagingEffect, pendingEffect, ipiWrites}
-use Rattle.answers.specs.Answers.{completedOf}
-use Rattle.calls.specs.Traps.{startEffect}
-use Rattle.calls.specs.Resume.{answerEffect}
-use Rattle.calls.specs.Calls.{setupOf, setEntryOf, getGprOf, setGprOf, setReturnOf, pagingOf, pendingOf, latchOf, completeIpiOf, startOf, answerOf, completeLoadOf, printedOf}
-use Rattle.reading.specs.Calls.{Call, setup, setEntry, getGpr, setGpr, setReturn, paging, pending, latch, completeIpi, start, answer, completeLoad, print}
-use Rattle.reading.specs.Table.{namesOf, readsOf}
+use Rattle.isa_types.specs.Pick.{pick, or}
+use Rattle.scope.specs.declared.traps.Reply.{Reply}
+use Rattle.scope.specs.declared.traps.Reply.the-variants as reply
+use Rattle.scope.specs.Ecalls.{completionNumber}
+use Rattle.scope.specs.declared.machine.Effect.{Effect}
+use Rattle.scope.specs.declared.machine.Event.the-variants as event
+use Rattle.scope.specs.declared.machine.Outcome.{Outcome}
+use Rattle.scope.specs.declared.machine.Vcpu.{Vcpu}
+use Rattle.scope.specs.declared.machine.Writes.{Writes}
+use Rattle.scope.specs.declared.machine.Writes.the-variants as writes
+use Rattle.scope.specs.Record.{pended, waitingAsk, listed, noArgs}
+use Rattle.scope.specs.Refusals.{doneOf, guardedOf}
+use Rattle.scope.specs.Host.{setupCsrs, entryCsrs, writeEffect, pagingEffect, pendingEffect, ipiWrites}
+use Rattle.scope.specs.GuestPageFault.{completedOf}
+use Rattle.scope.specs.Classes.{startEffect}
+use Rattle.scope.specs.Resume.{answerEffect}
+use Rattle.scope.specs.Calls.{setupOf, setEntryOf, getGprOf, setGprOf, setReturnOf, pagingOf, pendingOf, latchOf, completeIpiOf, startOf, answerOf, completeLoadOf, printedOf}
+use Rattle.demand3_table.specs.Calls.{Call, setup, setEntry, getGpr, setGpr, setReturn, paging, pending, latch, completeIpi, start, answer, completeLoad, print}
+use Rattle.demand3_table.specs.Table.{namesOf, readsOf}
 
 -- a call that gives no record back: the host's stays as it is, and there is no array, so zeros stand for it
 unfoldable pub unchanged : Vcpu → Reply → Outcome

@@ -10,12 +10,12 @@ use lib.ListN.{getD, set, length-set}
 use lib.Seq.{getD-set-same, getD-set-other, set-out, ext-getD}
 use lib.Dec.{eqb, ltb}
 use borrow.Author.Tests.{eqb-true, eqb-false, ltb-true}
-use Rattle.types.specs.Pick.{pick, or}
-use Rattle.regs.specs.declared.Writes.{Writes}
-use Rattle.regs.specs.declared.Writes.the-variants as writes
-use Rattle.regs.specs.Record.{stored}
-use Rattle.reading.specs.Alike.{Files}
-use Rattle.reading.specs.Runs.{wrote}
+use Rattle.isa_types.specs.Pick.{pick, or}
+use Rattle.scope.specs.declared.machine.Writes.{Writes}
+use Rattle.scope.specs.declared.machine.Writes.the-variants as writes
+use Rattle.scope.specs.Record.{stored}
+use Rattle.demand3_table.specs.Alike.{Files}
+use Rattle.demand3_table.specs.Runs.{wrote}
 
 pub neither : (a b : Bool) → or a b ≡ false → (a ≡ false) × (b ≡ false)
 neither true b h = (h, cc)

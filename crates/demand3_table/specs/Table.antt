@@ -4,25 +4,25 @@ use Prim.Native.Nat.{ℕ, _%_, _^_}
 use mathlib.Core.List.{List, [], _∷_}
 use lib.ListN.{getD}
 use lib.Dec.{eqb, leb}
-use Rattle.types.specs.Pick.{pick}
-use Rattle.types.specs.declared.Access.{Access}
-use Rattle.types.specs.declared.Access.the-variants as access
-use Rattle.types.specs.declared.Answer.{Answer}
-use Rattle.types.specs.declared.Answer.the-variants as answers
-use Rattle.types.specs.declared.Fetch.{Fetch}
-use Rattle.types.specs.declared.Fetch.the-variants as fetch
-use Rattle.types.specs.declared.Trap.{Trap}
-use Rattle.consts.specs.Csr.{systemOpcode, stimecmp}
-use Rattle.consts.specs.Sbi.{legacySetTimer, legacyPutchar, legacySendIpi, legacyShutdown, eidTime, eidSpi, eidHsm, eidHvc, eidSrst, eidDbcn, eidRfnc, eidPmu}
-use Rattle.consts.specs.Traps.{envCallFromVs, virtualInstruction, storeGuestPageFault}
-use Rattle.decoder.specs.declared.Trapped.{Trapped}
-use Rattle.fields.specs.Fields.{opcodeField, funct3Field, rs1Field, csrField}
-use Rattle.decoder.specs.Length.{htinstOf, fetchedOf, storeSource}
-use Rattle.regs.specs.declared.Vcpu.{Vcpu}
-use Rattle.regs.specs.declared.Waiting.{Waiting}
-use Rattle.regs.specs.declared.Waiting.the-variants as waiting
-use Rattle.regs.specs.Record.{isIdle}
-use Rattle.reading.specs.Calls.{Call, setup, setEntry, getGpr, setGpr, setReturn, paging, pending, latch, completeIpi, start, answer, completeLoad, print}
+use Rattle.isa_types.specs.Pick.{pick}
+use Rattle.scope.specs.declared.traps.Access.{Access}
+use Rattle.scope.specs.declared.traps.Access.the-variants as access
+use Rattle.scope.specs.declared.traps.Answer.{Answer}
+use Rattle.scope.specs.declared.traps.Answer.the-variants as answers
+use Rattle.scope.specs.declared.traps.Fetch.{Fetch}
+use Rattle.scope.specs.declared.traps.Fetch.the-variants as fetch
+use Rattle.scope.specs.declared.traps.Trap.{Trap}
+use Rattle.isa_consts.specs.Csr.{systemOpcode, stimecmp}
+use Rattle.isa_consts.specs.Sbi.{legacySetTimer, legacyPutchar, legacySendIpi, legacyShutdown, eidTime, eidSpi, eidHsm, eidHvc, eidSrst, eidDbcn, eidRfnc, eidPmu}
+use Rattle.isa_consts.specs.Traps.{envCallFromVs, virtualInstruction, storeGuestPageFault}
+use Rattle.isa_decoder.specs.declared.Trapped.{Trapped}
+use Rattle.isa_fields.specs.Fields.{opcodeField, funct3Field, rs1Field, csrField}
+use Rattle.isa_decoder.specs.Length.{htinstOf, fetchedOf, storeSource}
+use Rattle.scope.specs.declared.machine.Vcpu.{Vcpu}
+use Rattle.scope.specs.declared.machine.Waiting.{Waiting}
+use Rattle.scope.specs.declared.machine.Waiting.the-variants as waiting
+use Rattle.scope.specs.Record.{isIdle}
+use Rattle.demand3_table.specs.Calls.{Call, setup, setEntry, getGpr, setGpr, setReturn, paging, pending, latch, completeIpi, start, answer, completeLoad, print}
 
 -- SBI, 'Binary Encoding': a0 to a7 are x10 to x17
 abbrev pub a0 : ℕ

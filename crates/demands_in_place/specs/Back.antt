@@ -4,13 +4,13 @@ use mathlib.Core.List.{List, _++_}
 use mathlib.Core.Path.{_≡_, refl, ap, sym, _∙_}
 use lib.ListN.{drop, length, take}
 use lib.Seq.{drop-at, drop-drop, take-at}
-use Rattle.regs.specs.declared.Vcpu.{Vcpu}
-use Rattle.regs.specs.declared.Waiting.{Waiting}
-use Rattle.regs.specs.declared.Waiting.the-variants as waiting
-use Rattle.words.specs.Words.{csrsOf, csrsWords, unpackOf, waitingOf, waitingWords}
-use Rattle.words.specs.Laws.{csrs-back, waiting-back}
-use Rattle.place.specs.View.{recordOf, viewOf}
-use Rattle.place.specs.Laws.{same}
+use Rattle.scope.specs.declared.machine.Vcpu.{Vcpu}
+use Rattle.scope.specs.declared.machine.Waiting.{Waiting}
+use Rattle.scope.specs.declared.machine.Waiting.the-variants as waiting
+use Rattle.scope.specs.Words.{csrsOf, csrsWords, unpackOf, waitingOf, waitingWords}
+use Rattle.scope.specs.WordsLaws.{csrs-back, waiting-back}
+use Rattle.in_place_record.specs.View.{recordOf, viewOf}
+use Rattle.in_place_record.specs.Laws.{same}
 
 -- the 58 words of a record
 unfoldable pub wordsOf : Vcpu → List ℕ

@@ -6,34 +6,34 @@ use mathlib.Core.List.{List, [], _∷_}
 use mathlib.Core.Path.{_≡_, refl, ap, ap₂, sym, subst, _∙_}
 use lib.ListN.{drop, getD, length, take}
 use lib.Seq.{sets}
-use Rattle.types.specs.Pick.{pick, wrapped}
-use Rattle.types.specs.Numbers.{askNumber, errorNumber, exitNumber}
-use Rattle.types.specs.Values.{askValues, exitValues}
-use Rattle.types.specs.declared.Ask.{Ask}
-use Rattle.types.specs.declared.Ask.the-variants as ask
-use Rattle.types.specs.declared.Error.{Error}
-use Rattle.types.specs.declared.Error.the-variants as error
-use Rattle.types.specs.declared.Exit.{Exit}
-use Rattle.types.specs.declared.Exit.the-variants as exit
-use Rattle.types.specs.declared.Reply.{Reply}
-use Rattle.types.specs.declared.Reply.the-variants as reply
-use Rattle.regs.specs.declared.Outcome.{Outcome}
-use Rattle.regs.specs.declared.Vcpu.{Vcpu}
-use Rattle.thin.specs.declared.Given.{Given}
-use Rattle.calls.specs.declared.HostCall.{HostCall}
-use Rattle.calls.specs.Entry.{calledOf}
-use Rattle.thin.specs.Thin.{restOf}
-use Rattle.reading.specs.Alike.{Alike}
-use Rattle.reading.specs.Runs.{Untouched, written}
-use Rattle.third.specs.Kinds.{traps}
-use Rattle.third.specs.Counting.{Counted}
-use Rattle.total.specs.Demand1.{Pending, ask-waits, refusal-keeps-the-record, refuses}
-use Rattle.bridge.specs.Entries as entries
-use Rattle.bridge.specs.Entries.{Entries, callsFor}
-use Rattle.bridge.specs.Demands.{EntryThird, called-honest, entry-counts, entry-third}
-use Rattle.place.specs.View.{Done, Made, askCount, besideOf, exitCount, hostLeaves, outOf, refusalWord, replyWord, trapLeaves, viewOf}
-use Rattle.place.specs.Told.{all-there, host-four, told as words-told}
-use Rattle.place_bridge.specs.Places.{Places, Shown, lent, next, none, tellsOf}
+use Rattle.isa_types.specs.Pick.{pick, wrapped}
+use Rattle.scope.specs.Trap.{askNumber, exitNumber, askValues, exitValues}
+use Rattle.scope.specs.Refusals.{errorNumber}
+use Rattle.scope.specs.declared.traps.Ask.{Ask}
+use Rattle.scope.specs.declared.traps.Ask.the-variants as ask
+use Rattle.scope.specs.declared.traps.Error.{Error}
+use Rattle.scope.specs.declared.traps.Error.the-variants as error
+use Rattle.scope.specs.declared.traps.Exit.{Exit}
+use Rattle.scope.specs.declared.traps.Exit.the-variants as exit
+use Rattle.scope.specs.declared.traps.Reply.{Reply}
+use Rattle.scope.specs.declared.traps.Reply.the-variants as reply
+use Rattle.scope.specs.declared.machine.Outcome.{Outcome}
+use Rattle.scope.specs.declared.machine.Vcpu.{Vcpu}
+use Rattle.by_value_lent.specs.declared.Given.{Given}
+use Rattle.scope.specs.declared.hosts.HostCall.{HostCall}
+use Rattle.scope.specs.Calls.{calledOf}
+use Rattle.by_value_lent.specs.Thin.{restOf}
+use Rattle.demand3_table.specs.Alike.{Alike}
+use Rattle.demand3_table.specs.Runs.{Untouched, written}
+use Rattle.demand3.specs.Kinds.{traps}
+use Rattle.demand3.specs.Counting.{Counted}
+use Rattle.demand1.specs.Demand1.{Pending, ask-waits, refusal-keeps-the-record, refuses}
+use Rattle.demands_lent.specs.Entries as entries
+use Rattle.demands_lent.specs.Entries.{Entries, callsFor}
+use Rattle.demands_lent.specs.Demands.{EntryThird, called-honest, entry-counts, entry-third}
+use Rattle.in_place_record.specs.View.{Done, Made, askCount, besideOf, exitCount, hostLeaves, outOf, refusalWord, replyWord, trapLeaves, viewOf}
+use Rattle.in_place_record.specs.Told.{all-there, host-four, told as words-told}
+use Rattle.demands_in_place.specs.Places.{Places, Shown, lent, next, none, tellsOf}
 
 -- a call that takes no words for its reply is one that takes an empty list of them
 

@@ -3,10 +3,10 @@ use Prim.Native.Nat.{ℕ}
 use mathlib.Core.List.{List}
 use mathlib.Core.Path.{_≡_, refl, sym, _∙_}
 use lib.ListN.{drop, length, replicate}
-use Rattle.regs.specs.declared.Outcome.{Outcome}
-use Rattle.regs.specs.declared.Vcpu.{Vcpu}
-use Rattle.place.specs.View.{Done, Made, hostLeaves, trapLeaves, viewOf}
-use Rattle.place.specs.Told.{all-there, host-four, told, trap-four}
+use Rattle.scope.specs.declared.machine.Outcome.{Outcome}
+use Rattle.scope.specs.declared.machine.Vcpu.{Vcpu}
+use Rattle.in_place_record.specs.View.{Done, Made, hostLeaves, trapLeaves, viewOf}
+use Rattle.in_place_record.specs.Told.{all-there, host-four, told, trap-four}
 
 -- by a rule that leaves four waiting words
 

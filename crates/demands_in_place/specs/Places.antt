@@ -1,11 +1,11 @@
 -- Sequences of calls on one record of 58 words, by the promise alone.
 use Prim.Native.Nat.{ℕ}
 use mathlib.Core.List.{List, [], _∷_}
-use Rattle.regs.specs.declared.Outcome.{Outcome}
-use Rattle.thin.specs.declared.Given.{Given}
-use Rattle.calls.specs.declared.HostCall.{HostCall}
-use Rattle.calls.specs.Entry.{calledOf}
-use Rattle.place.specs.View.{Made, outOf, replyWord, viewOf}
+use Rattle.scope.specs.declared.machine.Outcome.{Outcome}
+use Rattle.by_value_lent.specs.declared.Given.{Given}
+use Rattle.scope.specs.declared.hosts.HostCall.{HostCall}
+use Rattle.scope.specs.Calls.{calledOf}
+use Rattle.in_place_record.specs.View.{Made, outOf, replyWord, viewOf}
 
 -- what one call shows: the reply's words before and after it, and the word returned
 pub record Shown : Type 0 where

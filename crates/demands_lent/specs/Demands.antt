@@ -5,32 +5,30 @@ use mathlib.Core.List.{List, [], _∷_}
 use mathlib.Core.Path.{_≡_, refl, ap, ap₂, sym, subst, _∙_}
 use lib.ListN.{getD, replicate}
 use lib.Dec.{ltb}
-use Rattle.types.specs.Pick.{pick, wrapped}
-use Rattle.types.specs.declared.Error.the-variants as error
-use Rattle.types.specs.declared.Reply.{Reply}
-use Rattle.types.specs.declared.Reply.the-variants as reply
-use Rattle.regs.specs.declared.Effect.{Effect}
-use Rattle.regs.specs.declared.Event.the-variants as event
-use Rattle.regs.specs.declared.Outcome.{Outcome}
-use Rattle.regs.specs.declared.Vcpu.{Vcpu}
-use Rattle.regs.specs.declared.Writes.the-variants as writes
-use Rattle.regs.specs.Record.{bumped, counted, eventNumber, listed, stored, valueOf}
-use Rattle.regs.specs.Effects.{applied, noArgs}
-use Rattle.calls.specs.Calls.{getGprOf}
-use Rattle.thin.specs.declared.Given.{Given}
-use Rattle.calls.specs.declared.HostCall.{HostCall}
-use Rattle.calls.specs.declared.HostCall.the-variants as hostCall
-use Rattle.calls.specs.Entry.{calledOf, readOf}
-use Rattle.thin.specs.Thin.{Stored}
-use Rattle.reading.specs.Alike.{Alike}
-use Rattle.reading.specs.Calls.{Call}
-use Rattle.reading.specs.Runs.{outcomeOf, runOf, seenOf, sightOf, stepOf, unchanged, Untouched, written}
-use Rattle.third.specs.Sequences as sequences
-use Rattle.third.specs.Kinds.{traps}
-use Rattle.third.specs.Counting.{Counted, counts}
-use Rattle.total.specs.Leaves.{Failed, Says, Sound}
-use Rattle.total.specs.Demand1.{Honest, refuses, refusal-keeps-the-record, start-honest, answer-honest, load-honest, setup-honest, entry-honest, set-honest, return-honest, paging-honest, pending-honest, latch-honest, ipi-honest}
-use Rattle.bridge.specs.Entries.{Entries, none, next, callFor, callsFor, givenFor}
+use Rattle.isa_types.specs.Pick.{pick, wrapped}
+use Rattle.scope.specs.declared.traps.Error.the-variants as error
+use Rattle.scope.specs.declared.traps.Reply.{Reply}
+use Rattle.scope.specs.declared.traps.Reply.the-variants as reply
+use Rattle.scope.specs.declared.machine.Effect.{Effect}
+use Rattle.scope.specs.declared.machine.Event.the-variants as event
+use Rattle.scope.specs.declared.machine.Outcome.{Outcome}
+use Rattle.scope.specs.declared.machine.Vcpu.{Vcpu}
+use Rattle.scope.specs.declared.machine.Writes.the-variants as writes
+use Rattle.scope.specs.Record.{bumped, counted, eventNumber, listed, stored, valueOf, applied, noArgs}
+use Rattle.scope.specs.Calls.{getGprOf, calledOf, readOf}
+use Rattle.by_value_lent.specs.declared.Given.{Given}
+use Rattle.scope.specs.declared.hosts.HostCall.{HostCall}
+use Rattle.scope.specs.declared.hosts.HostCall.the-variants as hostCall
+use Rattle.by_value_lent.specs.Thin.{Stored}
+use Rattle.demand3_table.specs.Alike.{Alike}
+use Rattle.demand3_table.specs.Calls.{Call}
+use Rattle.demand3_table.specs.Runs.{outcomeOf, runOf, seenOf, sightOf, stepOf, unchanged, Untouched, written}
+use Rattle.demand3.specs.Sequences as sequences
+use Rattle.demand3.specs.Kinds.{traps}
+use Rattle.demand3.specs.Counting.{Counted, counts}
+use Rattle.demand1.specs.Leaves.{Failed, Says, Sound}
+use Rattle.demand1.specs.Demand1.{Honest, refuses, refusal-keeps-the-record, start-honest, answer-honest, load-honest, setup-honest, entry-honest, set-honest, return-honest, paging-honest, pending-honest, latch-honest, ipi-honest}
+use Rattle.demands_lent.specs.Entries.{Entries, none, next, callFor, callsFor, givenFor}
 
 -- each call behind the entry is the step of demand 3's sequences
 pub called-outcome : (v : Vcpu) (c : HostCall) → calledOf v c ≡ outcomeOf v (callFor c)

@@ -1,13 +1,13 @@
 -- Sequences of calls through the entry, by its promise alone.
 use Prim.Native.Nat.{ℕ}
 use mathlib.Core.List.{List, [], _∷_}
-use Rattle.regs.specs.declared.Vcpu.{Vcpu}
-use Rattle.thin.specs.declared.Given.{Given}
-use Rattle.calls.specs.declared.HostCall.{HostCall}
-use Rattle.calls.specs.declared.HostCall.the-variants as hostCall
-use Rattle.thin.specs.Thin.{Stored}
-use Rattle.reading.specs.Calls.{Call, setup, setEntry, getGpr, setGpr, setReturn, paging, pending, latch, completeIpi, start, answer, completeLoad}
-use Rattle.reading.specs.Runs.{Sight}
+use Rattle.scope.specs.declared.machine.Vcpu.{Vcpu}
+use Rattle.by_value_lent.specs.declared.Given.{Given}
+use Rattle.scope.specs.declared.hosts.HostCall.{HostCall}
+use Rattle.scope.specs.declared.hosts.HostCall.the-variants as hostCall
+use Rattle.by_value_lent.specs.Thin.{Stored}
+use Rattle.demand3_table.specs.Calls.{Call, setup, setEntry, getGpr, setGpr, setReturn, paging, pending, latch, completeIpi, start, answer, completeLoad}
+use Rattle.demand3_table.specs.Runs.{Sight}
 
 -- the record v after these calls through the entry is u, and these were given back: each step meets the entry's promise
 pub data Entries : Vcpu → List HostCall → List Given → Vcpu → Type 0 where

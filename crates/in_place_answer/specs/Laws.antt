@@ -7,42 +7,40 @@ use native.Mathlib.Omega.{arith}
 use lib.ListN.{drop, getD, length}
 use lib.Dec.{eqb}
 use borrow.Author.Tests.{eqb-false, eqb-true, ne-eqb}
-use Rattle.types.specs.Pick.{pick}
-use Rattle.types.specs.Numbers.{answerNumber, errorNumber}
-use Rattle.types.specs.declared.Access.{Access}
-use Rattle.types.specs.declared.Answer.{Answer}
-use Rattle.types.specs.declared.Answer.the-variants as answer
-use Rattle.types.specs.declared.Error.the-variants as error
-use Rattle.types.specs.declared.Fetch.{Fetch}
-use Rattle.types.specs.declared.Fetch.the-variants as fetch
-use Rattle.types.specs.declared.GuestPhysAddr.{GuestPhysAddr}
-use Rattle.fields.specs.Fields.{rs1Field}
-use Rattle.decoder.specs.declared.Trapped.{Trapped}
-use Rattle.decoder.specs.Length.{storeSource}
-use Rattle.regs.specs.declared.Csrs.{Csrs}
-use Rattle.regs.specs.declared.Effect.{Effect}
-use Rattle.regs.specs.declared.Outcome.{Outcome}
-use Rattle.regs.specs.declared.Vcpu.{Vcpu}
-use Rattle.regs.specs.declared.Waiting.{Waiting}
-use Rattle.regs.specs.declared.Waiting.the-variants as waiting
-use Rattle.regs.specs.Record.{bumped, counted, eventNumber, listed, stored, valueOf, waitingAsk}
-use Rattle.regs.specs.Effects.{applied, noArgs, refusedOf}
-use Rattle.fetch.specs.Faults.{missedEffect, missedOf}
-use Rattle.virtual_inst.specs.Stimecmp.{csrEffect, csrOf}
-use Rattle.page_fault.specs.Mmio.{faultOf}
-use Rattle.answers.specs.Answers.{answeredEffect, answeredOf}
-use Rattle.calls.specs.Traps.{mmioOf}
-use Rattle.calls.specs.Resume.{answerEffect, continuedOf, fetchedOf, matchedOf, plainOf, resumedOf}
-use Rattle.calls.specs.Calls as calls
-use Rattle.calls.specs.Calls.{getGprOf}
-use Rattle.calls.specs.declared.HostCall.the-variants as hostCall
-use Rattle.calls.specs.Entry.{calledOf, readOf}
-use Rattle.calls.specs.Kinds.{answerBy, nowhere}
-use Rattle.words.specs.Words.{fetchOf}
-use Rattle.place.specs.View.{Done, Made, outOf, refusalWord, replyWord, trapLeaves, viewOf}
-use Rattle.place.specs.Deeds.{Leaves, answeredLeft, csrLeft, faultLeft, missedLeft, readWord}
-use Rattle.place.specs.Laws.{On, answered-made, made-by, missed-made, same}
-use Rattle.place_read.specs.Laws.{csr-by, fault-by}
+use Rattle.isa_types.specs.Pick.{pick}
+use Rattle.scope.specs.Trap.{answerNumber}
+use Rattle.scope.specs.Refusals.{errorNumber, refusedOf}
+use Rattle.scope.specs.declared.traps.Access.{Access}
+use Rattle.scope.specs.declared.traps.Answer.{Answer}
+use Rattle.scope.specs.declared.traps.Answer.the-variants as answer
+use Rattle.scope.specs.declared.traps.Error.the-variants as error
+use Rattle.scope.specs.declared.traps.Fetch.{Fetch}
+use Rattle.scope.specs.declared.traps.Fetch.the-variants as fetch
+use Rattle.isa_types.specs.declared.GuestPhysAddr.{GuestPhysAddr}
+use Rattle.isa_fields.specs.Fields.{rs1Field}
+use Rattle.isa_decoder.specs.declared.Trapped.{Trapped}
+use Rattle.isa_decoder.specs.Length.{storeSource}
+use Rattle.scope.specs.declared.machine.Csrs.{Csrs}
+use Rattle.scope.specs.declared.machine.Effect.{Effect}
+use Rattle.scope.specs.declared.machine.Outcome.{Outcome}
+use Rattle.scope.specs.declared.machine.Vcpu.{Vcpu}
+use Rattle.scope.specs.declared.machine.Waiting.{Waiting}
+use Rattle.scope.specs.declared.machine.Waiting.the-variants as waiting
+use Rattle.scope.specs.Record.{bumped, counted, eventNumber, listed, stored, valueOf, waitingAsk, applied, noArgs}
+use Rattle.scope.specs.FetchFaults.{missedEffect, missedOf}
+use Rattle.scope.specs.VirtualInstruction.{csrEffect, csrOf}
+use Rattle.scope.specs.GuestPageFault.{faultOf}
+use Rattle.scope.specs.Ecalls.{answeredEffect, answeredOf}
+use Rattle.scope.specs.Classes.{mmioOf}
+use Rattle.scope.specs.Resume.{answerEffect, continuedOf, fetchedOf, plainOf, resumedOf}
+use Rattle.scope.specs.Calls as calls
+use Rattle.scope.specs.Calls.{getGprOf, calledOf, readOf}
+use Rattle.scope.specs.declared.hosts.HostCall.the-variants as hostCall
+use Rattle.scope.specs.Words.{answerBy, nowhere, fetchOf}
+use Rattle.in_place_record.specs.View.{Done, Made, outOf, refusalWord, replyWord, trapLeaves, viewOf}
+use Rattle.in_place_record.specs.Deeds.{Leaves, answeredLeft, csrLeft, faultLeft, missedLeft, readWord}
+use Rattle.in_place_record.specs.Laws.{On, answered-made, made-by, missed-made, same}
+use Rattle.in_place_read.specs.Laws.{csr-by, fault-by}
 
 -- words that show an outcome, left by a function
 pub done-by : {leaves : Outcome → List ℕ} {outcome : Outcome} {r s : List ℕ} {w n : ℕ} → Done leaves outcome r w → (s ≡ r) × (n ≡ w) → Done leaves outcome s n
@@ -149,14 +147,14 @@ known-ask ask a b h l =
 
 -- of another ask's kind, or to no ask
 pub wrong-made : (r o : List ℕ) (ask a b : ℕ) → 0 < ask → ask ≤ 9 → eqb (waitingAsk (viewOf r .waiting)) ask ≡ false → Made (trapLeaves r) o (calledOf (viewOf r) (answerBy ask a b)) r o 0x107
-unfolding calledOf calls.answerOf answerEffect matchedOf
+unfolding calledOf calls.answerOf answerEffect
 wrong-made r o ask a b h l e =
     let k : Known ask a b = known-ask ask a b h l in
     rw (k .is) (rw (k .number) (rw e (refused-made r o (viewOf r .waiting) refl)))
 
 -- to the fetch that waits
 pub fetch-called : (v : Vcpu) (a b : ℕ) → waitingAsk (v .waiting) ≡ 1 → applied v (fetchedOf (v .x) (v .csrs) (v .waiting) (fetchOf a b)) ≡ calledOf v (answerBy 1 a b)
-unfolding calledOf calls.answerOf answerEffect matchedOf answerNumber continuedOf answerBy
+unfolding calledOf calls.answerOf answerEffect answerNumber continuedOf answerBy
 fetch-called v a b e = rw e
 
 -- to any other ask that waits
@@ -164,7 +162,7 @@ fetch-called v a b e = rw e
 plain-by : (x k : List ℕ) (c : Csrs) (w : Waiting) (ask a b : ℕ) → waitingAsk w ≡ ask → 1 < ask →
     let v : Vcpu = record { x = x; csrs = c; counts = k; waiting = w } in
     applied v (answeredEffect c w (answeredOf w a b)) ≡ calledOf v (answerBy ask a b)
-unfolding calledOf calls.answerOf answerEffect matchedOf answerNumber continuedOf answerBy waitingAsk plainOf answeredOf
+unfolding calledOf calls.answerOf answerEffect answerNumber continuedOf answerBy waitingAsk plainOf answeredOf
 plain-by x k c waiting.Idle ask a b e h = absurd (low ask 0 e h (omega arith))
 plain-by x k c (waiting.Load rd w s) ask a b e h = absurd (low ask 0 e h (omega arith))
 plain-by x k c waiting.FetchCsr ask a b e h = absurd (low ask 1 e h (omega arith))

@@ -1,22 +1,19 @@
 // An answer on the lent words, and a load's completion: how the host carries a trap on. The decisions are those of the
 // by-value step, and so is what is promised: Made says it of the whole outcome.
 ghost use mathlib.Core.Path.{_≡_};
-ghost use Rattle.fields.specs.Fields.{rs1Field};
-ghost use Rattle.decoder.specs.Length.{fetchedOf as fetchedWord};
-ghost use Rattle.regs.specs.Record.{valueOf, waitingAsk};
-ghost use Rattle.regs.specs.Effects.{applied};
-ghost use Rattle.virtual_inst.specs.Stimecmp.{csrEffect, csrOf};
-ghost use Rattle.calls.specs.Traps.{mmioOf};
-ghost use Rattle.calls.specs.Resume.{fetchedOf, resumedOf};
-ghost use Rattle.calls.specs.Calls.{completeLoadOf};
-ghost use Rattle.calls.specs.Entry.{calledOf};
-ghost use Rattle.calls.specs.Kinds.{answerBy};
-ghost use Rattle.words.specs.Words.{fetchOf};
-ghost use Rattle.place.specs.View.{Done, Made, trapLeaves, viewOf};
-ghost use Rattle.place_answer.specs.Words.{answerWords};
-use regs::Waiting;
-use types::Access;
-use types::GuestPhysAddr;
+ghost use Rattle.isa_fields.specs.Fields.{rs1Field};
+ghost use Rattle.isa_decoder.specs.Length.{fetchedOf as fetchedWord};
+ghost use Rattle.scope.specs.Record.{valueOf, waitingAsk, applied};
+ghost use Rattle.scope.specs.VirtualInstruction.{csrEffect, csrOf};
+ghost use Rattle.scope.specs.Classes.{mmioOf};
+ghost use Rattle.scope.specs.Resume.{fetchedOf, resumedOf};
+ghost use Rattle.scope.specs.Calls.{completeLoadOf, calledOf};
+ghost use Rattle.scope.specs.Words.{answerBy, fetchOf};
+ghost use Rattle.in_place_record.specs.View.{Done, Made, trapLeaves, viewOf};
+ghost use Rattle.in_place_answer.specs.Words.{answerWords};
+use isa_types::GuestPhysAddr;
+use scope::Access;
+use scope::Waiting;
 
 // An answer: the ask's number, and two numbers.
 pub struct AnswerWords {
@@ -40,17 +37,17 @@ pub fn answer_words(a: &[u64; 3]) -> AnswerWords
 pub fn answer(r: &mut [u64; 58], out: &mut [u64; 8], a: AnswerWords) -> u64
     ensures { λ w. ⌜ Made (trapLeaves (now (r .entry))) (now (out .entry)) (calledOf (viewOf (now (r .entry))) (answerBy (a .ask) (a .word) (a .more))) (now (r .exit)) (now (out .exit)) w ⌝ }
 {
-    let w = place_read::waiting(r);
-    matched(regs::ask_of(w), r, out, w, a.ask, a.word, a.more)
+    let w = in_place_read::waiting(r);
+    matched(decide_record::ask_of(w), r, out, w, a.ask, a.word, a.more)
 }
 
 // Completes the load that waits.
 pub fn complete_load(r: &mut [u64; 58], n: u64) -> u64
     ensures { λ w. ⌜ Done (trapLeaves (now (r .entry))) (completeLoadOf (viewOf (now (r .entry))) n) (now (r .exit)) w ⌝ }
 {
-    place::sized(r);
-    let w = place_read::waiting(r);
-    place::complete(r, w, n)
+    in_place_record::sized(r);
+    let w = in_place_read::waiting(r);
+    in_place_record::complete(r, w, n)
 }
 
 // An answer of another ask's kind, or to no ask, is refused; so is one whose number is no ask's.
@@ -65,7 +62,7 @@ fn matched(
 ) -> u64
     ensures { λ c. ⌜ (w ≡ viewOf (now (r .entry)) .waiting → waits ≡ waitingAsk w → Made (trapLeaves (now (r .entry))) (now (out .entry)) (calledOf (viewOf (now (r .entry))) (answerBy ask word more)) (now (r .exit)) (now (out .exit)) c) ⌝ }
 {
-    place::sized(r);
+    in_place_record::sized(r);
     if ask == 0 {
         return 0x101;
     }
@@ -74,7 +71,7 @@ fn matched(
             if ask == 1 {
                 return fetched(r, out, w, word, more);
             }
-            return place_deed::do_answered(r, out, answers::decide(w, word, more));
+            return in_place_classes::do_answered(r, out, decide_answers::decide(w, word, more));
         }
         return 0x107;
     }
@@ -85,11 +82,15 @@ fn matched(
 fn fetched(r: &mut [u64; 58], out: &mut [u64; 8], w: Waiting, word: u64, more: u64) -> u64
     ensures { λ c. ⌜ (w ≡ viewOf (now (r .entry)) .waiting → Made (trapLeaves (now (r .entry))) (now (out .entry)) (applied (viewOf (now (r .entry))) (fetchedOf (viewOf (now (r .entry)) .x) (viewOf (now (r .entry)) .csrs) w (fetchOf word more))) (now (r .exit)) (now (out .exit)) c) ⌝ }
 {
-    place::sized(r);
+    in_place_record::sized(r);
     if more == 0 {
         return resumed(r, out, w, (word % 0x1_0000_0000) as u32);
     }
-    place_deed::do_missed(r, out, fetch::decide(words::fetch_of(word, more)))
+    in_place_classes::do_missed(
+        r,
+        out,
+        decide_fetch::decide(words_record::fetch_of(word, more)),
+    )
 }
 
 // The trap goes on with the word that was fetched.
@@ -127,18 +128,24 @@ fn mmio_word(
 ) -> u64
     ensures { λ w. ⌜ Made (trapLeaves (now (r .entry))) (now (out .entry)) (applied (viewOf (now (r .entry))) (mmioOf (viewOf (now (r .entry)) .x) (viewOf (now (r .entry)) .csrs) at access (fetchedWord word))) (now (r .exit)) (now (out .exit)) w ⌝ }
 {
-    place::sized(r);
-    let i = decoder::from_fetched(word);
-    let source = place_read::read(r, decoder::store_source(i));
-    place_deed::do_fault(r, out, at, access, page_fault::decide(access, i, source))
+    in_place_record::sized(r);
+    let i = isa_decoder::from_fetched(word);
+    let source = in_place_read::read(r, isa_decoder::store_source(i));
+    in_place_classes::do_fault(
+        r,
+        out,
+        at,
+        access,
+        decide_page_fault::decide(access, i, source),
+    )
 }
 
 // A CSR instruction that was fetched.
 fn stimecmp_word(r: &mut [u64; 58], out: &mut [u64; 8], word: u64) -> u64
     ensures { λ w. ⌜ Made (trapLeaves (now (r .entry))) (now (out .entry)) (applied (viewOf (now (r .entry))) (csrEffect (viewOf (now (r .entry)) .csrs) (csrOf word (viewOf (now (r .entry)) .csrs .vs .vstimecmp) (valueOf (viewOf (now (r .entry)) .x) (rs1Field word))))) (now (r .exit)) (now (out .exit)) w ⌝ }
 {
-    place::sized(r);
-    let rs1 = place_read::read(r, fields::rs1(word));
-    let d = virtual_inst::decide(word, r[place::VSTIMECMP], rs1);
-    place_deed::do_csr(r, out, d)
+    in_place_record::sized(r);
+    let rs1 = in_place_read::read(r, isa_fields::rs1(word));
+    let d = decide_virtual_inst::decide(word, r[in_place_record::VSTIMECMP], rs1);
+    in_place_classes::do_csr(r, out, d)
 }

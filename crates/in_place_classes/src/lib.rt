@@ -1,11 +1,11 @@
 // A virtual instruction, a guest page fault, a failed fetch and an answer, each done on the lent words once it is decided.
-ghost use Rattle.place.specs.Deeds.{Leaves, answeredLeft, csrLeft, faultLeft, missedLeft};
-use answers::Answered;
-use fetch::Missed;
-use page_fault::Fault;
-use types::Access;
-use types::GuestPhysAddr;
-use virtual_inst::Csr;
+ghost use Rattle.in_place_record.specs.Deeds.{Leaves, answeredLeft, csrLeft, faultLeft, missedLeft};
+use isa_types::GuestPhysAddr;
+use scope::Access;
+use scope::Answered;
+use scope::Csr;
+use scope::Fault;
+use scope::Missed;
 
 // Does a virtual instruction.
 pub fn do_csr(r: &mut [u64; 58], out: &mut [u64; 8], d: Csr) -> u64
@@ -13,20 +13,20 @@ pub fn do_csr(r: &mut [u64; 58], out: &mut [u64; 8], d: Csr) -> u64
 {
     match d {
         Csr::Illegal => {
-            place_change::bump(r, 2);
-            r[place::KIND] = 0;
+            in_place_write::bump(r, 2);
+            r[in_place_record::KIND] = 0;
             0x103
         }
         Csr::Fetch => {
-            place_read::ask_fetch(r, out);
-            r[place::KIND] = 2;
+            in_place_read::ask_fetch(r, out);
+            r[in_place_record::KIND] = 2;
             0x21
         }
         Csr::Write { rd, timer } => {
-            let old = r[place::VSTIMECMP];
-            r[place::VSTIMECMP] = timer;
-            place_change::step(r, 4);
-            place::put(r, rd, old);
+            let old = r[in_place_record::VSTIMECMP];
+            r[in_place_record::VSTIMECMP] = timer;
+            in_place_write::step(r, 4);
+            in_place_record::put(r, rd, old);
             0
         }
     }
@@ -44,24 +44,24 @@ pub fn do_fault(
 {
     match d {
         Fault::Fetch => {
-            place_read::ask_fetch(r, out);
-            r[place::KIND] = 3;
-            r[place::FIRST] = at.0;
-            r[place::SECOND] = codes::access_number(access);
+            in_place_read::ask_fetch(r, out);
+            r[in_place_record::KIND] = 3;
+            r[in_place_record::FIRST] = at.0;
+            r[in_place_record::SECOND] = words_numbers::access_number(access);
             0x21
         }
         Fault::Walk => {
-            r[place::KIND] = 0;
+            r[in_place_record::KIND] = 0;
             0x103
         }
         Fault::Unfit => {
-            r[place::KIND] = 0;
+            r[in_place_record::KIND] = 0;
             0x105
         }
         Fault::Nested => {
             out[0] = at.0;
-            out[1] = codes::access_number(access);
-            r[place::KIND] = 0;
+            out[1] = words_numbers::access_number(access);
+            r[in_place_record::KIND] = 0;
             8
         }
         Fault::Load {
@@ -70,14 +70,14 @@ pub fn do_fault(
             rd,
             length,
         } => {
-            let bytes = codes::width_bytes(width);
+            let bytes = words_numbers::width_bytes(width);
             out[0] = at.0;
             out[1] = bytes;
-            r[place::KIND] = 1;
-            r[place::FIRST] = rd as u64;
-            r[place::SECOND] = bytes;
-            r[place::THIRD] = words::flag(signed);
-            place::advance(r, length);
+            r[in_place_record::KIND] = 1;
+            r[in_place_record::FIRST] = rd as u64;
+            r[in_place_record::SECOND] = bytes;
+            r[in_place_record::THIRD] = words_record::flag(signed);
+            in_place_record::advance(r, length);
             9
         }
         Fault::Store {
@@ -86,9 +86,9 @@ pub fn do_fault(
             length,
         } => {
             out[0] = at.0;
-            out[1] = codes::width_bytes(width);
+            out[1] = words_numbers::width_bytes(width);
             out[2] = data;
-            place_change::step(r, length);
+            in_place_write::step(r, length);
             10
         }
     }
@@ -100,18 +100,18 @@ pub fn do_missed(r: &mut [u64; 58], out: &mut [u64; 8], d: Missed) -> u64
 {
     match d {
         Missed::Inject { cause, addr } => {
-            let c = place_read::csrs(r);
-            place_change::inject(r, fetch::inject(c, cause, addr));
+            let c = in_place_read::csrs(r);
+            in_place_write::inject(r, decide_fetch::inject(c, cause, addr));
             0
         }
         Missed::Nested(addr) => {
             out[0] = addr.0;
             out[1] = 4;
-            r[place::KIND] = 0;
+            r[in_place_record::KIND] = 0;
             8
         }
         Missed::Unhandled => {
-            r[place::KIND] = 0;
+            r[in_place_record::KIND] = 0;
             0x106
         }
     }
@@ -124,36 +124,36 @@ pub fn do_answered(r: &mut [u64; 58], out: &mut [u64; 8], d: Answered) -> u64
     match d {
         Answered::Wrong => 0x107,
         Answered::Moves => {
-            place_change::step(r, 4);
+            in_place_write::step(r, 4);
             0
         }
         Answered::Gives(n) => {
-            place::give(r, n);
+            in_place_record::give(r, n);
             0
         }
         Answered::Returns(e, v) => {
-            place_change::pair(r, e, v);
+            in_place_write::pair(r, e, v);
             0
         }
         Answered::SendIpi(request) => {
             let abi = request.abi;
             out[0] = request.mask;
             out[1] = request.base;
-            out[2] = codes::abi_number(abi);
-            place_change::step(r, 4);
+            out[2] = words_numbers::abi_number(abi);
+            in_place_write::step(r, 4);
             2
         }
         Answered::Print(n) => {
             out[0] = n;
-            r[place::KIND] = 6;
-            r[place::FIRST] = n;
+            r[in_place_record::KIND] = 6;
+            r[in_place_record::FIRST] = n;
             0x24
         }
         Answered::CopyOut(at, n) => {
             out[0] = at.0;
             out[1] = n;
-            r[place::KIND] = 8;
-            r[place::FIRST] = n;
+            r[in_place_record::KIND] = 8;
+            r[in_place_record::FIRST] = n;
             0x26
         }
     }

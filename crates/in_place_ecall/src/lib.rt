@@ -1,11 +1,11 @@
 // An SBI call, done on the lent words once it is decided.
 ghost use mathlib.Core.Path.{_≡_};
 ghost use lib.ListN.{set};
-ghost use Rattle.place.specs.Deeds.{Leaves, callLeft, left, one, stepWords, three};
-ghost use Rattle.sbi.specs.declared.Call.the-variants as call;
-use regs::Event;
-use sbi::Call;
-use types::GuestPhysAddr;
+ghost use Rattle.in_place_record.specs.Deeds.{Leaves, callLeft, left, one, stepWords, three};
+ghost use Rattle.scope.specs.declared.decided.Call.the-variants as call;
+use isa_types::GuestPhysAddr;
+use scope::Call;
+use scope::Event;
 
 // Does an SBI call.
 pub fn do_call(r: &mut [u64; 58], out: &mut [u64; 8], d: Call) -> u64
@@ -13,26 +13,30 @@ pub fn do_call(r: &mut [u64; 58], out: &mut [u64; 8], d: Call) -> u64
 {
     match d {
         Call::Returns(e, v) => {
-            place_change::pair(r, e, v);
+            in_place_write::pair(r, e, v);
             0
         }
         Call::Moves => {
-            place_change::step(r, 4);
+            in_place_write::step(r, 4);
             0
         }
         Call::LegacyTimer(deadline) => {
-            place_change::timer(r, deadline);
-            place::give(r, 0);
+            in_place_write::timer(r, deadline);
+            in_place_record::give(r, 0);
             0
         }
         Call::SetTimer(deadline) => {
-            place_change::timer(r, deadline);
-            place_change::pair(r, 0, 0);
+            in_place_write::timer(r, deadline);
+            in_place_write::pair(r, 0, 0);
             0
         }
         Call::ClearIpi => {
-            r[place::HVIP] = registers::with_bits(r[place::HVIP], consts::VSSIP, false);
-            place::give(r, 0);
+            r[in_place_record::HVIP] = isa_registers::with_bits(
+                r[in_place_record::HVIP],
+                isa_consts::VSSIP,
+                false,
+            );
+            in_place_record::give(r, 0);
             0
         }
         Call::PutChar(n) => tells(r, out, n, 9, 0x27),
@@ -45,7 +49,7 @@ pub fn do_call(r: &mut [u64; 58], out: &mut [u64; 8], d: Call) -> u64
                 out,
                 request.mask,
                 request.base,
-                codes::abi_number(abi),
+                words_numbers::abi_number(abi),
                 2,
             )
         }
@@ -67,7 +71,7 @@ pub fn do_call(r: &mut [u64; 58], out: &mut [u64; 8], d: Call) -> u64
 fn waits(r: &mut [u64; 58], kind: u64, word: u64) -> u64
     ensures { λ w. ⌜ (now (r .exit) ≡ set (now (r .entry)) 54 kind) × (w ≡ word) ⌝ }
 {
-    r[place::KIND] = kind;
+    r[in_place_record::KIND] = kind;
     word
 }
 
@@ -76,7 +80,7 @@ fn tells(r: &mut [u64; 58], out: &mut [u64; 8], n: u64, kind: u64, word: u64) ->
     ensures { λ w. ⌜ Leaves (left (set (now (r .entry)) 54 kind) (one (now (out .entry)) n) word) (now (r .exit)) (now (out .exit)) w ⌝ }
 {
     out[0] = n;
-    r[place::KIND] = kind;
+    r[in_place_record::KIND] = kind;
     word
 }
 
@@ -87,16 +91,16 @@ fn passes(r: &mut [u64; 58], out: &mut [u64; 8], a: u64, b: u64, c: u64, word: u
     out[0] = a;
     out[1] = b;
     out[2] = c;
-    place_change::step(r, 4);
+    in_place_write::step(r, 4);
     word
 }
 
 fn hypercall(r: &mut [u64; 58], out: &mut [u64; 8]) -> u64
     ensures { λ w. ⌜ Leaves (callLeft (now (r .entry)) (now (out .entry)) call.Hypercall) (now (r .exit)) (now (out .exit)) w ⌝ }
 {
-    out[0] = r[place::A6];
-    place_read::six(r, out);
-    place_change::step(r, 4);
+    out[0] = r[in_place_record::A6];
+    in_place_read::six(r, out);
+    in_place_write::step(r, 4);
     6
 }
 
@@ -105,8 +109,8 @@ fn copy_in(r: &mut [u64; 58], out: &mut [u64; 8], at: GuestPhysAddr, n: u64) -> 
 {
     out[0] = at.0;
     out[1] = n;
-    r[place::KIND] = 5;
-    r[place::FIRST] = n;
+    r[in_place_record::KIND] = 5;
+    r[in_place_record::FIRST] = n;
     0x23
 }
 
@@ -114,19 +118,19 @@ fn read_console(r: &mut [u64; 58], out: &mut [u64; 8], at: GuestPhysAddr, n: u64
     ensures { λ w. ⌜ Leaves (callLeft (now (r .entry)) (now (out .entry)) (call.ReadConsole at n)) (now (r .exit)) (now (out .exit)) w ⌝ }
 {
     out[0] = n;
-    r[place::KIND] = 7;
-    r[place::FIRST] = n;
-    r[place::SECOND] = at.0;
+    r[in_place_record::KIND] = 7;
+    r[in_place_record::FIRST] = n;
+    r[in_place_record::SECOND] = at.0;
     0x25
 }
 
 fn forward(r: &mut [u64; 58], out: &mut [u64; 8], event: Event) -> u64
     ensures { λ w. ⌜ Leaves (callLeft (now (r .entry)) (now (out .entry)) (call.Forward event)) (now (r .exit)) (now (out .exit)) w ⌝ }
 {
-    out[0] = r[place::A7];
-    out[1] = r[place::A6];
-    place_read::six(r, out);
-    place_change::bump(r, place_change::event_number(event));
-    r[place::KIND] = 12;
+    out[0] = r[in_place_record::A7];
+    out[1] = r[in_place_record::A6];
+    in_place_read::six(r, out);
+    in_place_write::bump(r, in_place_write::event_number(event));
+    r[in_place_record::KIND] = 12;
     0x29
 }

@@ -2,18 +2,17 @@
 // by-value outcome; `place/specs/View.antt` has the meaning of the words.
 ghost use mathlib.Core.Path.{_≡_};
 ghost use lib.ListN.{drop, replicate};
-ghost use Rattle.calls.specs.Calls.{newOf};
-ghost use Rattle.calls.specs.Entry.{calledOf};
-ghost use Rattle.calls.specs.Kinds.{callBy};
-ghost use Rattle.place.specs.View.{Done, hostLeaves, viewOf};
-use types::GuestPhysAddr;
+ghost use Rattle.scope.specs.Calls.{newOf, calledOf};
+ghost use Rattle.scope.specs.Words.{callBy};
+ghost use Rattle.in_place_record.specs.View.{Done, hostLeaves, viewOf};
+use isa_types::GuestPhysAddr;
 
 // A record of zeros but for what a guest finds at its start: a0 is its hart, a1 where the device tree lies.
 #[no_mangle]
 pub extern "C" fn vcpu_new(r: &mut [u64; 58], hart_id: u64, dtb_addr: u64) -> u64
     ensures { λ w. ⌜ (viewOf (now (r .exit)) ≡ newOf «hart_id» «dtb_addr») × (drop 54 (now (r .exit)) ≡ replicate 4 0) × (w ≡ 64) ⌝ }
 {
-    place_setup::new(r, hart_id, dtb_addr);
+    in_place_host_calls::new(r, hart_id, dtb_addr);
     0x40
 }
 
@@ -22,7 +21,7 @@ pub extern "C" fn vcpu_new(r: &mut [u64; 58], hart_id: u64, dtb_addr: u64) -> u6
 pub extern "C" fn vcpu_setup(r: &mut [u64; 58]) -> u64
     ensures { λ w. ⌜ Done (hostLeaves (now (r .entry))) (calledOf (viewOf (now (r .entry))) (callBy 1 0 0 0 0 0)) (now (r .exit)) w ⌝ }
 {
-    place_setup::setup(r)
+    in_place_host_calls::setup(r)
 }
 
 // Where the guest starts.
@@ -30,7 +29,7 @@ pub extern "C" fn vcpu_setup(r: &mut [u64; 58]) -> u64
 pub extern "C" fn vcpu_set_entry(r: &mut [u64; 58], entry: u64) -> u64
     ensures { λ w. ⌜ Done (hostLeaves (now (r .entry))) (calledOf (viewOf (now (r .entry))) (callBy 2 entry 0 0 0 0)) (now (r .exit)) w ⌝ }
 {
-    place_setup::set_entry(r, GuestPhysAddr(entry))
+    in_place_host_calls::set_entry(r, GuestPhysAddr(entry))
 }
 
 // Sets the guest-stage page table.
@@ -43,5 +42,5 @@ pub extern "C" fn vcpu_set_nested_page_table(
 ) -> u64
     ensures { λ w. ⌜ Done (hostLeaves (now (r .entry))) (calledOf (viewOf (now (r .entry))) (callBy 6 levels mode root 0 0)) (now (r .exit)) w ⌝ }
 {
-    place_setup::set_nested_page_table(r, levels, mode, root)
+    in_place_host_calls::set_nested_page_table(r, levels, mode, root)
 }

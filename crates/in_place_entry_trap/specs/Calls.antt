@@ -1,11 +1,11 @@
 -- The calls of the entry for cost, from the words that they are given.
 use Prim.Native.Nat.{ℕ}
 use mathlib.Core.List.{List}
-use Rattle.calls.specs.declared.HostCall.{HostCall}
-use Rattle.calls.specs.declared.HostCall.the-variants as hostCall
-use Rattle.calls.specs.Kinds.{answerBy}
-use Rattle.place_trap.specs.Words.{trapWords}
-use Rattle.place_answer.specs.Words.{answerWords}
+use Rattle.scope.specs.declared.hosts.HostCall.{HostCall}
+use Rattle.scope.specs.declared.hosts.HostCall.the-variants as hostCall
+use Rattle.scope.specs.Words.{answerBy}
+use Rattle.in_place_start.specs.Words.{trapWords}
+use Rattle.in_place_answer.specs.Words.{answerWords}
 
 unfoldable pub startCall : List ℕ → HostCall
 startCall t = hostCall.Start (trapWords t)

@@ -8,28 +8,26 @@ use lib.Seq.{drop-set-lt, sets}
 use native.Mathlib.Omega.{arith}
 use lib.Dec.{eqb}
 use borrow.Author.Tests.{eqb-true}
-use Rattle.types.specs.Pick.{pick}
-use Rattle.types.specs.Numbers.{errorNumber}
-use Rattle.types.specs.declared.Error.{Error}
-use Rattle.types.specs.declared.Error.the-variants as error
-use Rattle.regs.specs.declared.Csrs.{Csrs}
-use Rattle.regs.specs.declared.Effect.{Effect}
-use Rattle.regs.specs.declared.Event.the-variants as event
-use Rattle.regs.specs.declared.Outcome.{Outcome}
-use Rattle.regs.specs.declared.Vcpu.{Vcpu}
-use Rattle.regs.specs.declared.Waiting.{Waiting}
-use Rattle.regs.specs.declared.Waiting.the-variants as waiting
-use Rattle.regs.specs.declared.Writes.{Writes}
-use Rattle.regs.specs.declared.Writes.the-variants as writes
-use Rattle.regs.specs.Record.{bumped, counted, eventNumber, listed, stored, waitingAsk}
-use Rattle.regs.specs.Effects.{applied, doneOf, guardedOf, noArgs, refusedOf}
-use Rattle.calls.specs.Calls.{printCount}
-use Rattle.regs.specs.Effects.{unlessAsking}
-use Rattle.words.specs.Words.{csrsOf, csrsWords, unpackOf, waitingBy, waitingOf}
-use Rattle.place.specs.View.{Done, hostLeaves, recordOf, replyWord, viewOf}
-use Rattle.place.specs.Laws.{over, put-keeps, put-shows, same, waiting-words}
-use Rattle.place.specs.Spelled.{spelled}
-use Rattle.place_host.specs.Host.{Keeps, hostWords, printedBy, writeWords}
+use Rattle.isa_types.specs.Pick.{pick}
+use Rattle.scope.specs.Refusals.{errorNumber, doneOf, guardedOf, refusedOf, unlessAsking}
+use Rattle.scope.specs.declared.traps.Error.{Error}
+use Rattle.scope.specs.declared.traps.Error.the-variants as error
+use Rattle.scope.specs.declared.machine.Csrs.{Csrs}
+use Rattle.scope.specs.declared.machine.Effect.{Effect}
+use Rattle.scope.specs.declared.machine.Event.the-variants as event
+use Rattle.scope.specs.declared.machine.Outcome.{Outcome}
+use Rattle.scope.specs.declared.machine.Vcpu.{Vcpu}
+use Rattle.scope.specs.declared.machine.Waiting.{Waiting}
+use Rattle.scope.specs.declared.machine.Waiting.the-variants as waiting
+use Rattle.scope.specs.declared.machine.Writes.{Writes}
+use Rattle.scope.specs.declared.machine.Writes.the-variants as writes
+use Rattle.scope.specs.Record.{bumped, counted, eventNumber, listed, stored, waitingAsk, applied, noArgs}
+use Rattle.scope.specs.Calls.{printCount}
+use Rattle.scope.specs.Words.{csrsOf, csrsWords, unpackOf, waitingBy, waitingOf}
+use Rattle.in_place_record.specs.View.{Done, hostLeaves, recordOf, replyWord, viewOf}
+use Rattle.in_place_record.specs.Laws.{over, put-keeps, put-shows, same, waiting-words}
+use Rattle.in_place_record.specs.Spelled.{spelled}
+use Rattle.in_place_host.specs.Host.{Keeps, hostWords, printedBy, writeWords}
 
 -- the CSRs written show as written
 csrs-spelled : (k : List ℕ) (c : Csrs) → let r : List ℕ = spelled 58 0 k in

@@ -2,17 +2,17 @@
 // Beside them the part of the lent buffer to print.
 ghost use mathlib.Core.Path.{_≡_};
 ghost use Prim.Native.Nat.{_+_};
-ghost use Rattle.types.specs.Numbers.{askNumber, errorNumber};
-ghost use Rattle.regs.specs.Effects.{unlessAsking};
-ghost use Rattle.calls.specs.Calls.{printCount};
-ghost use Rattle.place.specs.View.{Done, hostLeaves, replyWord, viewOf};
-ghost use Rattle.place_host.specs.Host.{Keeps, hostWords, printedBy, writeWords};
-use regs::Effect;
-use regs::Waiting;
-use regs::Writes;
-use types::Ask;
-use types::Error;
-use types::Reply;
+ghost use Rattle.scope.specs.Trap.{askNumber};
+ghost use Rattle.scope.specs.Refusals.{errorNumber, unlessAsking};
+ghost use Rattle.scope.specs.Calls.{printCount};
+ghost use Rattle.in_place_record.specs.View.{Done, hostLeaves, replyWord, viewOf};
+ghost use Rattle.in_place_host.specs.Host.{Keeps, hostWords, printedBy, writeWords};
+use scope::Ask;
+use scope::Effect;
+use scope::Error;
+use scope::Reply;
+use scope::Waiting;
+use scope::Writes;
 
 // Writes an effect that counts nothing and leaves what waits.
 fn host(r: &mut [u64; 58], e: Effect) -> u64
@@ -20,19 +20,19 @@ fn host(r: &mut [u64; 58], e: Effect) -> u64
 {
     let writes = e.writes;
     let reply = e.reply;
-    r[place::SEPC] = e.csrs.guest.sepc;
-    r[place::SSTATUS] = e.csrs.guest.sstatus;
-    r[place::HSTATUS] = e.csrs.guest.hstatus;
-    r[place::VSSTATUS] = e.csrs.vs.vsstatus;
-    r[place::VSTVEC] = e.csrs.vs.vstvec;
-    r[place::VSEPC] = e.csrs.vs.vsepc;
-    r[place::VSCAUSE] = e.csrs.vs.vscause;
-    r[place::VSTVAL] = e.csrs.vs.vstval;
-    r[place::VSTIMECMP] = e.csrs.vs.vstimecmp;
-    r[place::HIE] = e.csrs.hs.hie;
-    r[place::HVIP] = e.csrs.hs.hvip;
-    r[place::HGEIE] = e.csrs.hs.hgeie;
-    r[place::HGATP] = e.csrs.hs.hgatp;
+    r[in_place_record::SEPC] = e.csrs.guest.sepc;
+    r[in_place_record::SSTATUS] = e.csrs.guest.sstatus;
+    r[in_place_record::HSTATUS] = e.csrs.guest.hstatus;
+    r[in_place_record::VSSTATUS] = e.csrs.vs.vsstatus;
+    r[in_place_record::VSTVEC] = e.csrs.vs.vstvec;
+    r[in_place_record::VSEPC] = e.csrs.vs.vsepc;
+    r[in_place_record::VSCAUSE] = e.csrs.vs.vscause;
+    r[in_place_record::VSTVAL] = e.csrs.vs.vstval;
+    r[in_place_record::VSTIMECMP] = e.csrs.vs.vstimecmp;
+    r[in_place_record::HIE] = e.csrs.hs.hie;
+    r[in_place_record::HVIP] = e.csrs.hs.hvip;
+    r[in_place_record::HGEIE] = e.csrs.hs.hgeie;
+    r[in_place_record::HGATP] = e.csrs.hs.hgatp;
     write(r, writes);
     reply_word(reply)
 }
@@ -41,8 +41,8 @@ fn host(r: &mut [u64; 58], e: Effect) -> u64
 pub fn unless_asking(r: &mut [u64; 58], w: Waiting, e: Effect) -> u64
     ensures { λ n. ⌜ (w ≡ viewOf (now (r .entry)) .waiting → Keeps e w → Done (hostLeaves (now (r .entry))) (unlessAsking (viewOf (now (r .entry))) e) (now (r .exit)) n) ⌝ }
 {
-    place::sized(r);
-    if regs::ask_of(w) == 0 {
+    in_place_record::sized(r);
+    if decide_record::ask_of(w) == 0 {
         return host(r, e);
     }
     0x102
@@ -52,8 +52,8 @@ pub fn unless_asking(r: &mut [u64; 58], w: Waiting, e: Effect) -> u64
 pub fn to_print(r: &[u64; 58]) -> u64
     ensures { λ n. ⌜ n ≡ printCount (viewOf (now (r .entry)) .waiting) ⌝ }
 {
-    place::sized(r);
-    printed(r[place::KIND], r[place::FIRST])
+    in_place_record::sized(r);
+    printed(r[in_place_record::KIND], r[in_place_record::FIRST])
 }
 
 fn printed(kind: u64, count: u64) -> u64
@@ -70,10 +70,10 @@ fn write(r: &mut [u64; 58], w: Writes)
 {
     match w {
         Writes::Keep => {}
-        Writes::One(i, n) => place::put(r, i, n),
+        Writes::One(i, n) => in_place_record::put(r, i, n),
         Writes::Pair(a, b) => {
-            r[place::A0] = a;
-            r[place::A1] = b;
+            r[in_place_record::A0] = a;
+            r[in_place_record::A1] = b;
         }
     }
 }
@@ -82,7 +82,7 @@ fn reply_word(p: Reply) -> u64
     ensures { λ n. ⌜ n ≡ replyWord p ⌝ }
 {
     match p {
-        Reply::Exit(e) => numbers::exit_number(e),
+        Reply::Exit(e) => words_numbers::exit_number(e),
         Reply::Ask(a) => ask_word(a),
         Reply::Done => 0x40,
         Reply::Value(_) => 0x41,

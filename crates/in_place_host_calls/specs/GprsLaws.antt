@@ -5,19 +5,18 @@ use mathlib.Core.List.{List}
 use mathlib.Core.Path.{_≡_, refl, ap}
 use lib.ListN.{set}
 use lib.Dec.{ltb}
-use Rattle.types.specs.Numbers.{errorNumber}
-use Rattle.types.specs.declared.Error.the-variants as error
-use Rattle.regs.specs.declared.Csrs.{Csrs}
-use Rattle.regs.specs.declared.Waiting.{Waiting}
-use Rattle.regs.specs.declared.Writes.the-variants as writes
-use Rattle.host_calls.specs.HostCalls.{writeEffect}
-use Rattle.calls.specs.Calls.{getGprOf}
-use Rattle.calls.specs.Entry.{readOf}
-use Rattle.place.specs.View.{Made, hostLeaves, outOf, replyWord, viewOf}
-use Rattle.place.specs.Deeds.{readWord}
-use Rattle.place.specs.Laws.{read-shows}
-use Rattle.place_host.specs.Host.{Keeps}
-use Rattle.place_host.specs.Laws.{done-keeps, pick-keeps, refused-keeps}
+use Rattle.scope.specs.Refusals.{errorNumber}
+use Rattle.scope.specs.declared.traps.Error.the-variants as error
+use Rattle.scope.specs.declared.machine.Csrs.{Csrs}
+use Rattle.scope.specs.declared.machine.Waiting.{Waiting}
+use Rattle.scope.specs.declared.machine.Writes.the-variants as writes
+use Rattle.scope.specs.Host.{writeEffect}
+use Rattle.scope.specs.Calls.{getGprOf, readOf}
+use Rattle.in_place_record.specs.View.{Made, hostLeaves, outOf, replyWord, viewOf}
+use Rattle.in_place_record.specs.Deeds.{readWord}
+use Rattle.in_place_record.specs.Laws.{read-shows}
+use Rattle.in_place_host.specs.Host.{Keeps}
+use Rattle.in_place_host.specs.Laws.{done-keeps, pick-keeps, refused-keeps}
 
 pub write-keeps : (c : Csrs) (w : Waiting) (i n : ℕ) → Keeps (writeEffect c w i n) w
 unfolding writeEffect

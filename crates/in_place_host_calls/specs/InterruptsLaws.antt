@@ -2,17 +2,17 @@
 use Prim.Native.Nat.{ℕ}
 use mathlib.Core.Bool.{Bool}
 use lib.Dec.{eqb}
-use Rattle.types.specs.declared.Error.the-variants as error
-use Rattle.consts.specs.Csr.{vseip, vssip, vstip}
-use Rattle.consts.specs.Traps.{supervisorExternal, supervisorSoft, supervisorTimer}
-use Rattle.regs.specs.declared.Csrs.{Csrs}
-use Rattle.regs.specs.declared.Waiting.{Waiting}
-use Rattle.regs.specs.declared.Writes.the-variants as writes
-use Rattle.regs.specs.Record.{pended}
-use Rattle.host_calls.specs.HostCalls.{pendingBy, pendingEffect}
-use Rattle.registers.specs.Bits.{withBits}
-use Rattle.place_host.specs.Host.{Keeps}
-use Rattle.place_host.specs.Laws.{done-keeps, pick-keeps, refused-keeps}
+use Rattle.scope.specs.declared.traps.Error.the-variants as error
+use Rattle.isa_consts.specs.Csr.{vseip, vssip, vstip}
+use Rattle.isa_consts.specs.Traps.{supervisorExternal, supervisorSoft, supervisorTimer}
+use Rattle.scope.specs.declared.machine.Csrs.{Csrs}
+use Rattle.scope.specs.declared.machine.Waiting.{Waiting}
+use Rattle.scope.specs.declared.machine.Writes.the-variants as writes
+use Rattle.scope.specs.Record.{pended}
+use Rattle.scope.specs.Host.{pendingBy, pendingEffect}
+use Rattle.isa_registers.specs.Bits.{withBits}
+use Rattle.in_place_host.specs.Host.{Keeps}
+use Rattle.in_place_host.specs.Laws.{done-keeps, pick-keeps, refused-keeps}
 
 pub pending-keeps : (c : Csrs) (w : Waiting) (vector : ℕ) (on : Bool) → Keeps (pendingEffect c w vector on) w
 unfolding pendingEffect pendingBy

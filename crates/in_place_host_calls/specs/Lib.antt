@@ -1,1 +1,3 @@
-pub mod Laws
+pub mod SetupLaws
+pub mod GprsLaws
+pub mod InterruptsLaws

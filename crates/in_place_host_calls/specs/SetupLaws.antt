@@ -4,16 +4,16 @@ use mathlib.Core.List.{List}
 use mathlib.Core.Path.{_≡_, refl}
 use lib.ListN.{drop, replicate, set}
 use lib.Dec.{eqb}
-use Rattle.types.specs.declared.Error.the-variants as error
-use Rattle.regs.specs.declared.Csrs.{Csrs}
-use Rattle.regs.specs.declared.Waiting.{Waiting}
-use Rattle.regs.specs.declared.Writes.the-variants as writes
-use Rattle.host_calls.specs.HostCalls.{pagingBy, pagingEffect, tableCsrs}
-use Rattle.calls.specs.Calls.{newOf}
-use Rattle.words.specs.Words.{csrsOf, unpackOf, waitingBy, waitingOf}
-use Rattle.place.specs.View.{recordOf, viewOf}
-use Rattle.place_host.specs.Host.{Keeps}
-use Rattle.place_host.specs.Laws.{done-keeps, pick-keeps, refused-keeps}
+use Rattle.scope.specs.declared.traps.Error.the-variants as error
+use Rattle.scope.specs.declared.machine.Csrs.{Csrs}
+use Rattle.scope.specs.declared.machine.Waiting.{Waiting}
+use Rattle.scope.specs.declared.machine.Writes.the-variants as writes
+use Rattle.scope.specs.Host.{pagingBy, pagingEffect, tableCsrs}
+use Rattle.scope.specs.Calls.{newOf}
+use Rattle.scope.specs.Words.{csrsOf, unpackOf, waitingBy, waitingOf}
+use Rattle.in_place_record.specs.View.{recordOf, viewOf}
+use Rattle.in_place_host.specs.Host.{Keeps}
+use Rattle.in_place_host.specs.Laws.{done-keeps, pick-keeps, refused-keeps}
 
 by-keeps : (c : Csrs) (w : Waiting) (wanted mode root : ℕ) → Keeps (pagingBy c w wanted mode root) w
 unfolding pagingBy

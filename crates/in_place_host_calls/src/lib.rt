@@ -1,15 +1,58 @@
-// General registers on the lent words: the effect is that of the by-value call, written where the record lies.
-ghost use Rattle.calls.specs.Calls.{setGprOf, setReturnOf};
-ghost use Rattle.calls.specs.Entry.{readOf};
-ghost use Rattle.place.specs.View.{Done, Made, hostLeaves, viewOf};
-use regs::Writes;
+// The host's own calls on the lent words: setup, registers, page table, interrupts, IPI results.
+ghost use mathlib.Core.Path.{_≡_};
+ghost use lib.ListN.{drop, replicate};
+ghost use Rattle.scope.specs.Calls.{newOf, pagingOf, setEntryOf, setupOf, setGprOf, setReturnOf, readOf, completeIpiOf, latchOf, pendingOf};
+ghost use Rattle.in_place_record.specs.View.{Done, hostLeaves, viewOf, Made};
+use isa_types::GuestPhysAddr;
+use scope::IpiAbi;
+use scope::IpiCompletion;
+use scope::Writes;
+
+// The state that a guest starts with.
+pub fn setup(r: &mut [u64; 58]) -> u64
+    ensures { λ n. ⌜ Done (hostLeaves (now (r .entry))) (setupOf (viewOf (now (r .entry)))) (now (r .exit)) n ⌝ }
+{
+    let c = in_place_read::csrs(r);
+    let w = in_place_read::waiting(r);
+    let e = decide_effects::done(decide_host::setup_csrs(c), Writes::Keep, w);
+    in_place_host::unless_asking(r, w, e)
+}
+
+// Where the guest starts.
+pub fn set_entry(r: &mut [u64; 58], entry: GuestPhysAddr) -> u64
+    ensures { λ n. ⌜ Done (hostLeaves (now (r .entry))) (setEntryOf (viewOf (now (r .entry))) entry) (now (r .exit)) n ⌝ }
+{
+    let c = in_place_read::csrs(r);
+    let w = in_place_read::waiting(r);
+    let e = decide_effects::done(decide_host::entry_csrs(c, entry), Writes::Keep, w);
+    in_place_host::unless_asking(r, w, e)
+}
+
+// Sets the guest-stage page table.
+pub fn set_nested_page_table(r: &mut [u64; 58], levels: u64, mode: u64, root: u64) -> u64
+    ensures { λ n. ⌜ Done (hostLeaves (now (r .entry))) (pagingOf (viewOf (now (r .entry))) levels mode root) (now (r .exit)) n ⌝ }
+{
+    let c = in_place_read::csrs(r);
+    let w = in_place_read::waiting(r);
+    let e = decide_host::paging_effect(c, w, levels, mode, root);
+    in_place_host::unless_asking(r, w, e)
+}
+
+// A record of zeros but for what a guest finds at its start.
+pub fn new(r: &mut [u64; 58], hart_id: u64, dtb_addr: u64)
+    ensures { λ _. ⌜ (viewOf (now (r .exit)) ≡ newOf «hart_id» «dtb_addr») × (drop 54 (now (r .exit)) ≡ replicate 4 0) ⌝ }
+{
+    *r = [0u64; 58];
+    r[in_place_record::A0] = hart_id;
+    r[in_place_record::A1] = dtb_addr;
+}
 
 // Reads a general register.
 pub fn get_gpr(r: &[u64; 58], out: &mut [u64; 8], index: usize) -> u64
     ensures { λ n. ⌜ Made (hostLeaves (now (r .entry))) (now (out .entry)) (readOf (viewOf (now (r .entry))) index) (now (r .entry)) (now (out .exit)) n ⌝ }
 {
     if index < 32 {
-        out[0] = place_read::read(r, index);
+        out[0] = in_place_read::read(r, index);
         return 0x41;
     }
     0x101
@@ -19,18 +62,56 @@ pub fn get_gpr(r: &[u64; 58], out: &mut [u64; 8], index: usize) -> u64
 pub fn set_gpr(r: &mut [u64; 58], index: usize, value: u64) -> u64
     ensures { λ n. ⌜ Done (hostLeaves (now (r .entry))) (setGprOf (viewOf (now (r .entry))) index value) (now (r .exit)) n ⌝ }
 {
-    let c = place_read::csrs(r);
-    let w = place_read::waiting(r);
-    let e = host_calls::write_effect(c, w, index, value);
-    place_host::unless_asking(r, w, e)
+    let c = in_place_read::csrs(r);
+    let w = in_place_read::waiting(r);
+    let e = decide_host::write_effect(c, w, index, value);
+    in_place_host::unless_asking(r, w, e)
 }
 
 // Writes a0.
 pub fn set_return_value(r: &mut [u64; 58], value: u64) -> u64
     ensures { λ n. ⌜ Done (hostLeaves (now (r .entry))) (setReturnOf (viewOf (now (r .entry))) value) (now (r .exit)) n ⌝ }
 {
-    let c = place_read::csrs(r);
-    let w = place_read::waiting(r);
-    let e = effects::done(c, Writes::One(10, value), w);
-    place_host::unless_asking(r, w, e)
+    let c = in_place_read::csrs(r);
+    let w = in_place_read::waiting(r);
+    let e = decide_effects::done(c, Writes::One(10, value), w);
+    in_place_host::unless_asking(r, w, e)
+}
+
+// Sets or clears a pending interrupt of the guest.
+pub fn set_pending(r: &mut [u64; 58], vector: u64, level: bool) -> u64
+    ensures { λ n. ⌜ Done (hostLeaves (now (r .entry))) (pendingOf (viewOf (now (r .entry))) vector level) (now (r .exit)) n ⌝ }
+{
+    let c = in_place_read::csrs(r);
+    let w = in_place_read::waiting(r);
+    let e = decide_host::pending_effect(c, w, vector, level);
+    in_place_host::unless_asking(r, w, e)
+}
+
+// Latches pending bits that the hardware raised.
+pub fn latch_hvip(r: &mut [u64; 58], bits: u64) -> u64
+    ensures { λ n. ⌜ Done (hostLeaves (now (r .entry))) (latchOf (viewOf (now (r .entry))) bits) (now (r .exit)) n ⌝ }
+{
+    let c = in_place_read::csrs(r);
+    let w = in_place_read::waiting(r);
+    let e = decide_effects::done(
+        decide_record::with_hvip(c, c.hs.hvip | bits),
+        Writes::Keep,
+        w,
+    );
+    in_place_host::unless_asking(r, w, e)
+}
+
+// Gives the guest the result of an IPI request.
+pub fn complete_ipi(r: &mut [u64; 58], abi: IpiAbi, completion: IpiCompletion) -> u64
+    ensures { λ n. ⌜ Done (hostLeaves (now (r .entry))) (completeIpiOf (viewOf (now (r .entry))) abi completion) (now (r .exit)) n ⌝ }
+{
+    let c = in_place_read::csrs(r);
+    let w = in_place_read::waiting(r);
+    let e = decide_effects::done(
+        c,
+        decide_host::ipi_writes(abi, decide_ipi::completion_number(completion)),
+        w,
+    );
+    in_place_host::unless_asking(r, w, e)
 }

@@ -3,17 +3,17 @@ use Prim.Native.Nat.{ℕ}
 use mathlib.Core.List.{List}
 use mathlib.Core.Path.{_≡_, ap, subst, _∙_}
 use lib.ListN.{getD, length}
-use Rattle.types.specs.declared.Access.{Access}
-use Rattle.types.specs.declared.GuestPhysAddr.{GuestPhysAddr}
-use Rattle.regs.specs.declared.Csrs.{Csrs}
-use Rattle.regs.specs.Record.{valueOf}
-use Rattle.virtual_inst.specs.declared.Csr.{Csr}
-use Rattle.virtual_inst.specs.Stimecmp.{csrEffect}
-use Rattle.page_fault.specs.Mmio.{faultEffect}
-use Rattle.place.specs.View.{viewOf}
-use Rattle.place.specs.Deeds.{csrLeft, faultLeft, readWord}
-use Rattle.place.specs.Laws.{On, csr-made, csrs-words, fault-made, read-shows}
-use Rattle.page_fault.specs.declared.Fault.{Fault}
+use Rattle.scope.specs.declared.traps.Access.{Access}
+use Rattle.isa_types.specs.declared.GuestPhysAddr.{GuestPhysAddr}
+use Rattle.scope.specs.declared.machine.Csrs.{Csrs}
+use Rattle.scope.specs.Record.{valueOf}
+use Rattle.scope.specs.declared.decided.Csr.{Csr}
+use Rattle.scope.specs.VirtualInstruction.{csrEffect}
+use Rattle.scope.specs.GuestPageFault.{faultEffect}
+use Rattle.in_place_record.specs.View.{viewOf}
+use Rattle.in_place_record.specs.Deeds.{csrLeft, faultLeft, readWord}
+use Rattle.in_place_record.specs.Laws.{On, csr-made, csrs-words, fault-made, read-shows}
+use Rattle.scope.specs.declared.decided.Fault.{Fault}
 
 -- a virtual instruction: the old timer and rs1 are read of the words
 

@@ -6,32 +6,32 @@ use mathlib.Core.List.{List}
 use mathlib.Core.Path.{_≡_}
 use lib.ListN.{getD, set}
 use lib.Dec.{eqb, ltb}
-use Rattle.types.specs.Pick.{pick, wrapped}
-use Rattle.types.specs.Numbers.{abiNumber, accessNumber, flagOf, widthBytes}
-use Rattle.types.specs.declared.Access.{Access}
-use Rattle.types.specs.declared.Args.{Args}
-use Rattle.types.specs.declared.GuestPhysAddr.{GuestPhysAddr}
-use Rattle.types.specs.declared.GuestVirtAddr.{GuestVirtAddr}
-use Rattle.consts.specs.Csr.{vssip}
-use Rattle.registers.specs.Bits.{spvpOf, withBits}
-use Rattle.regs.specs.declared.Csrs.{Csrs}
-use Rattle.regs.specs.declared.Event.{Event}
-use Rattle.regs.specs.Record.{eventNumber}
-use Rattle.sbi.specs.declared.Call.{Call}
-use Rattle.sbi.specs.declared.Call.the-variants as call
-use Rattle.fetch.specs.Faults.{injectedOf}
-use Rattle.fetch.specs.declared.Missed.{Missed}
-use Rattle.fetch.specs.declared.Missed.the-variants as missed
-use Rattle.virtual_inst.specs.declared.Csr.{Csr}
-use Rattle.virtual_inst.specs.declared.Csr.the-variants as csr
-use Rattle.page_fault.specs.declared.Fault.{Fault}
-use Rattle.page_fault.specs.declared.Fault.the-variants as fault
-use Rattle.answers.specs.declared.Answered.{Answered}
-use Rattle.answers.specs.declared.Answered.the-variants as answered
-use Rattle.extension.specs.Extend.{extendOf}
-use Rattle.regs.specs.declared.Waiting.{Waiting}
-use Rattle.regs.specs.declared.Waiting.the-variants as waiting
-use Rattle.place.specs.View.{viewOf}
+use Rattle.isa_types.specs.Pick.{pick, wrapped}
+use Rattle.scope.specs.Trap.{abiNumber, accessNumber, flagOf, widthBytes}
+use Rattle.scope.specs.declared.traps.Access.{Access}
+use Rattle.scope.specs.declared.traps.Args.{Args}
+use Rattle.isa_types.specs.declared.GuestPhysAddr.{GuestPhysAddr}
+use Rattle.isa_types.specs.declared.GuestVirtAddr.{GuestVirtAddr}
+use Rattle.isa_consts.specs.Csr.{vssip}
+use Rattle.isa_registers.specs.Bits.{spvpOf, withBits}
+use Rattle.scope.specs.declared.machine.Csrs.{Csrs}
+use Rattle.scope.specs.declared.machine.Event.{Event}
+use Rattle.scope.specs.Record.{eventNumber}
+use Rattle.scope.specs.declared.decided.Call.{Call}
+use Rattle.scope.specs.declared.decided.Call.the-variants as call
+use Rattle.scope.specs.FetchFaults.{injectedOf}
+use Rattle.scope.specs.declared.decided.Missed.{Missed}
+use Rattle.scope.specs.declared.decided.Missed.the-variants as missed
+use Rattle.scope.specs.declared.decided.Csr.{Csr}
+use Rattle.scope.specs.declared.decided.Csr.the-variants as csr
+use Rattle.scope.specs.declared.decided.Fault.{Fault}
+use Rattle.scope.specs.declared.decided.Fault.the-variants as fault
+use Rattle.scope.specs.declared.decided.Answered.{Answered}
+use Rattle.scope.specs.declared.decided.Answered.the-variants as answered
+use Rattle.isa_extension.specs.Extend.{extendOf}
+use Rattle.scope.specs.declared.machine.Waiting.{Waiting}
+use Rattle.scope.specs.declared.machine.Waiting.the-variants as waiting
+use Rattle.in_place_record.specs.View.{viewOf}
 
 -- the words of the record, the words of the reply, and the word returned
 pub record Left : Type 0 where

@@ -8,42 +8,40 @@ use mathlib.Core.Bool.{Bool, true, false}
 use mathlib.Core.List.{List}
 use mathlib.Core.Path.{_≡_, refl, ap, sym, subst, _∙_}
 use lib.ListN.{getD, length, set, take, drop}
-use Rattle.types.specs.Pick.{pick, wrapped}
-use Rattle.types.specs.Numbers.{abiNumber, accessNumber, askNumber, errorNumber, exitNumber, flagOf, widthBytes}
-use Rattle.types.specs.Values.{askValues, exitValues}
-use Rattle.types.specs.declared.Access.{Access}
-use Rattle.types.specs.declared.GuestPhysAddr.{GuestPhysAddr}
-use Rattle.regs.specs.declared.Waiting.{Waiting}
-use Rattle.regs.specs.declared.Waiting.the-variants as waiting
-use Rattle.regs.specs.declared.Writes.the-variants as writes
-use Rattle.regs.specs.declared.Csrs.{Csrs}
-use Rattle.regs.specs.declared.Effect.{Effect}
-use Rattle.regs.specs.declared.Event.the-variants as event
-use Rattle.regs.specs.declared.Outcome.{Outcome}
-use Rattle.regs.specs.declared.Vcpu.{Vcpu}
-use Rattle.regs.specs.Record.{bumped, counted, eventNumber, listed, moved, pended, stored, timed, valueOf}
-use Rattle.regs.specs.Effects.{applied, askingOf, doneOf, failedOf, finishedOf, noArgs, refusedOf}
-use Rattle.sbi.specs.declared.Call.{Call}
-use Rattle.sbi.specs.declared.Call.the-variants as call
-use Rattle.ecall_effect.specs.Doing.{callEffect}
-use Rattle.deeds.specs.Deeds.{asksOf, clearIpiOf, hypercallOf, movesOf, returnsOf, setTimerOf, staysOf}
-use Rattle.fetch.specs.Faults.{askFetchOf, injectedOf, missedEffect}
-use Rattle.fetch.specs.declared.Missed.{Missed}
-use Rattle.fetch.specs.declared.Missed.the-variants as missed
-use Rattle.virtual_inst.specs.Stimecmp.{csrEffect}
-use Rattle.virtual_inst.specs.declared.Csr.{Csr}
-use Rattle.virtual_inst.specs.declared.Csr.the-variants as csr
-use Rattle.page_fault.specs.Mmio.{faultEffect}
-use Rattle.page_fault.specs.declared.Fault.{Fault}
-use Rattle.page_fault.specs.declared.Fault.the-variants as fault
-use Rattle.answers.specs.Answers.{answeredEffect, completedOf}
-use Rattle.answers.specs.declared.Answered.{Answered}
-use Rattle.answers.specs.declared.Answered.the-variants as answered
-use Rattle.words.specs.Words.{csrsOf, unpackOf, waitingBy, waitingOf, waitingWords}
-use Rattle.words.specs.Laws.{access-back, flag-back, width-back}
-use Rattle.place.specs.View.{Done, Made, askCount, besideOf, exitCount, outOf, recordOf, refusalWord, replyWord, trapLeaves, viewOf, waitingCount}
-use Rattle.place.specs.Deeds.{Leaves, Left, answeredLeft, argsWords, bumpWords, callLeft, completeWord, completeWords, csrLeft, faultLeft, fetchOut, giveWords, injectWords, missedLeft, putWord, readWord, movedWords, pairWords, sixWords, stepWords, timerWords}
-use Rattle.place.specs.Spelled.{spelled, spelled-out}
+use Rattle.isa_types.specs.Pick.{pick, wrapped}
+use Rattle.scope.specs.Trap.{abiNumber, accessNumber, askNumber, exitNumber, flagOf, widthBytes, askValues, exitValues}
+use Rattle.scope.specs.Refusals.{errorNumber, askingOf, doneOf, failedOf, finishedOf, refusedOf}
+use Rattle.scope.specs.declared.traps.Access.{Access}
+use Rattle.isa_types.specs.declared.GuestPhysAddr.{GuestPhysAddr}
+use Rattle.scope.specs.declared.machine.Waiting.{Waiting}
+use Rattle.scope.specs.declared.machine.Waiting.the-variants as waiting
+use Rattle.scope.specs.declared.machine.Writes.the-variants as writes
+use Rattle.scope.specs.declared.machine.Csrs.{Csrs}
+use Rattle.scope.specs.declared.machine.Effect.{Effect}
+use Rattle.scope.specs.declared.machine.Event.the-variants as event
+use Rattle.scope.specs.declared.machine.Outcome.{Outcome}
+use Rattle.scope.specs.declared.machine.Vcpu.{Vcpu}
+use Rattle.scope.specs.Record.{bumped, counted, eventNumber, listed, moved, pended, stored, timed, valueOf, applied, noArgs}
+use Rattle.scope.specs.declared.decided.Call.{Call}
+use Rattle.scope.specs.declared.decided.Call.the-variants as call
+use Rattle.scope.specs.Decided.{callEffect}
+use Rattle.scope.specs.Ecalls.{asksOf, clearIpiOf, hypercallOf, movesOf, returnsOf, setTimerOf, staysOf, answeredEffect}
+use Rattle.scope.specs.FetchFaults.{askFetchOf, injectedOf, missedEffect}
+use Rattle.scope.specs.declared.decided.Missed.{Missed}
+use Rattle.scope.specs.declared.decided.Missed.the-variants as missed
+use Rattle.scope.specs.VirtualInstruction.{csrEffect}
+use Rattle.scope.specs.declared.decided.Csr.{Csr}
+use Rattle.scope.specs.declared.decided.Csr.the-variants as csr
+use Rattle.scope.specs.GuestPageFault.{faultEffect, completedOf}
+use Rattle.scope.specs.declared.decided.Fault.{Fault}
+use Rattle.scope.specs.declared.decided.Fault.the-variants as fault
+use Rattle.scope.specs.declared.decided.Answered.{Answered}
+use Rattle.scope.specs.declared.decided.Answered.the-variants as answered
+use Rattle.scope.specs.Words.{csrsOf, unpackOf, waitingBy, waitingOf, waitingWords}
+use Rattle.scope.specs.WordsLaws.{access-back, flag-back, width-back}
+use Rattle.in_place_record.specs.View.{Done, Made, askCount, besideOf, exitCount, outOf, recordOf, refusalWord, replyWord, trapLeaves, viewOf, waitingCount}
+use Rattle.in_place_record.specs.Deeds.{Leaves, Left, answeredLeft, argsWords, bumpWords, callLeft, completeWord, completeWords, csrLeft, faultLeft, fetchOut, giveWords, injectWords, missedLeft, putWord, readWord, movedWords, pairWords, sixWords, stepWords, timerWords}
+use Rattle.in_place_record.specs.Spelled.{spelled, spelled-out}
 
 -- a function that leaves words which show an outcome shows it
 pub made-by : {leaves : Outcome → List ℕ} {o : List ℕ} {outcome : Outcome} {l : Left} {r out : List ℕ} {word : ℕ} → Made leaves o outcome (l .rec) (l .out) (l .word) → Leaves l r out word → Made leaves o outcome r out word

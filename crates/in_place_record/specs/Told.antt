@@ -6,13 +6,13 @@ use mathlib.Core.List.{List, [], _∷_, _++_}
 use mathlib.Core.Path.{_≡_, refl, ap, ap₂, sym, _∙_}
 use lib.ListN.{drop, length, length-drop, length-set, set, take}
 use lib.Seq.{sets}
-use Rattle.types.specs.Pick.{pick}
-use Rattle.regs.specs.declared.Outcome.{Outcome}
-use Rattle.regs.specs.declared.Vcpu.{Vcpu}
-use Rattle.words.specs.Words.{csrsOf, csrsWords, unpackOf, waitingWords}
-use Rattle.place.specs.View.{hostLeaves, recordOf, refusalWord, replyWord, trapLeaves, viewOf, waitingCount}
-use Rattle.place.specs.Laws.{over}
-use Rattle.place.specs.Spelled.{spelled}
+use Rattle.isa_types.specs.Pick.{pick}
+use Rattle.scope.specs.declared.machine.Outcome.{Outcome}
+use Rattle.scope.specs.declared.machine.Vcpu.{Vcpu}
+use Rattle.scope.specs.Words.{csrsOf, csrsWords, unpackOf, waitingWords}
+use Rattle.in_place_record.specs.View.{hostLeaves, recordOf, refusalWord, replyWord, trapLeaves, viewOf, waitingCount}
+use Rattle.in_place_record.specs.Laws.{over}
+use Rattle.in_place_record.specs.Spelled.{spelled}
 
 -- the words of a record, and four waiting words
 laid : Vcpu → List ℕ → List ℕ

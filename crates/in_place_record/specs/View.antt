@@ -7,21 +7,21 @@ use mathlib.Core.Path.{_≡_}
 use lib.ListN.{drop, set, take}
 use lib.Dec.{eqb}
 use lib.Seq.{sets}
-use Rattle.types.specs.Pick.{or, pick}
-use Rattle.types.specs.Numbers.{askNumber, errorNumber, exitNumber}
-use Rattle.types.specs.Values.{askValues, exitValues}
-use Rattle.types.specs.declared.Ask.{Ask}
-use Rattle.types.specs.declared.Ask.the-variants as ask
-use Rattle.types.specs.declared.Exit.{Exit}
-use Rattle.types.specs.declared.Exit.the-variants as exit
-use Rattle.types.specs.declared.Reply.{Reply}
-use Rattle.types.specs.declared.Reply.the-variants as reply
-use Rattle.regs.specs.declared.Outcome.{Outcome}
-use Rattle.regs.specs.declared.Vcpu.{Vcpu}
-use Rattle.regs.specs.declared.Waiting.{Waiting}
-use Rattle.regs.specs.declared.Waiting.the-variants as waiting
-use Rattle.words.specs.declared.Record.{Record}
-use Rattle.words.specs.Words.{unpackOf, waitingWords}
+use Rattle.isa_types.specs.Pick.{or, pick}
+use Rattle.scope.specs.Trap.{askNumber, exitNumber, askValues, exitValues}
+use Rattle.scope.specs.Refusals.{errorNumber}
+use Rattle.scope.specs.declared.traps.Ask.{Ask}
+use Rattle.scope.specs.declared.traps.Ask.the-variants as ask
+use Rattle.scope.specs.declared.traps.Exit.{Exit}
+use Rattle.scope.specs.declared.traps.Exit.the-variants as exit
+use Rattle.scope.specs.declared.traps.Reply.{Reply}
+use Rattle.scope.specs.declared.traps.Reply.the-variants as reply
+use Rattle.scope.specs.declared.machine.Outcome.{Outcome}
+use Rattle.scope.specs.declared.machine.Vcpu.{Vcpu}
+use Rattle.scope.specs.declared.machine.Waiting.{Waiting}
+use Rattle.scope.specs.declared.machine.Waiting.the-variants as waiting
+use Rattle.scope.specs.declared.machine.Record.{Record}
+use Rattle.scope.specs.Words.{unpackOf, waitingWords}
 
 -- x0 to x31, 13 CSRs, nine counts, the waiting part's kind and three numbers
 unfoldable pub recordOf : List ℕ → Record

@@ -3,8 +3,8 @@
 // specs/Laws.antt holds the rows to the effects of the by-value step.
 ghost use mathlib.Core.Path.{_≡_};
 ghost use lib.ListN.{length};
-ghost use Rattle.place.specs.Deeds.{completeWord, completeWords, giveWords, movedWords, putWord};
-use regs::Waiting;
+ghost use Rattle.in_place_record.specs.Deeds.{completeWord, completeWords, giveWords, movedWords, putWord};
+use scope::Waiting;
 
 // Where each word lies.
 pub const A0: usize = 10;
@@ -84,7 +84,7 @@ pub fn complete(r: &mut [u64; 58], w: Waiting, n: u64) -> u64
         Waiting::Idle => 0x102,
         Waiting::Load { rd, width, signed } => {
             r[KIND] = 0;
-            put(r, rd, extension::extend(width, signed, n));
+            put(r, rd, isa_extension::extend(width, signed, n));
             0x40
         }
         Waiting::FetchCsr => 0x102,
@@ -111,7 +111,7 @@ fn count(s: &[u64]) -> usize
 pub fn advance(r: &mut [u64; 58], by: u64)
     ensures { λ _. ⌜ now (r .exit) ≡ movedWords (now (r .entry)) by ⌝ }
 {
-    r[SEPC] = regs::plus(r[SEPC], by);
+    r[SEPC] = decide_record::plus(r[SEPC], by);
 }
 
 // a0 is this, and the call is finished.

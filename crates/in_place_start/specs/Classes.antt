@@ -5,17 +5,17 @@ use mathlib.Core.List.{List}
 use mathlib.Core.Path.{_≡_, refl}
 use lib.ListN.{getD}
 use lib.Dec.{eqb}
-use Rattle.types.specs.Pick.{pick}
-use Rattle.types.specs.declared.Access.the-variants as access
-use Rattle.types.specs.declared.Trap.{Trap}
-use Rattle.consts.specs.Traps.{envCallFromVs, virtualInstruction, loadGuestPageFault, storeGuestPageFault, supervisorSoft, supervisorTimer, supervisorExt, knownCause}
-use Rattle.fields.specs.Fields.{rs1Field}
-use Rattle.regs.specs.declared.Csrs.{Csrs}
-use Rattle.regs.specs.declared.Effect.{Effect}
-use Rattle.regs.specs.Record.{valueOf}
-use Rattle.calls.specs.Traps.{argumentsOf, causeOf, externalOf, otherOf, pageFaultOf, sbiOf, stimecmpOf, trapOf}
-use Rattle.place_trap.specs.declared.Class.{Class}
-use Rattle.place_trap.specs.declared.Class.the-variants as class
+use Rattle.isa_types.specs.Pick.{pick}
+use Rattle.scope.specs.declared.traps.Access.the-variants as access
+use Rattle.scope.specs.declared.traps.Trap.{Trap}
+use Rattle.isa_consts.specs.Traps.{envCallFromVs, virtualInstruction, loadGuestPageFault, storeGuestPageFault, supervisorSoft, supervisorTimer, supervisorExt, knownCause}
+use Rattle.isa_fields.specs.Fields.{rs1Field}
+use Rattle.scope.specs.declared.machine.Csrs.{Csrs}
+use Rattle.scope.specs.declared.machine.Effect.{Effect}
+use Rattle.scope.specs.Record.{valueOf}
+use Rattle.scope.specs.Classes.{argumentsOf, externalOf, otherOf, pageFaultOf, sbiOf, stimecmpOf, trapOf}
+use Rattle.in_place_start.specs.declared.Class.{Class}
+use Rattle.in_place_start.specs.declared.Class.the-variants as class
 use Prim.Native.Nat.{_%_, _^_}
 
 unfoldable pub otherClass : Bool → Class
@@ -58,7 +58,7 @@ class-by false false false false false false false true x c t = refl
 class-by false false false false false false false false x c t = refl
 
 pub class-effect : (x : List ℕ) (c : Csrs) (t : Trap) → classEffect (classOf (t .scause)) x c t ≡ trapOf x c t
-unfolding classOf trapOf causeOf
+unfolding classOf trapOf
 class-effect x c t =
     class-by (eqb (t .scause) envCallFromVs) (eqb (t .scause) virtualInstruction) (eqb (t .scause) loadGuestPageFault) (eqb (t .scause) storeGuestPageFault)
     (eqb (t .scause) supervisorSoft) (eqb (t .scause) supervisorTimer) (eqb (t .scause) supervisorExt) (knownCause (t .scause)) x c t

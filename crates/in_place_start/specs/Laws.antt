@@ -2,42 +2,45 @@
 use Prim.Native.Nat.{ℕ, _%_, _^_}
 use mathlib.Core.Bool.{true, false}
 use mathlib.Core.List.{List}
-use mathlib.Core.Path.{_≡_, refl}
+use mathlib.Core.Path.{_≡_, refl, subst}
 use lib.ListN.{getD, length, set}
-use Rattle.types.specs.Numbers.{errorNumber, exitNumber}
-use Rattle.types.specs.Values.{exitValues}
-use Rattle.types.specs.declared.Access.{Access}
-use Rattle.types.specs.declared.Error.the-variants as error
-use Rattle.types.specs.declared.GuestPhysAddr.{GuestPhysAddr}
-use Rattle.fields.specs.Fields.{rs1Field}
-use Rattle.decoder.specs.declared.Trapped.{Trapped}
-use Rattle.decoder.specs.Length.{storeSource}
-use Rattle.regs.specs.Record.{bumped, counted, eventNumber, listed, stored, valueOf}
-use Rattle.regs.specs.Effects.{applied, failedOf, finishedOf, noArgs, refusedOf}
-use Rattle.sbi.specs.Calls.{callOf}
-use Rattle.virtual_inst.specs.Stimecmp.{startOf}
-use Rattle.page_fault.specs.Mmio.{faultOf}
-use Rattle.calls.specs.Traps.{argumentsOf, externalOf, mmioOf, otherOf, sbiOf, stimecmpOf}
-use Rattle.words.specs.Words.{csrsOf, unpackOf, waitingBy, waitingOf, waitingWords}
-use Rattle.place.specs.View.{Made, besideOf, exitCount, outOf, recordOf, refusalWord, replyWord, trapLeaves, viewOf, waitingCount}
-use Rattle.place.specs.Deeds.{argsWords, callLeft, csrLeft, faultLeft, left, readWord}
-use Rattle.place.specs.Laws.{On, call-made, over}
-use Rattle.place.specs.Spelled.{spelled}
-use Rattle.place_read.specs.Laws.{csr-by, fault-by}
+use Rattle.scope.specs.Decided.{callEffect}
+use Rattle.scope.specs.Ecalls.{ecallEffect}
+use Rattle.scope.specs.declared.decided.Call.{Call}
+use Rattle.scope.specs.declared.machine.Csrs.{Csrs}
+use Rattle.scope.specs.Refusals.{errorNumber, failedOf, finishedOf, refusedOf}
+use Rattle.scope.specs.Trap.{exitNumber, exitValues}
+use Rattle.scope.specs.declared.traps.Access.{Access}
+use Rattle.scope.specs.declared.traps.Error.the-variants as error
+use Rattle.isa_types.specs.declared.GuestPhysAddr.{GuestPhysAddr}
+use Rattle.isa_fields.specs.Fields.{rs1Field}
+use Rattle.isa_decoder.specs.declared.Trapped.{Trapped}
+use Rattle.isa_decoder.specs.Length.{storeSource}
+use Rattle.scope.specs.Record.{bumped, counted, eventNumber, listed, stored, valueOf, applied, noArgs}
+use Rattle.scope.specs.VirtualInstruction.{startOf}
+use Rattle.scope.specs.GuestPageFault.{faultOf}
+use Rattle.scope.specs.Classes.{argumentsOf, externalOf, mmioOf, otherOf, sbiOf, stimecmpOf}
+use Rattle.scope.specs.Words.{csrsOf, unpackOf, waitingBy, waitingOf, waitingWords}
+use Rattle.in_place_record.specs.View.{Made, besideOf, exitCount, outOf, recordOf, refusalWord, replyWord, trapLeaves, viewOf, waitingCount}
+use Rattle.in_place_record.specs.Deeds.{argsWords, callLeft, csrLeft, faultLeft, left, readWord}
+use Rattle.in_place_record.specs.Laws.{On, call-made, over}
+use Rattle.in_place_record.specs.Spelled.{spelled}
+use Rattle.in_place_read.specs.Laws.{csr-by, fault-by}
 
 -- an ecall
 
-sbi-spelled : (k o : List ℕ) (room : ℕ) → let r : List ℕ = spelled 58 0 k in
-    On r o (sbiOf (viewOf r .csrs) (getD (viewOf r .x) 17 0) (getD (viewOf r .x) 16 0) (argumentsOf (viewOf r .x)) room) (callLeft r o (callOf (getD r 17 0) (getD r 16 0) (argsWords r) room))
+sbi-spelled : (k o : List ℕ) (room : ℕ) (d : Call) → let r : List ℕ = spelled 58 0 k in
+    ((c : Csrs) → callEffect c (getD r 17 0) (getD r 16 0) (argsWords r) d ≡ ecallEffect c (getD r 17 0) (getD r 16 0) (argsWords r) room) → On r o (sbiOf (viewOf r .csrs) (getD (viewOf r .x) 17 0) (getD (viewOf r .x) 16 0) (argumentsOf (viewOf r .x)) room) (callLeft r o d)
 unfolding viewOf recordOf unpackOf sbiOf argumentsOf argsWords
-sbi-spelled k o room =
-    call-made (spelled 58 0 k) o refl (callOf (getD (spelled 58 0 k) 17 0) (getD (spelled 58 0 k) 16 0) (argsWords (spelled 58 0 k)) room)
+sbi-spelled k o room d h =
+    let r : List ℕ = spelled 58 0 k in
+    subst (λ e. On r o e (callLeft r o d)) (h (viewOf r .csrs)) (call-made r o refl d)
 
-pub sbi-made : (r o : List ℕ) → length r ≡ 58 → (room : ℕ)
-    → On r o (sbiOf (viewOf r .csrs) (getD (viewOf r .x) 17 0) (getD (viewOf r .x) 16 0) (argumentsOf (viewOf r .x)) room) (callLeft r o (callOf (getD r 17 0) (getD r 16 0) (argsWords r) room))
-sbi-made r o e room =
-    over (λ r. On r o (sbiOf (viewOf r .csrs) (getD (viewOf r .x) 17 0) (getD (viewOf r .x) 16 0) (argumentsOf (viewOf r .x)) room) (callLeft r o (callOf (getD r 17 0) (getD r 16 0) (argsWords r) room)))
-    (λ k. sbi-spelled k o room) r e
+pub sbi-made : (r o : List ℕ) → length r ≡ 58 → (room : ℕ) (d : Call)
+    → ((c : Csrs) → callEffect c (getD r 17 0) (getD r 16 0) (argsWords r) d ≡ ecallEffect c (getD r 17 0) (getD r 16 0) (argsWords r) room) → On r o (sbiOf (viewOf r .csrs) (getD (viewOf r .x) 17 0) (getD (viewOf r .x) 16 0) (argumentsOf (viewOf r .x)) room) (callLeft r o d)
+sbi-made r o e room d =
+    over (λ r. ((c : Csrs) → callEffect c (getD r 17 0) (getD r 16 0) (argsWords r) d ≡ ecallEffect c (getD r 17 0) (getD r 16 0) (argsWords r) room) → On r o (sbiOf (viewOf r .csrs) (getD (viewOf r .x) 17 0) (getD (viewOf r .x) 16 0) (argumentsOf (viewOf r .x)) room) (callLeft r o d))
+    (λ k. sbi-spelled k o room d) r e
 
 -- a virtual instruction
 pub stimecmp-made : (r o : List ℕ) → length r ≡ 58 → (stval : ℕ)

@@ -2,7 +2,7 @@
 use Prim.Native.Nat.{ℕ}
 use mathlib.Core.List.{List}
 use lib.ListN.{getD}
-use Rattle.types.specs.declared.Trap.{Trap}
+use Rattle.scope.specs.declared.traps.Trap.{Trap}
 
 unfoldable pub trapWords : List ℕ → Trap
 trapWords t =

@@ -3,18 +3,20 @@
 ghost use mathlib.Core.Path.{_≡_};
 ghost use Prim.Native.Nat.{_%_, _^_};
 ghost use lib.ListN.{getD};
-ghost use Rattle.fields.specs.Fields.{rs1Field};
-ghost use Rattle.regs.specs.Record.{valueOf};
-ghost use Rattle.regs.specs.Effects.{applied};
-ghost use Rattle.calls.specs.Traps.{argumentsOf, mmioOf, pageFaultOf, sbiOf, startedOf, stimecmpOf};
-ghost use Rattle.calls.specs.Calls.{startOf};
-ghost use Rattle.place.specs.View.{Made, trapLeaves, viewOf};
-ghost use Rattle.place_trap.specs.Classes.{classEffect, classOf, otherClass};
-ghost use Rattle.place_trap.specs.Words.{trapWords};
-use decoder::Trapped;
-use types::Access;
-use types::GuestPhysAddr;
-use types::Trap;
+ghost use Rattle.scope.specs.Refusals.{refusedOf};
+ghost use Rattle.scope.specs.declared.traps.Error.the-variants as error;
+ghost use Rattle.isa_types.specs.Pick.{pick};
+ghost use Rattle.isa_fields.specs.Fields.{rs1Field};
+ghost use Rattle.scope.specs.Record.{valueOf, applied};
+ghost use Rattle.scope.specs.Classes.{trapOf, argumentsOf, mmioOf, pageFaultOf, sbiOf, stimecmpOf};
+ghost use Rattle.scope.specs.Calls.{startOf};
+ghost use Rattle.in_place_record.specs.View.{Made, trapLeaves, viewOf};
+ghost use Rattle.in_place_start.specs.Classes.{classEffect, classOf, otherClass};
+ghost use Rattle.in_place_start.specs.Words.{trapWords};
+use isa_decoder::Trapped;
+use isa_types::GuestPhysAddr;
+use scope::Access;
+use scope::Trap;
 
 // What a trap is handled as.
 pub enum Class {
@@ -44,12 +46,12 @@ pub fn trap_of(t: &[u64; 5]) -> Trap
 pub fn start(r: &mut [u64; 58], out: &mut [u64; 8], t: Trap) -> u64
     ensures { λ w. ⌜ Made (trapLeaves (now (r .entry))) (now (out .entry)) (startOf (viewOf (now (r .entry))) t) (now (r .exit)) (now (out .exit)) w ⌝ }
 {
-    let idle = regs::is_idle(place_read::waiting(r));
+    let idle = decide_record::is_idle(in_place_read::waiting(r));
     started(idle, r, out, t)
 }
 
 fn started(idle: bool, r: &mut [u64; 58], out: &mut [u64; 8], t: Trap) -> u64
-    ensures { λ w. ⌜ Made (trapLeaves (now (r .entry))) (now (out .entry)) (applied (viewOf (now (r .entry))) (startedOf idle (viewOf (now (r .entry)) .x) (viewOf (now (r .entry)) .csrs) (viewOf (now (r .entry)) .waiting) t)) (now (r .exit)) (now (out .exit)) w ⌝ }
+    ensures { λ w. ⌜ Made (trapLeaves (now (r .entry))) (now (out .entry)) (applied (viewOf (now (r .entry))) (pick idle (trapOf (viewOf (now (r .entry)) .x) (viewOf (now (r .entry)) .csrs) t) (refusedOf (viewOf (now (r .entry)) .csrs) (viewOf (now (r .entry)) .waiting) error.BadState))) (now (r .exit)) (now (out .exit)) w ⌝ }
 {
     if idle {
         return trapped(class_of(t.scause), r, out, t);
@@ -61,14 +63,14 @@ fn class_of(scause: u64) -> Class
     ensures { λ c. ⌜ c ≡ classOf scause ⌝ }
 {
     match scause {
-        consts::ENV_CALL_FROM_VS => Class::Ecall,
-        consts::VIRTUAL_INST => Class::Instruction,
-        consts::LOAD_GUEST_PAGE_FAULT => Class::PageFault(Access::Read),
-        consts::STORE_GUEST_PAGE_FAULT => Class::PageFault(Access::Write),
-        consts::S_SOFT => Class::External,
-        consts::S_TIMER => Class::External,
-        consts::S_EXT => Class::External,
-        _ => other(consts::is_known_cause(scause)),
+        isa_consts::ENV_CALL_FROM_VS => Class::Ecall,
+        isa_consts::VIRTUAL_INST => Class::Instruction,
+        isa_consts::LOAD_GUEST_PAGE_FAULT => Class::PageFault(Access::Read),
+        isa_consts::STORE_GUEST_PAGE_FAULT => Class::PageFault(Access::Write),
+        isa_consts::S_SOFT => Class::External,
+        isa_consts::S_TIMER => Class::External,
+        isa_consts::S_EXT => Class::External,
+        _ => other(isa_consts::is_known_cause(scause)),
     }
 }
 
@@ -85,22 +87,22 @@ fn other(known: bool) -> Class
 fn trapped(class: Class, r: &mut [u64; 58], out: &mut [u64; 8], t: Trap) -> u64
     ensures { λ w. ⌜ Made (trapLeaves (now (r .entry))) (now (out .entry)) (applied (viewOf (now (r .entry))) (classEffect class (viewOf (now (r .entry)) .x) (viewOf (now (r .entry)) .csrs) t)) (now (r .exit)) (now (out .exit)) w ⌝ }
 {
-    place::sized(r);
+    in_place_record::sized(r);
     match class {
         Class::Ecall => sbi(r, out, t.room),
         Class::Instruction => stimecmp(r, out, t.stval),
         Class::PageFault(access) => page_fault_trap(r, out, t, access),
         Class::External => {
             out[0] = t.scause;
-            r[place::KIND] = 0;
+            r[in_place_record::KIND] = 0;
             1
         }
         Class::Known => {
-            r[place::KIND] = 0;
+            r[in_place_record::KIND] = 0;
             0x103
         }
         Class::Unknown => {
-            r[place::KIND] = 0;
+            r[in_place_record::KIND] = 0;
             0x104
         }
     }
@@ -109,26 +111,26 @@ fn trapped(class: Class, r: &mut [u64; 58], out: &mut [u64; 8], t: Trap) -> u64
 fn sbi(r: &mut [u64; 58], out: &mut [u64; 8], room: u64) -> u64
     ensures { λ w. ⌜ Made (trapLeaves (now (r .entry))) (now (out .entry)) (applied (viewOf (now (r .entry))) (sbiOf (viewOf (now (r .entry)) .csrs) (getD (viewOf (now (r .entry)) .x) 17 0) (getD (viewOf (now (r .entry)) .x) 16 0) (argumentsOf (viewOf (now (r .entry)) .x)) room)) (now (r .exit)) (now (out .exit)) w ⌝ }
 {
-    place::sized(r);
-    let a = place_read::args(r);
-    let d = ecall::decide(r[place::A7], r[place::A6], a, room);
-    place_call::do_call(r, out, d)
+    in_place_record::sized(r);
+    let a = in_place_read::args(r);
+    let d = decide_ecall::decide(r[in_place_record::A7], r[in_place_record::A6], a, room);
+    in_place_ecall::do_call(r, out, d)
 }
 
 fn stimecmp(r: &mut [u64; 58], out: &mut [u64; 8], stval: u64) -> u64
     ensures { λ w. ⌜ Made (trapLeaves (now (r .entry))) (now (out .entry)) (applied (viewOf (now (r .entry))) (stimecmpOf (viewOf (now (r .entry)) .csrs) stval (valueOf (viewOf (now (r .entry)) .x) (rs1Field (stval % 2 ^ 32))))) (now (r .exit)) (now (out .exit)) w ⌝ }
 {
-    place::sized(r);
-    let rs1 = place_read::read(r, fields::rs1(stval % 0x1_0000_0000));
-    let d = virtual_inst::start(stval, r[place::VSTIMECMP], rs1);
-    place_deed::do_csr(r, out, d)
+    in_place_record::sized(r);
+    let rs1 = in_place_read::read(r, isa_fields::rs1(stval % 0x1_0000_0000));
+    let d = decide_virtual_inst::start(stval, r[in_place_record::VSTIMECMP], rs1);
+    in_place_classes::do_csr(r, out, d)
 }
 
 fn page_fault_trap(r: &mut [u64; 58], out: &mut [u64; 8], t: Trap, access: Access) -> u64
     ensures { λ w. ⌜ Made (trapLeaves (now (r .entry))) (now (out .entry)) (applied (viewOf (now (r .entry))) (pageFaultOf (viewOf (now (r .entry)) .x) (viewOf (now (r .entry)) .csrs) t access)) (now (r .exit)) (now (out .exit)) w ⌝ }
 {
-    let at = registers::guest_page_fault_addr(t.htval, t.stval);
-    mmio(r, out, at, access, decoder::from_htinst(t.htinst))
+    let at = isa_registers::guest_page_fault_addr(t.htval, t.stval);
+    mmio(r, out, at, access, isa_decoder::from_htinst(t.htinst))
 }
 
 // A load or store of a device, once its instruction is known. It has one caller, and place_answer's mmio_word does the
@@ -137,7 +139,13 @@ fn page_fault_trap(r: &mut [u64; 58], out: &mut [u64; 8], t: Trap, access: Acces
 fn mmio(r: &mut [u64; 58], out: &mut [u64; 8], at: GuestPhysAddr, access: Access, i: Trapped) -> u64
     ensures { λ w. ⌜ Made (trapLeaves (now (r .entry))) (now (out .entry)) (applied (viewOf (now (r .entry))) (mmioOf (viewOf (now (r .entry)) .x) (viewOf (now (r .entry)) .csrs) at access i)) (now (r .exit)) (now (out .exit)) w ⌝ }
 {
-    place::sized(r);
-    let source = place_read::read(r, decoder::store_source(i));
-    place_deed::do_fault(r, out, at, access, page_fault::decide(access, i, source))
+    in_place_record::sized(r);
+    let source = in_place_read::read(r, isa_decoder::store_source(i));
+    in_place_classes::do_fault(
+        r,
+        out,
+        at,
+        access,
+        decide_page_fault::decide(access, i, source),
+    )
 }

@@ -1,33 +1,33 @@
 // The small writes that change a vCPU record of 58 lent words where it lies, beside those of crate place.
 ghost use mathlib.Core.Path.{_≡_};
-ghost use Rattle.regs.specs.Record.{eventNumber};
-ghost use Rattle.place.specs.Deeds.{bumpWords, injectWords, pairWords, stepWords, timerWords};
-use regs::Csrs;
-use regs::Event;
+ghost use Rattle.scope.specs.Record.{eventNumber};
+ghost use Rattle.in_place_record.specs.Deeds.{bumpWords, injectWords, pairWords, stepWords, timerWords};
+use scope::Csrs;
+use scope::Event;
 
 // Nothing waits, and sepc moves on.
 pub fn step(r: &mut [u64; 58], by: u64)
     ensures { λ _. ⌜ now (r .exit) ≡ stepWords (now (r .entry)) by ⌝ }
 {
-    r[place::KIND] = 0;
-    place::advance(r, by);
+    r[in_place_record::KIND] = 0;
+    in_place_record::advance(r, by);
 }
 
 // a0 and a1 are these, and the call is finished.
 pub fn pair(r: &mut [u64; 58], e: u64, v: u64)
     ensures { λ _. ⌜ now (r .exit) ≡ pairWords (now (r .entry)) e v ⌝ }
 {
-    r[place::KIND] = 0;
-    r[place::A0] = e;
-    r[place::A1] = v;
-    place::advance(r, 4);
+    r[in_place_record::KIND] = 0;
+    r[in_place_record::A0] = e;
+    r[in_place_record::A1] = v;
+    in_place_record::advance(r, 4);
 }
 
 // The timer is set, and counted.
 pub fn timer(r: &mut [u64; 58], deadline: u64)
     ensures { λ _. ⌜ now (r .exit) ≡ timerWords (now (r .entry)) deadline ⌝ }
 {
-    r[place::VSTIMECMP] = deadline;
+    r[in_place_record::VSTIMECMP] = deadline;
     bump(r, 1);
 }
 
@@ -40,7 +40,7 @@ pub fn bump(r: &mut [u64; 58], number: usize)
     }
     if number < 10 {
         let at = number + 44;
-        r[at] = regs::plus(r[at], 1);
+        r[at] = decide_record::plus(r[at], 1);
     }
 }
 
@@ -65,10 +65,10 @@ pub fn event_number(e: Event) -> usize
 pub fn inject(r: &mut [u64; 58], c: Csrs)
     ensures { λ _. ⌜ now (r .exit) ≡ injectWords (now (r .entry)) c ⌝ }
 {
-    r[place::KIND] = 0;
-    r[place::VSSTATUS] = c.vs.vsstatus;
-    r[place::VSEPC] = c.vs.vsepc;
-    r[place::VSCAUSE] = c.vs.vscause;
-    r[place::VSTVAL] = c.vs.vstval;
-    r[place::SEPC] = c.guest.sepc;
+    r[in_place_record::KIND] = 0;
+    r[in_place_record::VSSTATUS] = c.vs.vsstatus;
+    r[in_place_record::VSEPC] = c.vs.vsepc;
+    r[in_place_record::VSCAUSE] = c.vs.vscause;
+    r[in_place_record::VSTVAL] = c.vs.vstval;
+    r[in_place_record::SEPC] = c.guest.sepc;
 }

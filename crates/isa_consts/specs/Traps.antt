@@ -2,7 +2,7 @@
 use Prim.Native.Nat.{ℕ, _+_, _-_, _^_}
 use mathlib.Core.Bool.{Bool, true, false}
 use lib.Dec.{eqb, leb, ltb}
-use Rattle.types.specs.Pick.{pick, or}
+use Rattle.isa_types.specs.Pick.{pick, or}
 
 -- scause: the interrupt bit
 abbrev pub interruptBit : ℕ

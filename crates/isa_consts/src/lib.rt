@@ -1,7 +1,7 @@
 // The numbers of the RISC-V privileged architecture and of SBI that the handler goes by, one place for each.
 // specs/ has the numbers that definitions go by; every function that uses a constant here is proved against those.
 ghost use mathlib.Core.Path.{_≡_};
-ghost use Rattle.consts.specs.Traps.{knownCause, knownException, knownInterrupt, supervisorExternal};
+ghost use Rattle.isa_consts.specs.Traps.{knownCause, knownException, knownInterrupt, supervisorExternal};
 
 // Traps: scause and interrupt vectors.
 

@@ -2,11 +2,11 @@
 use Prim.Native.Nat.{ℕ}
 use mathlib.Core.Bool.{Bool, true, false}
 use lib.Dec.{eqb}
-use Rattle.types.specs.Pick.{pick}
-use Rattle.types.specs.declared.Width.the-variants as width
-use Rattle.decoder.specs.declared.Decoded.{Decoded}
-use Rattle.decoder.specs.declared.Decoded.the-variants as decoded
-use Rattle.fields.specs.Fields.{opcodeField, rdField, funct3Field, rs2Field}
+use Rattle.isa_types.specs.Pick.{pick}
+use Rattle.isa_types.specs.declared.Width.the-variants as width
+use Rattle.isa_decoder.specs.declared.Decoded.{Decoded}
+use Rattle.isa_decoder.specs.declared.Decoded.the-variants as decoded
+use Rattle.isa_fields.specs.Fields.{opcodeField, rdField, funct3Field, rs2Field}
 
 -- by funct3: LB, LH, LW, LD extend the sign; LBU, LHU, LWU don't; 7 is none
 unfoldable pub loadOf : ℕ → ℕ → Decoded

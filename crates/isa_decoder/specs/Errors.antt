@@ -3,11 +3,11 @@ use Prim.Native.Nat.{ℕ, _/_, _%_, _^_}
 use mathlib.Core.Bool.{Bool, true, false}
 use mathlib.Core.Path.{_≡_, refl}
 use lib.Dec.{eqb}
-use Rattle.types.specs.Pick.{pick, or, and, not}
-use Rattle.decoder.specs.declared.Trapped.{Trapped}
-use Rattle.decoder.specs.declared.Trapped.the-variants as trapped
-use Rattle.decoder.specs.declared.Decoded.{Decoded}
-use Rattle.decoder.specs.Length.{htinstOf, transformedOf, fetchedOf}
+use Rattle.isa_types.specs.Pick.{pick, or, and, not}
+use Rattle.isa_decoder.specs.declared.Trapped.{Trapped}
+use Rattle.isa_decoder.specs.declared.Trapped.the-variants as trapped
+use Rattle.isa_decoder.specs.declared.Decoded.{Decoded}
+use Rattle.isa_decoder.specs.Length.{htinstOf, transformedOf, fetchedOf}
 
 -- an access of the page-table walk
 unfoldable pub isPseudo : Trapped → Bool

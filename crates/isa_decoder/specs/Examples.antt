@@ -1,13 +1,13 @@
 -- Words of document 01's marked cases, decoded.
 use mathlib.Core.Bool.{true}
 use mathlib.Core.Path.{_≡_, refl}
-use Rattle.types.specs.declared.Width.the-variants as width
-use Rattle.decoder.specs.declared.Decoded.the-variants as decoded
-use Rattle.decoder.specs.declared.Trapped.the-variants as trapped
-use Rattle.fields.specs.Fields.{opcodeField, rdField, funct3Field, rs1Field, rs2Field, csrField}
-use Rattle.decoder.specs.Decode.{loadOf, storeOf, decodeBy, decodeOf}
-use Rattle.decoder.specs.Length.{transformedOf, htinstOf}
-use Rattle.extension.specs.Extend.{widthBits, cutOf}
+use Rattle.isa_types.specs.declared.Width.the-variants as width
+use Rattle.isa_decoder.specs.declared.Decoded.the-variants as decoded
+use Rattle.isa_decoder.specs.declared.Trapped.the-variants as trapped
+use Rattle.isa_fields.specs.Fields.{opcodeField, rdField, funct3Field, rs1Field, rs2Field, csrField}
+use Rattle.isa_decoder.specs.Decode.{loadOf, storeOf, decodeBy, decodeOf}
+use Rattle.isa_decoder.specs.Length.{transformedOf, htinstOf}
+use Rattle.isa_extension.specs.Extend.{widthBits, cutOf}
 
 -- lw x7, 4 bytes long
 pub lw-x7 : htinstOf 0x2383 ≡ trapped.Instruction (decoded.Load width.Word true 7) 4

@@ -3,12 +3,12 @@
 use Prim.Native.Nat.{ℕ, _/_, _%_, _^_}
 use lib.Dec.{eqb}
 use lib.Bits.{bitOr}
-use Rattle.types.specs.Pick.{pick}
-use Rattle.decoder.specs.declared.Decoded.{Decoded}
-use Rattle.decoder.specs.declared.Decoded.the-variants as decoded
-use Rattle.decoder.specs.declared.Trapped.{Trapped}
-use Rattle.decoder.specs.declared.Trapped.the-variants as trapped
-use Rattle.decoder.specs.Decode.{decodeOf}
+use Rattle.isa_types.specs.Pick.{pick}
+use Rattle.isa_decoder.specs.declared.Decoded.{Decoded}
+use Rattle.isa_decoder.specs.declared.Decoded.the-variants as decoded
+use Rattle.isa_decoder.specs.declared.Trapped.{Trapped}
+use Rattle.isa_decoder.specs.declared.Trapped.the-variants as trapped
+use Rattle.isa_decoder.specs.Decode.{decodeOf}
 
 -- the low 32 bits of htinst. 0x3000 and 0x3020: a read or write of the page-table walk, and no instruction. Else low bits 01
 -- where the instruction is 2 bytes long, 11 where it is 4; the word to decode ends in 11. Bits 4..2 are not asked here

@@ -1,9 +1,9 @@
 // The instruction behind a guest page fault: its length, and whether it is a load or a store.
 // The handler knows this crate by its promises alone.
 ghost use mathlib.Core.Path.{_≡_};
-ghost use Rattle.decoder.specs.Decode.{decodeBy, decodeOf, loadOf, storeOf};
-ghost use Rattle.decoder.specs.Length.{fetchedOf, htinstOf, opSource, storeSource, transformedOf};
-use types::Width;
+ghost use Rattle.isa_decoder.specs.Decode.{decodeBy, decodeOf, loadOf, storeOf};
+ghost use Rattle.isa_decoder.specs.Length.{fetchedOf, htinstOf, opSource, storeSource, transformedOf};
+use isa_types::Width;
 
 // A load or store, whatever its encoding.
 pub enum Decoded {
@@ -89,17 +89,17 @@ pub fn from_fetched(word: u32) -> Trapped
 pub fn decode(word: u64) -> Decoded
     ensures { λ r. ⌜ r ≡ decodeOf word ⌝ }
 {
-    decode_by(fields::opcode(word), word)
+    decode_by(isa_fields::opcode(word), word)
 }
 
 fn decode_by(opcode: u64, word: u64) -> Decoded
     ensures { λ r. ⌜ r ≡ decodeBy opcode word ⌝ }
 {
     if opcode == 0x03 {
-        return load(fields::funct3(word), fields::rd(word));
+        return load(isa_fields::funct3(word), isa_fields::rd(word));
     }
     if opcode == 0x23 {
-        return store(fields::funct3(word), fields::rs2(word));
+        return store(isa_fields::funct3(word), isa_fields::rs2(word));
     }
     Decoded::Neither
 }

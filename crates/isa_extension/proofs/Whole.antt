@@ -4,9 +4,9 @@ use native.Mathlib.Nat.{mod-eq-of-lt, add-zero}
 use mathlib.Core.Bool.{Bool, true, false}
 use mathlib.Core.Path.{_≡_, refl, sym, _∙_}
 use lib.Dec.{ltb}
-use Rattle.types.specs.Pick.{pick}
-use Rattle.types.specs.declared.Width.the-variants as width
-use Rattle.extension.specs.Extend.{cutOf, extendBy, extendOf, signedBy, widthBits}
+use Rattle.isa_types.specs.Pick.{pick}
+use Rattle.isa_types.specs.declared.Width.the-variants as width
+use Rattle.isa_extension.specs.Extend.{cutOf, extendBy, extendOf, signedBy, widthBits}
 
 pub cut-whole : (n : ℕ) → n < 2 ^ 64 → n ≡ cutOf width.Double n
 unfolding cutOf widthBits

@@ -2,9 +2,9 @@
 use Prim.Native.Nat.{ℕ, _+_, _-_, _%_, _^_}
 use mathlib.Core.Bool.{Bool}
 use lib.Dec.{ltb}
-use Rattle.types.specs.Pick.{pick}
-use Rattle.types.specs.declared.Width.{Width}
-use Rattle.types.specs.declared.Width.the-variants as width
+use Rattle.isa_types.specs.Pick.{pick}
+use Rattle.isa_types.specs.declared.Width.{Width}
+use Rattle.isa_types.specs.declared.Width.the-variants as width
 
 -- the bits of a width
 unfoldable pub widthBits : Width → ℕ

@@ -4,9 +4,9 @@ use mathlib.Core.Bool.{Bool, true, false}
 use mathlib.Core.Path.{_≡_, refl, ap, _∙_}
 use native.Mathlib.Nat.{mod-mod}
 use lib.Dec.{ltb}
-use Rattle.types.specs.Pick.{pick}
-use Rattle.types.specs.declared.Width.{Width}
-use Rattle.extension.specs.Extend.{cutOf, extendBy, extendOf, signedBy, widthBits}
+use Rattle.isa_types.specs.Pick.{pick}
+use Rattle.isa_types.specs.declared.Width.{Width}
+use Rattle.isa_extension.specs.Extend.{cutOf, extendBy, extendOf, signedBy, widthBits}
 
 -- an unsigned load extends nothing: it writes what was read, cut to its width
 pub unsigned-cuts : (w : Width) (n : ℕ) → extendOf w false n ≡ cutOf w n

@@ -1,8 +1,8 @@
 // A number cut to a width and extended from it.
 ghost use mathlib.Core.Path.{_≡_};
 ghost use Prim.Native.Nat.{_+_, _<_, _≤_, _^_};
-ghost use Rattle.extension.specs.Extend.{cutOf, extendBy, extendOf, signedBy};
-use types::Width;
+ghost use Rattle.isa_extension.specs.Extend.{cutOf, extendBy, extendOf, signedBy};
+use isa_types::Width;
 
 // A number cut to a width: what a store writes.
 pub fn cut(width: Width, n: u64) -> u64

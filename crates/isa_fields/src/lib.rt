@@ -1,6 +1,6 @@
 // The fields of a 32-bit instruction word.
 ghost use mathlib.Core.Path.{_≡_};
-ghost use Rattle.fields.specs.Fields.{csrField, funct3Field, opcodeField, rdField, rs1Field, rs2Field};
+ghost use Rattle.isa_fields.specs.Fields.{csrField, funct3Field, opcodeField, rdField, rs1Field, rs2Field};
 
 pub fn opcode(word: u64) -> u64
     ensures { λ r. ⌜ r ≡ opcodeField word ⌝ }

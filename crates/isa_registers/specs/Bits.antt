@@ -3,7 +3,7 @@ use Prim.Native.Nat.{ℕ, _-_, _/_, _%_, _^_}
 use mathlib.Core.Bool.{Bool}
 use lib.Dec.{eqb}
 use lib.Bits.{bitAnd, bitOr}
-use Rattle.types.specs.Pick.{pick}
+use Rattle.isa_types.specs.Pick.{pick}
 
 -- hstatus.SPVP, bit 8
 unfoldable pub spvpOf : ℕ → Bool

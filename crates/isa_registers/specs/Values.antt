@@ -1,7 +1,7 @@
 -- Values of hypervisor CSRs. PRIV, 'Hypervisor Extension': hgatp, htval, hedeleg, hideleg; 01, The record and Guest page fault.
 use Prim.Native.Nat.{ℕ, _+_, _*_, _/_, _%_, _^_}
 use lib.Bits.{bitOr}
-use Rattle.types.specs.declared.GuestPhysAddr.{GuestPhysAddr}
+use Rattle.isa_types.specs.declared.GuestPhysAddr.{GuestPhysAddr}
 
 -- hgatp: MODE in bits 63..60, bits 59..58 are 0, VMID 0 in bits 57..44, in bits 43..0 the root's page number, cut to 44 bits
 unfoldable pub hgatpOf : ℕ → ℕ → ℕ

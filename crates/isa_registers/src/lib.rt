@@ -1,8 +1,8 @@
 // Values of hypervisor CSRs: the two delegation masks, hgatp, the address behind a guest page fault, single bits.
 ghost use mathlib.Core.Path.{_≡_};
-ghost use Rattle.registers.specs.Values.{delegatedExceptions, delegatedInterrupts, guestPageFaultAddr, hgatpOf};
-ghost use Rattle.registers.specs.Bits.{sieOf, spvpOf, withBits};
-use types::GuestPhysAddr;
+ghost use Rattle.isa_registers.specs.Values.{delegatedExceptions, delegatedInterrupts, guestPageFaultAddr, hgatpOf};
+ghost use Rattle.isa_registers.specs.Bits.{sieOf, spvpOf, withBits};
+use isa_types::GuestPhysAddr;
 
 // hgatp from a translation mode and the address of the root page table.
 pub fn hgatp_value(mode: u64, root: u64) -> u64

@@ -1,3 +1,1 @@
 pub mod Pick
-pub mod Numbers
-pub mod Values

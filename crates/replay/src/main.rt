@@ -2,7 +2,7 @@
 // (01, Replay program). It only reads, feeds and writes: crate capture says what comes out.
 use libc::STDIN_FILENO;
 use libc::STDOUT_FILENO;
-use steps::State;
+use replay_steps::State;
 
 // How a part of the work went, and the state after it.
 struct Went {
@@ -46,7 +46,7 @@ fn replay(fd: i32, name: &[u8]) {
 // Piece by piece. Nothing says that the input ends, so the loop has a bound: 2^64 - 1 reads.
 fn read_all(fd: i32, name: &[u8]) -> Went {
     let mut w = Went {
-        state: order::begin(),
+        state: replay_order::begin(),
         on: true,
         failed: false,
     };
@@ -88,7 +88,7 @@ fn feed(s: State, piece: &[u8]) -> Went {
     let mut t = s;
     let mut i = 0;
     while i < piece.len() {
-        let f = capture::fill(t, &piece[i..], &mut out);
+        let f = replay_capture::fill(t, &piece[i..], &mut out);
         let e = f.end;
         t = f.state;
         i += f.next;
@@ -110,7 +110,7 @@ fn feed(s: State, piece: &[u8]) -> Went {
 // What the end of the capture gives.
 fn finish(s: State) {
     let mut out = [0u8; 84];
-    let e = capture::write(order::end(s), &mut out);
+    let e = replay_capture::write(replay_order::end(s), &mut out);
     say(&out[..e]);
 }
 

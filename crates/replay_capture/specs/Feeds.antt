@@ -3,10 +3,10 @@ use Prim.Native.Nat.{ℕ, _≤_, _<_}
 use mathlib.Core.List.{List, _++_}
 use mathlib.Core.Path.{_≡_}
 use lib.ListN.{drop, length, take}
-use Rattle.steps.specs.declared.State.{State}
-use Rattle.capture.specs.declared.Fed.{Fed}
-use Rattle.capture.specs.declared.Filled.{Filled}
-use Rattle.capture.specs.Replay.{afterOf, outOf, textOf}
+use Rattle.replay_steps.specs.declared.State.{State}
+use Rattle.replay_capture.specs.declared.Fed.{Fed}
+use Rattle.replay_capture.specs.declared.Filled.{Filled}
+use Rattle.replay_capture.specs.Replay.{afterOf, outOf, textOf}
 
 -- a step
 pub record Feeds (s : State) (l : List ℕ) (r : Fed) : Type 0 where

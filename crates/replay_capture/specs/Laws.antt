@@ -8,24 +8,24 @@ use mathlib.Core.Path.{_≡_, refl, sym, ap, _∙_, subst}
 use lib.Dec.{lit≤}
 use lib.ListN.{drop, length, length-append, length-drop, take}
 use lib.Seq.{drop-drop, length-take-le, take-all}
-use Rattle.types.specs.Pick.{pick}
-use Rattle.lines.specs.declared.Got.{Got}
-use Rattle.lines.specs.declared.Got.the-variants as got
-use Rattle.lines.specs.declared.Part.{Part}
-use Rattle.lines.specs.Keys.{bytes, keyOf}
-use Rattle.lines.specs.Lines.{Read, Taken, after, lineOf, takenOf}
-use Rattle.put.specs.Put.{Put, PutLine, lineText}
-use Rattle.put.specs.PutLaws.{line-length, put-both, put-front, put-none, put-same}
-use Rattle.steps.specs.declared.Gives.{Gives}
-use Rattle.steps.specs.declared.Gives.the-variants as gives
-use Rattle.steps.specs.declared.State.{State}
-use Rattle.steps.specs.declared.Step.{Step}
-use Rattle.steps.specs.Steps.{badOf, calledOf, moreOf, nextOf, pairedOf, quiet, settledOf, startedOf, trappedOf}
-use Rattle.order.specs.Order.{gaveOf, headerOf, keptOf, tookOf, withOf}
-use Rattle.capture.specs.declared.Fed.{Fed}
-use Rattle.capture.specs.declared.Filled.{Filled}
-use Rattle.capture.specs.Feeds.{Feeds, Fills}
-use Rattle.capture.specs.Replay.{afterOf, fedOf, outOf, textOf}
+use Rattle.isa_types.specs.Pick.{pick}
+use Rattle.replay_lines.specs.declared.Got.{Got}
+use Rattle.replay_lines.specs.declared.Got.the-variants as got
+use Rattle.replay_lines.specs.declared.Part.{Part}
+use Rattle.replay_lines.specs.Keys.{bytes, keyOf}
+use Rattle.replay_lines.specs.Lines.{Read, Taken, after, lineOf, takenOf}
+use Rattle.replay_output.specs.Put.{Put, PutLine, lineText}
+use Rattle.replay_output.specs.PutLaws.{line-length, put-both, put-front, put-none, put-same}
+use Rattle.replay_steps.specs.declared.Gives.{Gives}
+use Rattle.replay_steps.specs.declared.Gives.the-variants as gives
+use Rattle.replay_steps.specs.declared.State.{State}
+use Rattle.replay_steps.specs.declared.Step.{Step}
+use Rattle.replay_steps.specs.Steps.{badOf, calledOf, moreOf, nextOf, pairedOf, quiet, settledOf, startedOf, trappedOf}
+use Rattle.replay_order.specs.Order.{gaveOf, headerOf, keptOf, tookOf, withOf}
+use Rattle.replay_capture.specs.declared.Fed.{Fed}
+use Rattle.replay_capture.specs.declared.Filled.{Filled}
+use Rattle.replay_capture.specs.Feeds.{Feeds, Fills}
+use Rattle.replay_capture.specs.Replay.{afterOf, fedOf, outOf, textOf}
 
 -- what is given takes at most 84 bytes
 pub text-short : (g : Gives) → length (textOf g) ≤ 84

@@ -1,16 +1,16 @@
 -- The replay of a capture: from all of its bytes to the whole output. 01, Replay program.
 use Prim.Native.Nat.{ℕ}
 use mathlib.Core.List.{List, [], _∷_, _++_}
-use Rattle.types.specs.Pick.{pick}
-use Rattle.lines.specs.Keys.{bytes, keyOf}
-use Rattle.lines.specs.Lines.{lineOf}
-use Rattle.put.specs.Put.{lineText}
-use Rattle.steps.specs.declared.Gives.{Gives}
-use Rattle.steps.specs.declared.Gives.the-variants as gives
-use Rattle.steps.specs.declared.State.{State}
-use Rattle.steps.specs.declared.Step.{Step}
-use Rattle.steps.specs.Steps.{quiet}
-use Rattle.order.specs.Order.{begun, endOf, gaveOf}
+use Rattle.isa_types.specs.Pick.{pick}
+use Rattle.replay_lines.specs.Keys.{bytes, keyOf}
+use Rattle.replay_lines.specs.Lines.{lineOf}
+use Rattle.replay_output.specs.Put.{lineText}
+use Rattle.replay_steps.specs.declared.Gives.{Gives}
+use Rattle.replay_steps.specs.declared.Gives.the-variants as gives
+use Rattle.replay_steps.specs.declared.State.{State}
+use Rattle.replay_steps.specs.declared.Step.{Step}
+use Rattle.replay_steps.specs.Steps.{quiet}
+use Rattle.replay_order.specs.Order.{begun, endOf, gaveOf}
 
 -- one byte; after an unfit line, nothing
 unfoldable pub fedOf : State → ℕ → Step

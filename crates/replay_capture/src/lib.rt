@@ -3,12 +3,12 @@
 ghost use mathlib.Core.Path.{_≡_};
 ghost use Prim.Native.Nat.{_+_, _≤_};
 ghost use lib.ListN.{length};
-ghost use Rattle.put.specs.Put.{Put};
-ghost use Rattle.capture.specs.Replay.{textOf};
-ghost use Rattle.capture.specs.Feeds.{Feeds, Fills};
-use steps::Gives;
-use steps::State;
-use steps::Step;
+ghost use Rattle.replay_output.specs.Put.{Put};
+ghost use Rattle.replay_capture.specs.Replay.{textOf};
+ghost use Rattle.replay_capture.specs.Feeds.{Feeds, Fills};
+use replay_steps::Gives;
+use replay_steps::State;
+use replay_steps::Step;
 
 // A step over the first bytes of a slice, and where the bytes after them begin.
 pub struct Fed {
@@ -67,9 +67,9 @@ pub fn feed(s: State, bytes: &[u8]) -> Fed
             next: bytes.len(),
         };
     }
-    let p = lines::read(s.key, s.at, s.value, bytes);
+    let p = replay_lines::read(s.key, s.at, s.value, bytes);
     let g = p.got;
-    let step = order::gave(s, g);
+    let step = replay_order::gave(s, g);
     Fed { step, next: p.next }
 }
 
@@ -88,11 +88,11 @@ fn put(g: Gives, out: &mut [u8], at: usize) -> usize
     match g {
         Gives::Nothing => at,
         Gives::Trap { exit, sepc, a0, a1 } => {
-            let p = put::put(b"exit=", exit, out, at);
-            let q = put::put(b"sepc=", sepc, out, p);
-            let r = put::put(b"a0=", a0, out, q);
-            put::put(b"a1=", a1, out, r)
+            let p = replay_output::put(b"exit=", exit, out, at);
+            let q = replay_output::put(b"sepc=", sepc, out, p);
+            let r = replay_output::put(b"a0=", a0, out, q);
+            replay_output::put(b"a1=", a1, out, r)
         }
-        Gives::Bad { line } => put::put(b"bad=", line, out, at),
+        Gives::Bad { line } => replay_output::put(b"bad=", line, out, at),
     }
 }

@@ -3,9 +3,9 @@ use Prim.Native.Nat.{ℕ, zero, suc, _+_, _-_, _*_, _/_, _%_, _^_}
 use mathlib.Core.List.{List, [], _∷_, _++_, foldl}
 use lib.Dec.{eqb, ltb}
 use lib.ListN.{length}
-use Rattle.types.specs.Pick.{pick}
-use Rattle.digits.specs.declared.Digits.{Digits}
-use Rattle.digits.specs.declared.Digits.the-variants as digits
+use Rattle.isa_types.specs.Pick.{pick}
+use Rattle.replay_digits.specs.declared.Digits.{Digits}
+use Rattle.replay_digits.specs.declared.Digits.the-variants as digits
 
 -- what a byte is as a digit: 0 to 9 stand from 48 on, a to f from 97 on; 16 if it is none
 unfoldable pub nibbleOf : ℕ → ℕ

@@ -1,6 +1,6 @@
 // Lowercase hex digits read: one byte, one digit more behind a number, sixteen digits.
 ghost use mathlib.Core.Path.{_≡_};
-ghost use Rattle.digits.specs.Hex.{digitOf, nibbleOf, pushOf, pushedOf, readOf};
+ghost use Rattle.replay_digits.specs.Hex.{digitOf, nibbleOf, pushOf, pushedOf, readOf};
 
 // What sixteen bytes are as hex digits.
 pub enum Digits {

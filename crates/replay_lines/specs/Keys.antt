@@ -5,7 +5,7 @@ use Prim.Native.String.{String, [] as none, _∷_ as _then_}
 use mathlib.Core.List.{List, [], _∷_}
 use lib.Dec.{eqb}
 use lib.ListN.{drop, take}
-use Rattle.types.specs.Pick.{pick}
+use Rattle.isa_types.specs.Pick.{pick}
 
 -- the bytes of a text
 abbrev pub bytes : String → List ℕ

@@ -5,11 +5,11 @@ use mathlib.Core.List.{List, [], _∷_, _++_}
 use mathlib.Core.Path.{_≡_}
 use lib.Dec.{eqb, ltb}
 use lib.ListN.{drop, getD, length}
-use Rattle.types.specs.Pick.{and, pick}
-use Rattle.lines.specs.declared.Got.{Got}
-use Rattle.lines.specs.declared.Got.the-variants as got
-use Rattle.lines.specs.declared.Part.{Part}
-use Rattle.digits.specs.Hex.{nibbleOf, pushOf}
+use Rattle.isa_types.specs.Pick.{and, pick}
+use Rattle.replay_lines.specs.declared.Got.{Got}
+use Rattle.replay_lines.specs.declared.Got.the-variants as got
+use Rattle.replay_lines.specs.declared.Part.{Part}
+use Rattle.replay_digits.specs.Hex.{nibbleOf, pushOf}
 
 -- a byte where the key has x
 unfoldable pub inKeyOf : ℕ → ℕ → ℕ → ℕ → Got

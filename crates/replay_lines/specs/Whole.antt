@@ -9,13 +9,13 @@ use lib.Dec.{ltb}
 use lib.ListN.{length, length-append}
 use lib.Seq.{getD-append-seam}
 use borrow.Author.Tests.{eq-eqb, le-ltb, lt-ltb}
-use Rattle.types.specs.Pick.{pick}
-use Rattle.digits.specs.declared.Digits.{Digits}
-use Rattle.digits.specs.declared.Digits.the-variants as digits
-use Rattle.lines.specs.declared.Got.{Got}
-use Rattle.lines.specs.declared.Got.the-variants as got
-use Rattle.digits.specs.Hex.{digitOf, nibbleOf, pushOf, pushedOf}
-use Rattle.lines.specs.Lines.{after, atEndOf, inDigitsOf, inKeyOf, lineOf, takenOf}
+use Rattle.isa_types.specs.Pick.{pick}
+use Rattle.replay_digits.specs.declared.Digits.{Digits}
+use Rattle.replay_digits.specs.declared.Digits.the-variants as digits
+use Rattle.replay_lines.specs.declared.Got.{Got}
+use Rattle.replay_lines.specs.declared.Got.the-variants as got
+use Rattle.replay_digits.specs.Hex.{digitOf, nibbleOf, pushOf, pushedOf}
+use Rattle.replay_lines.specs.Lines.{after, atEndOf, inDigitsOf, inKeyOf, lineOf, takenOf}
 
 -- the key's next byte
 key-step : (key p : List ℕ) (x : ℕ) (xs : List ℕ) (v : ℕ) → key ≡ p ++ x ∷ xs → lineOf key (length p) v x ≡ got.More (length p + 1) v

@@ -2,8 +2,8 @@
 // nowhere else; crate digits reads the digits, crate put writes lines.
 ghost use mathlib.Core.Path.{_≡_};
 ghost use lib.ListN.{length};
-ghost use Rattle.lines.specs.Keys.{fourAt, keyOf};
-ghost use Rattle.lines.specs.Lines.{atEndOf, inDigitsOf, inKeyOf, lineOf, Read};
+ghost use Rattle.replay_lines.specs.Keys.{fourAt, keyOf};
+ghost use Rattle.replay_lines.specs.Lines.{atEndOf, inDigitsOf, inKeyOf, lineOf, Read};
 
 // What is known of a line after some of its bytes.
 pub enum Got {
@@ -101,7 +101,7 @@ fn line(key: &[u8], at: usize, v: u64, b: u8) -> Got
         return in_key(at + 1, v, b, key[at]);
     }
     if at - key.len() < 16 {
-        return in_digits(at + 1, v, digits::nibble(b));
+        return in_digits(at + 1, v, replay_digits::nibble(b));
     }
     at_end(v, b)
 }
@@ -121,7 +121,7 @@ fn in_digits(next: usize, v: u64, d: u64) -> Got
     ensures { λ r. ⌜ r ≡ inDigitsOf next v d ⌝ }
 {
     if d < 16 {
-        return Got::More(next, digits::push(v, d));
+        return Got::More(next, replay_digits::push(v, d));
     }
     Got::Unfit
 }

@@ -2,17 +2,17 @@
 use Prim.Native.Nat.{ℕ, _+_, _-_}
 use mathlib.Core.Bool.{true, false}
 use lib.Dec.{eqb}
-use Rattle.types.specs.Pick.{and, pick, wrapped}
-use Rattle.regs.specs.declared.Vcpu.{Vcpu}
-use Rattle.regs.specs.Record.{timed}
-use Rattle.lines.specs.declared.Got.{Got}
-use Rattle.lines.specs.declared.Got.the-variants as got
-use Rattle.calls.specs.Calls.{newOf, setEntryOf, setGprOf, setupOf}
-use Rattle.steps.specs.declared.Gives.{Gives}
-use Rattle.steps.specs.declared.Gives.the-variants as gives
-use Rattle.steps.specs.declared.State.{State}
-use Rattle.steps.specs.declared.Step.{Step}
-use Rattle.steps.specs.Steps.{badOf, moreOf, nextOf, quiet, startedOf}
+use Rattle.isa_types.specs.Pick.{and, pick, wrapped}
+use Rattle.scope.specs.declared.machine.Vcpu.{Vcpu}
+use Rattle.scope.specs.Record.{timed}
+use Rattle.replay_lines.specs.declared.Got.{Got}
+use Rattle.replay_lines.specs.declared.Got.the-variants as got
+use Rattle.scope.specs.Calls.{newOf, setEntryOf, setGprOf, setupOf}
+use Rattle.replay_steps.specs.declared.Gives.{Gives}
+use Rattle.replay_steps.specs.declared.Gives.the-variants as gives
+use Rattle.replay_steps.specs.declared.State.{State}
+use Rattle.replay_steps.specs.declared.Step.{Step}
+use Rattle.replay_steps.specs.Steps.{badOf, moreOf, nextOf, quiet, startedOf}
 
 -- before the first byte: a zero record after setup, and line 1
 unfoldable pub begun : State

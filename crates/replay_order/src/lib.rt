@@ -1,19 +1,19 @@
 // The order of a capture's lines, and what each does (01, Replay program): a state between two bytes takes what was
 // read of its line.
 ghost use mathlib.Core.Path.{_≡_};
-ghost use Rattle.order.specs.Order.{begun, endOf, gaveOf, headedOf, headerOf, tookOf};
-use lines::Got;
-use regs::Vcpu;
-use steps::Gives;
-use steps::State;
-use steps::Step;
-use types::GuestPhysAddr;
+ghost use Rattle.replay_order.specs.Order.{begun, endOf, gaveOf, headedOf, headerOf, tookOf};
+use isa_types::GuestPhysAddr;
+use replay_lines::Got;
+use replay_steps::Gives;
+use replay_steps::State;
+use replay_steps::Step;
+use scope::Vcpu;
 
 // Before the first byte: a zero record after setup.
 pub fn begin() -> State
     ensures { λ r. ⌜ r ≡ begun ⌝ }
 {
-    let o = setup::setup(setup::new(0, 0));
+    let o = by_value_setup::setup(by_value_setup::new(0, 0));
     let v = o.vcpu;
     State {
         vcpu: v,
@@ -45,7 +45,7 @@ pub fn gave(s: State, g: Got) -> Step
             }
         }
         Got::Whole(n) => took(s, n),
-        Got::Unfit => steps::bad(s),
+        Got::Unfit => replay_steps::bad(s),
     }
 }
 
@@ -72,7 +72,7 @@ fn took(s: State, n: u64) -> Step
     let k = s.key;
     match k {
         33 => {
-            let mut t = steps::next(s, 34);
+            let mut t = replay_steps::next(s, 34);
             t.scause = n;
             Step {
                 state: t,
@@ -80,7 +80,7 @@ fn took(s: State, n: u64) -> Step
             }
         }
         34 => {
-            let mut t = steps::next(s, 35);
+            let mut t = replay_steps::next(s, 35);
             t.stval = n;
             Step {
                 state: t,
@@ -88,23 +88,23 @@ fn took(s: State, n: u64) -> Step
             }
         }
         35 => {
-            let mut t = steps::next(s, 36);
+            let mut t = replay_steps::next(s, 36);
             t.htval = n;
             Step {
                 state: t,
                 gives: Gives::Nothing,
             }
         }
-        36 => steps::started(s, n),
+        36 => replay_steps::started(s, n),
         37 => {
-            let mut t = steps::next(s, 38);
+            let mut t = replay_steps::next(s, 38);
             t.word = n;
             Step {
                 state: t,
                 gives: Gives::Nothing,
             }
         }
-        38 => steps::more(s, n),
+        38 => replay_steps::more(s, n),
         _ => header(s, n),
     }
 }
@@ -116,7 +116,7 @@ fn header(s: State, n: u64) -> Step
     let v = s.vcpu;
     let k = s.key;
     let w = headed(v, k, n);
-    let mut t = steps::next(s, std::num::wrapping_add_usize(k, 1));
+    let mut t = replay_steps::next(s, std::num::wrapping_add_usize(k, 1));
     t.vcpu = w;
     Step {
         state: t,
@@ -129,15 +129,15 @@ fn headed(v: Vcpu, k: usize, n: u64) -> Vcpu
     ensures { λ r. ⌜ r ≡ headedOf v k n ⌝ }
 {
     if k == 0 {
-        let o = setup::set_entry(v, GuestPhysAddr(n));
+        let o = by_value_setup::set_entry(v, GuestPhysAddr(n));
         return o.vcpu;
     }
     if k == 1 {
-        let c = regs::with_timer(v.csrs, n);
+        let c = decide_record::with_timer(v.csrs, n);
         let mut w = v;
         w.csrs = c;
         return w;
     }
-    let o = gprs::set_gpr(v, k - 1, n);
+    let o = by_value_gprs::set_gpr(v, k - 1, n);
     o.vcpu
 }

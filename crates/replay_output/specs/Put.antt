@@ -3,7 +3,7 @@ use Prim.Native.Nat.{ℕ, _+_, _≤_, _<_}
 use mathlib.Core.List.{List, [], _∷_, _++_}
 use mathlib.Core.Path.{_≡_}
 use lib.ListN.{drop, length, take}
-use Rattle.digits.specs.Hex.{sixteen}
+use Rattle.replay_digits.specs.Hex.{sixteen}
 
 -- the text of a line
 unfoldable pub lineText : List ℕ → ℕ → List ℕ

@@ -1,9 +1,9 @@
 -- An error's number is small.
 use Prim.Native.Nat.{_≤_}
 use lib.Dec.{lit≤}
-use Rattle.types.specs.Numbers.{errorNumber}
-use Rattle.types.specs.declared.Error.{Error}
-use Rattle.types.specs.declared.Error.the-variants as error
+use Rattle.scope.specs.Refusals.{errorNumber}
+use Rattle.scope.specs.declared.traps.Error.{Error}
+use Rattle.scope.specs.declared.traps.Error.the-variants as error
 
 -- an error's number is small
 pub error-small : (e : Error) → errorNumber e ≤ 7

@@ -1,11 +1,11 @@
 -- Which answer the numbers word and more are. 01, Replay program.
 use Prim.Native.Nat.{ℕ, _%_, _^_}
 use lib.Dec.{eqb}
-use Rattle.types.specs.Pick.{pick}
-use Rattle.types.specs.declared.Answer.{Answer}
-use Rattle.types.specs.declared.Answer.the-variants as answer
-use Rattle.types.specs.declared.Fetch.{Fetch}
-use Rattle.types.specs.declared.Fetch.the-variants as fetch
+use Rattle.isa_types.specs.Pick.{pick}
+use Rattle.scope.specs.declared.traps.Answer.{Answer}
+use Rattle.scope.specs.declared.traps.Answer.the-variants as answer
+use Rattle.scope.specs.declared.traps.Fetch.{Fetch}
+use Rattle.scope.specs.declared.traps.Fetch.the-variants as fetch
 
 -- for a fetch, more is 0 for a word (its low 32 bits), 1 to 5 for the faults in order, whose address is word
 unfoldable pub fetchFor : ℕ → ℕ → Fetch

@@ -3,19 +3,20 @@ use Prim.Native.Nat.{ℕ, _+_}
 use mathlib.Core.Bool.{Bool, true, false}
 use lib.Dec.{eqb, ltb}
 use lib.ListN.{getD}
-use Rattle.types.specs.Pick.{and, pick, wrapped}
-use Rattle.types.specs.Numbers.{errorNumber, exitNumber}
-use Rattle.types.specs.declared.Reply.{Reply}
-use Rattle.types.specs.declared.Reply.the-variants as reply
-use Rattle.regs.specs.declared.Outcome.{Outcome}
-use Rattle.regs.specs.declared.Vcpu.{Vcpu}
-use Rattle.regs.specs.Record.{isIdle, waitingAsk}
-use Rattle.calls.specs.Calls.{answerOf, completeLoadOf, startOf}
-use Rattle.steps.specs.declared.Gives.{Gives}
-use Rattle.steps.specs.declared.Gives.the-variants as gives
-use Rattle.steps.specs.declared.State.{State}
-use Rattle.steps.specs.declared.Step.{Step}
-use Rattle.steps.specs.Pairs.{answerFor}
+use Rattle.isa_types.specs.Pick.{and, pick, wrapped}
+use Rattle.scope.specs.Refusals.{errorNumber}
+use Rattle.scope.specs.Trap.{exitNumber}
+use Rattle.scope.specs.declared.traps.Reply.{Reply}
+use Rattle.scope.specs.declared.traps.Reply.the-variants as reply
+use Rattle.scope.specs.declared.machine.Outcome.{Outcome}
+use Rattle.scope.specs.declared.machine.Vcpu.{Vcpu}
+use Rattle.scope.specs.Record.{isIdle, waitingAsk}
+use Rattle.scope.specs.Calls.{answerOf, completeLoadOf, startOf}
+use Rattle.replay_steps.specs.declared.Gives.{Gives}
+use Rattle.replay_steps.specs.declared.Gives.the-variants as gives
+use Rattle.replay_steps.specs.declared.State.{State}
+use Rattle.replay_steps.specs.declared.Step.{Step}
+use Rattle.replay_steps.specs.Pairs.{answerFor}
 
 -- the state goes on, and the output gets nothing
 abbrev pub quiet : State → Step

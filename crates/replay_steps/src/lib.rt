@@ -2,16 +2,16 @@
 // called, and the output gets a trap's four lines or the number of the unfit one.
 ghost use mathlib.Core.Path.{_≡_};
 ghost use Prim.Native.Nat.{_+_, _≤_};
-ghost use Rattle.steps.specs.Pairs.{answerFor, fetchFor};
-ghost use Rattle.steps.specs.Steps.{badOf, codeOf, moreOf, nextOf, pairedOf, settledOf, startedOf, trappedOf};
-use regs::Outcome;
-use regs::Vcpu;
-use types::Answer;
-use types::Fetch;
-use types::GuestPhysAddr;
-use types::GuestVirtAddr;
-use types::Reply;
-use types::Trap;
+ghost use Rattle.replay_steps.specs.Pairs.{answerFor, fetchFor};
+ghost use Rattle.replay_steps.specs.Steps.{badOf, codeOf, moreOf, nextOf, pairedOf, settledOf, startedOf, trappedOf};
+use isa_types::GuestPhysAddr;
+use isa_types::GuestVirtAddr;
+use scope::Answer;
+use scope::Fetch;
+use scope::Outcome;
+use scope::Reply;
+use scope::Trap;
+use scope::Vcpu;
 
 // The replay between two bytes of its capture.
 pub struct State {
@@ -94,7 +94,7 @@ pub fn started(s: State, htinst: u64) -> Step
         htinst,
         room: 4096,
     };
-    settled(s, vcpu::start(v, t))
+    settled(s, by_value_vcpu::start(v, t))
 }
 
 // An answer's or load completion's second number.
@@ -103,7 +103,7 @@ pub fn more(s: State, n: u64) -> Step
 {
     let v = s.vcpu;
     let w = v.waiting;
-    paired(s, n, regs::ask_of(w))
+    paired(s, n, decide_record::ask_of(w))
 }
 
 // The same, by the number of the ask that waits; 0 is a load.
@@ -112,15 +112,15 @@ fn paired(s: State, n: u64, ask: u64) -> Step
 {
     let v = s.vcpu;
     if ask == 0 {
-        return settled(s, vcpu::complete_load(v, s.word));
+        return settled(s, by_value_vcpu::complete_load(v, s.word));
     }
     if ask == 1 {
         if 5 < n {
             return bad(s);
         }
-        return settled(s, vcpu::answer(v, answer(ask, s.word, n)));
+        return settled(s, by_value_vcpu::answer(v, answer(ask, s.word, n)));
     }
-    settled(s, vcpu::answer(v, answer(ask, s.word, n)))
+    settled(s, by_value_vcpu::answer(v, answer(ask, s.word, n)))
 }
 
 // The answer that a pair is, by the number of the ask that waits.
@@ -173,7 +173,7 @@ fn settled(s: State, o: Outcome) -> Step
     let v = o.vcpu;
     let w = v.waiting;
     let reply = o.reply;
-    trapped(s, v, code(s.exit, reply), regs::is_idle(w))
+    trapped(s, v, code(s.exit, reply), decide_record::is_idle(w))
 }
 
 // Where nothing waits the trap is over, otherwise `word` is next.
@@ -207,11 +207,11 @@ fn code(before: u64, r: Reply) -> u64
     ensures { λ n. ⌜ n ≡ codeOf before r ⌝ }
 {
     match r {
-        Reply::Exit(e) => numbers::exit_number(e),
+        Reply::Exit(e) => words_numbers::exit_number(e),
         Reply::Ask(_) => before,
         Reply::Done => before,
         Reply::Value(_) => before,
-        Reply::Error(e) => failed(numbers::error_number(e)),
+        Reply::Error(e) => failed(words_numbers::error_number(e)),
     }
 }
 

@@ -1,31 +1,33 @@
--- Every call on a vCPU record: the whole later record, the reply, and the array beside it. 01, The record and One trap.
+-- Every call on a record.
 use Prim.Native.Nat.{ℕ}
 use mathlib.Core.Bool.{Bool}
 use mathlib.Core.List.{List, []}
-use lib.ListN.{length, replicate, set, take}
 use lib.Bits.{bitOr}
-use lib.Dec.{leb, ltb}
-use Rattle.types.specs.Pick.{pick}
-use Rattle.types.specs.declared.Answer.{Answer}
-use Rattle.types.specs.declared.Error.the-variants as error
-use Rattle.types.specs.declared.GuestPhysAddr.{GuestPhysAddr}
-use Rattle.types.specs.declared.IpiAbi.{IpiAbi}
-use Rattle.types.specs.declared.Reply.{Reply}
-use Rattle.types.specs.declared.Reply.the-variants as reply
-use Rattle.types.specs.declared.Trap.{Trap}
-use Rattle.sbi_ipi.specs.declared.IpiCompletion.{IpiCompletion}
-use Rattle.sbi_ipi.specs.Ipi.{completionNumber}
-use Rattle.regs.specs.declared.Outcome.{Outcome}
-use Rattle.regs.specs.declared.Vcpu.{Vcpu}
-use Rattle.regs.specs.declared.Waiting.{Waiting}
-use Rattle.regs.specs.declared.Waiting.the-variants as waiting
-use Rattle.regs.specs.declared.Writes.the-variants as writes
-use Rattle.regs.specs.Record.{valueOf, pended}
-use Rattle.regs.specs.Effects.{applied, doneOf, unlessAsking}
-use Rattle.host_calls.specs.HostCalls.{setupCsrs, entryCsrs, writeEffect, pagingEffect, pendingEffect, ipiWrites}
-use Rattle.answers.specs.Answers.{completedOf}
-use Rattle.calls.specs.Traps.{startEffect}
-use Rattle.calls.specs.Resume.{answerEffect}
+use lib.Dec.{ltb, leb}
+use lib.ListN.{replicate, set, length, take}
+use Rattle.isa_types.specs.declared.GuestPhysAddr.{GuestPhysAddr}
+use Rattle.isa_types.specs.Pick.{pick}
+use Rattle.scope.specs.declared.decided.IpiCompletion.{IpiCompletion}
+use Rattle.scope.specs.declared.hosts.HostCall.the-variants as hostCall
+use Rattle.scope.specs.declared.hosts.HostCall.{HostCall}
+use Rattle.scope.specs.declared.machine.Outcome.{Outcome}
+use Rattle.scope.specs.declared.machine.Vcpu.{Vcpu}
+use Rattle.scope.specs.declared.machine.Waiting.the-variants as waiting
+use Rattle.scope.specs.declared.machine.Waiting.{Waiting}
+use Rattle.scope.specs.declared.machine.Writes.the-variants as writes
+use Rattle.scope.specs.declared.traps.Answer.{Answer}
+use Rattle.scope.specs.declared.traps.Error.the-variants as error
+use Rattle.scope.specs.declared.traps.IpiAbi.{IpiAbi}
+use Rattle.scope.specs.declared.traps.Reply.the-variants as reply
+use Rattle.scope.specs.declared.traps.Reply.{Reply}
+use Rattle.scope.specs.declared.traps.Trap.{Trap}
+use Rattle.scope.specs.Classes.{startEffect}
+use Rattle.scope.specs.Ecalls.{completionNumber}
+use Rattle.scope.specs.GuestPageFault.{completedOf}
+use Rattle.scope.specs.Host.{setupCsrs, entryCsrs, writeEffect, pagingEffect, pendingEffect, ipiWrites}
+use Rattle.scope.specs.Record.{valueOf, pended, applied}
+use Rattle.scope.specs.Refusals.{doneOf, unlessAsking}
+use Rattle.scope.specs.Resume.{answerEffect}
 
 -- zeros; a0 the hart, a1 the device tree
 unfoldable pub newOf : ℕ → ℕ → Vcpu
@@ -107,3 +109,22 @@ firstOf l n = pick (leb n (length l)) (take n l) []
 -- the bytes to print: the first n of the lent buffer under ask 4, if it has n; else none
 unfoldable pub printedOf : Vcpu → List ℕ → List ℕ
 printedOf v buffer = firstOf buffer (printCount (v .waiting))
+
+-- a register read: the record unchanged, the reply, and zeros beside it
+unfoldable pub readOf : Vcpu → ℕ → Outcome
+readOf v index = record { vcpu = v; reply = getGprOf v index; args = replicate 6 0 }
+
+-- the outcome of each call
+unfoldable pub calledOf : Vcpu → HostCall → Outcome
+calledOf v hostCall.Setup = setupOf v
+calledOf v (hostCall.SetEntry at) = setEntryOf v at
+calledOf v (hostCall.GetGpr index) = readOf v index
+calledOf v (hostCall.SetGpr index value) = setGprOf v index value
+calledOf v (hostCall.SetReturnValue value) = setReturnOf v value
+calledOf v (hostCall.SetNestedPageTable levels mode root) = pagingOf v levels mode root
+calledOf v (hostCall.SetPending vector level) = pendingOf v vector level
+calledOf v (hostCall.LatchHvip bits) = latchOf v bits
+calledOf v (hostCall.CompleteIpi abi completion) = completeIpiOf v abi completion
+calledOf v (hostCall.Start t) = startOf v t
+calledOf v (hostCall.Answer a) = answerOf v a
+calledOf v (hostCall.CompleteLoad n) = completeLoadOf v n

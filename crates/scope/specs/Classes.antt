@@ -1,33 +1,32 @@
--- The start of a trap: its class by scause. 01, Classes; PRIV, 'Supervisor Cause Register' and 'Hypervisor Extension'.
+-- The start of a trap: its class by scause. 01, Classes.
 use Prim.Native.Nat.{ℕ, _%_, _^_}
 use mathlib.Core.Bool.{Bool}
 use mathlib.Core.List.{List}
-use lib.ListN.{getD}
 use lib.Dec.{eqb}
-use Rattle.types.specs.Pick.{pick}
-use Rattle.types.specs.declared.Access.{Access}
-use Rattle.types.specs.declared.Access.the-variants as access
-use Rattle.types.specs.declared.Args.{Args}
-use Rattle.types.specs.declared.Error.the-variants as error
-use Rattle.types.specs.declared.Exit.the-variants as exit
-use Rattle.types.specs.declared.GuestPhysAddr.{GuestPhysAddr}
-use Rattle.types.specs.declared.Trap.{Trap}
-use Rattle.consts.specs.Traps.{envCallFromVs, virtualInstruction, loadGuestPageFault, storeGuestPageFault, supervisorSoft, supervisorTimer, supervisorExt, knownCause}
-use Rattle.registers.specs.Values.{guestPageFaultAddr}
-use Rattle.decoder.specs.declared.Trapped.{Trapped}
-use Rattle.fields.specs.Fields.{rs1Field}
-use Rattle.decoder.specs.Length.{htinstOf, storeSource}
-use Rattle.regs.specs.declared.Csrs.{Csrs}
-use Rattle.regs.specs.declared.Effect.{Effect}
-use Rattle.regs.specs.declared.Event.the-variants as event
-use Rattle.regs.specs.declared.Waiting.{Waiting}
-use Rattle.regs.specs.declared.Writes.the-variants as writes
-use Rattle.regs.specs.Record.{valueOf, isIdle}
-use Rattle.regs.specs.Effects.{finishedOf, failedOf, refusedOf}
-use Rattle.sbi.specs.Calls.{callOf}
-use Rattle.ecall_effect.specs.Doing.{callEffect}
-use Rattle.virtual_inst.specs.Stimecmp.{startOf, csrEffect}
-use Rattle.page_fault.specs.Mmio.{faultOf, faultEffect}
+use lib.ListN.{getD}
+use Rattle.isa_decoder.specs.declared.Trapped.{Trapped}
+use Rattle.isa_types.specs.declared.GuestPhysAddr.{GuestPhysAddr}
+use Rattle.isa_consts.specs.Traps.{envCallFromVs, virtualInstruction, loadGuestPageFault, storeGuestPageFault, supervisorSoft, supervisorTimer, supervisorExt, knownCause}
+use Rattle.isa_decoder.specs.Length.{storeSource, htinstOf}
+use Rattle.isa_fields.specs.Fields.{rs1Field}
+use Rattle.isa_registers.specs.Values.{guestPageFaultAddr}
+use Rattle.isa_types.specs.Pick.{pick}
+use Rattle.scope.specs.declared.machine.Csrs.{Csrs}
+use Rattle.scope.specs.declared.machine.Effect.{Effect}
+use Rattle.scope.specs.declared.machine.Event.the-variants as event
+use Rattle.scope.specs.declared.machine.Waiting.{Waiting}
+use Rattle.scope.specs.declared.machine.Writes.the-variants as writes
+use Rattle.scope.specs.declared.traps.Access.the-variants as access
+use Rattle.scope.specs.declared.traps.Access.{Access}
+use Rattle.scope.specs.declared.traps.Args.{Args}
+use Rattle.scope.specs.declared.traps.Error.the-variants as error
+use Rattle.scope.specs.declared.traps.Exit.the-variants as exit
+use Rattle.scope.specs.declared.traps.Trap.{Trap}
+use Rattle.scope.specs.Ecalls.{ecallEffect}
+use Rattle.scope.specs.GuestPageFault.{faultOf, faultEffect}
+use Rattle.scope.specs.Record.{valueOf, isIdle}
+use Rattle.scope.specs.Refusals.{finishedOf, failedOf, refusedOf}
+use Rattle.scope.specs.VirtualInstruction.{startOf, csrEffect}
 
 -- a0 to a5 are x10 to x15
 unfoldable pub argumentsOf : List ℕ → Args
@@ -36,7 +35,7 @@ argumentsOf x =
 
 -- an ecall: what its numbers say, done
 unfoldable pub sbiOf : Csrs → ℕ → ℕ → Args → ℕ → Effect
-sbiOf c eid fid a room = callEffect c eid fid a (callOf eid fid a room)
+sbiOf c eid fid a room = ecallEffect c eid fid a room
 
 -- a virtual instruction, with the content of its rs1
 unfoldable pub stimecmpOf : Csrs → ℕ → ℕ → Effect
@@ -59,23 +58,17 @@ unfoldable pub otherOf : Csrs → Bool → Effect
 otherOf c known = pick known (failedOf c event.Quiet error.Unsupported) (failedOf c event.Quiet error.InvalidTrap)
 
 -- exceptions 10, 22, 21 and 23; interrupts 1, 5 and 9; the others
-unfoldable pub causeOf : ℕ → List ℕ → Csrs → Trap → Effect
-causeOf scause x c t =
-    pick (eqb scause envCallFromVs) (sbiOf c (getD x 17 0) (getD x 16 0) (argumentsOf x) (t .room))
-    (pick (eqb scause virtualInstruction) (stimecmpOf c (t .stval) (valueOf x (rs1Field (t .stval % 2 ^ 32))))
-    (pick (eqb scause loadGuestPageFault) (pageFaultOf x c t access.Read)
-    (pick (eqb scause storeGuestPageFault) (pageFaultOf x c t access.Write)
-    (pick (eqb scause supervisorSoft) (externalOf c scause)
-    (pick (eqb scause supervisorTimer) (externalOf c scause)
-    (pick (eqb scause supervisorExt) (externalOf c scause)
-    (otherOf c (knownCause scause))))))))
-
 unfoldable pub trapOf : List ℕ → Csrs → Trap → Effect
-trapOf x c t = causeOf (t .scause) x c t
+trapOf x c t =
+    pick (eqb (t .scause) envCallFromVs) (sbiOf c (getD x 17 0) (getD x 16 0) (argumentsOf x) (t .room))
+    (pick (eqb (t .scause) virtualInstruction) (stimecmpOf c (t .stval) (valueOf x (rs1Field (t .stval % 2 ^ 32))))
+    (pick (eqb (t .scause) loadGuestPageFault) (pageFaultOf x c t access.Read)
+    (pick (eqb (t .scause) storeGuestPageFault) (pageFaultOf x c t access.Write)
+    (pick (eqb (t .scause) supervisorSoft) (externalOf c (t .scause))
+    (pick (eqb (t .scause) supervisorTimer) (externalOf c (t .scause))
+    (pick (eqb (t .scause) supervisorExt) (externalOf c (t .scause))
+    (otherOf c (knownCause (t .scause)))))))))
 
 -- a start while an ask or a load waits is refusal 2, whatever scause is
-unfoldable pub startedOf : Bool → List ℕ → Csrs → Waiting → Trap → Effect
-startedOf idle x c w t = pick idle (trapOf x c t) (refusedOf c w error.BadState)
-
 unfoldable pub startEffect : List ℕ → Csrs → Waiting → Trap → Effect
-startEffect x c w t = startedOf (isIdle w) x c w t
+startEffect x c w t = pick (isIdle w) (trapOf x c t) (refusedOf c w error.BadState)

@@ -1,94 +1,227 @@
--- What each SBI call does, by its numbers. 01, Ecalls, in its order; eid is a7, fid a6, a0 to a5 the arguments.
+-- Ecalls: each SBI call by its numbers, its effect, and what the answers to its asks do. 01, Ecalls.
 use Prim.Native.Nat.{ℕ, _%_}
-use mathlib.Core.Bool.{Bool, true, false}
+use mathlib.Core.Bool.{false, Bool, true}
 use lib.Dec.{eqb, leb}
-use Rattle.types.specs.Pick.{pick}
-use Rattle.types.specs.declared.Args.{Args}
-use Rattle.types.specs.declared.GuestPhysAddr.{GuestPhysAddr}
-use Rattle.consts.specs.Csr.{consoleRoom}
-use Rattle.consts.specs.Sbi.{legacySetTimer, legacyPutchar, legacyGetchar, legacyClearIpi, legacySendIpi, legacyFenceI, legacySfenceVma, legacySfenceVmaAsid, legacyShutdown, eidTime, eidSpi, eidHsm, eidHvc, eidSrst, eidDbcn, eidRfnc, success, notSupported, invalidParam}
-use Rattle.sbi_ipi.specs.Ipi.{standardRequest}
-use Rattle.regs.specs.declared.Event.the-variants as event
-use Rattle.sbi.specs.declared.Call.{Call}
-use Rattle.sbi.specs.declared.Call.the-variants as call
+use Rattle.isa_types.specs.declared.GuestPhysAddr.{GuestPhysAddr}
+use Rattle.isa_consts.specs.Csr.{vssip, consoleRoom}
+use Rattle.isa_consts.specs.Sbi.{hartMaskBytes, success, failed, invalidParam, notSupported, legacySetTimer, legacyPutchar, legacyGetchar, legacyClearIpi, legacySendIpi, legacyFenceI, legacySfenceVma, legacySfenceVmaAsid, legacyShutdown, eidTime, eidSpi, eidHsm, eidHvc, eidSrst, eidDbcn, eidRfnc}
+use Rattle.isa_registers.specs.Bits.{withBits}
+use Rattle.isa_types.specs.Pick.{pick}
+use Rattle.scope.specs.declared.decided.Answered.the-variants as answered
+use Rattle.scope.specs.declared.decided.Answered.{Answered}
+use Rattle.scope.specs.declared.decided.IpiCompletion.the-variants as completion
+use Rattle.scope.specs.declared.decided.IpiCompletion.{IpiCompletion}
+use Rattle.scope.specs.declared.decided.LegacyRequest.the-variants as legacy
+use Rattle.scope.specs.declared.decided.LegacyRequest.{LegacyRequest}
+use Rattle.scope.specs.declared.machine.Csrs.{Csrs}
+use Rattle.scope.specs.declared.machine.Effect.{Effect}
+use Rattle.scope.specs.declared.machine.Event.the-variants as event
+use Rattle.scope.specs.declared.machine.Event.{Event}
+use Rattle.scope.specs.declared.machine.Waiting.the-variants as waiting
+use Rattle.scope.specs.declared.machine.Waiting.{Waiting}
+use Rattle.scope.specs.declared.machine.Writes.the-variants as writes
+use Rattle.scope.specs.declared.machine.Writes.{Writes}
+use Rattle.scope.specs.declared.traps.Args.{Args}
+use Rattle.scope.specs.declared.traps.Ask.the-variants as ask
+use Rattle.scope.specs.declared.traps.Ask.{Ask}
+use Rattle.scope.specs.declared.traps.Error.the-variants as error
+use Rattle.scope.specs.declared.traps.Exit.the-variants as exit
+use Rattle.scope.specs.declared.traps.Exit.{Exit}
+use Rattle.scope.specs.declared.traps.IpiAbi.the-variants as abi
+use Rattle.scope.specs.declared.traps.IpiRequest.{IpiRequest}
+use Rattle.scope.specs.declared.traps.Reply.the-variants as reply
+use Rattle.scope.specs.Record.{moved, timed, pended}
+use Rattle.scope.specs.Refusals.{finishedOf, askingOf, refusedOf}
 
--- "other fids": return NOT_SUPPORTED, 0
-unfoldable pub notSupportedOf : Call
-notSupportedOf = call.Returns notSupported 0
+-- sPI fid 0: SendIpi(a0, a1, v0.2)
+unfoldable pub standardRequest : ℕ → ℕ → IpiRequest
+standardRequest mask base = record { mask = mask; base = base; abi = abi.SbiV02 }
+
+-- legacy 4: a count of 8 gives SendIpi(mask, base 0, legacy), any other count is a short read
+unfoldable pub legacyRequest : ℕ → ℕ → LegacyRequest
+legacyRequest count bytes =
+    pick (eqb count hartMaskBytes)
+    (legacy.Request (record { mask = bytes; base = 0; abi = abi.Legacy }))
+    legacy.ShortRead
+
+-- IPI completion: 0, -3, -1
+unfoldable pub completionNumber : IpiCompletion → ℕ
+completionNumber completion.Success = success
+completionNumber completion.InvalidParameter = invalidParam
+completionNumber completion.Failed = failed
+
+-- "return e, v": a0 = e, a1 = v; sepc moves on by 4; exit Nothing
+unfoldable pub returnsOf : Csrs → ℕ → ℕ → Effect
+returnsOf c e v = finishedOf (moved c 4) event.Quiet (writes.Pair e v) exit.Nothing
+
+-- sepc moves on by 4, no register written
+unfoldable pub movesOf : Csrs → Exit → Effect
+movesOf c x = finishedOf (moved c 4) event.Quiet writes.Keep x
+
+-- sepc unmoved
+unfoldable pub staysOf : Csrs → Exit → Effect
+staysOf c x = finishedOf c event.Quiet writes.Keep x
+
+unfoldable pub asksOf : Csrs → Waiting → Ask → Effect
+asksOf c n a = askingOf c event.Quiet n a
+
+-- event 1, vstimecmp = deadline, then the registers; sepc moves on by 4
+unfoldable pub setTimerOf : Csrs → ℕ → Writes → Effect
+setTimerOf c deadline w = finishedOf (moved (timed c deadline) 4) event.SetTimer w exit.Nothing
+
+-- legacy 3: clear hvip bit 2, a0 = 0
+unfoldable pub clearIpiOf : Csrs → Effect
+clearIpiOf c =
+    finishedOf (moved (pended c (withBits (c .hs .hvip) vssip false)) 4) event.Quiet (writes.One 10 0) exit.Nothing
+
+-- move on, Hypercall(a6; a0 to a5)
+unfoldable pub hypercallOf : Csrs → ℕ → Args → Effect
+hypercallOf c fid a =
+    record {
+      csrs = moved c 4;
+      event = event.Quiet;
+      writes = writes.Keep;
+      waiting = waiting.Idle;
+      reply = reply.Exit (exit.Hypercall fid);
+      args = a;
+    }
 
 unfoldable pub lesserOf : ℕ → ℕ → ℕ
 lesserOf a b = pick (leb a b) a b
 
+-- "other fids": return NOT_SUPPORTED, 0
+unfoldable pub notSupportedEffect : Csrs → Effect
+notSupportedEffect c = returnsOf c notSupported 0
+
+-- ask 9 with the call's numbers; the event is counted before the ask
+unfoldable pub forwardEffect : Csrs → Event → ℕ → ℕ → Args → Effect
+forwardEffect c e eid fid a = askingOf c e waiting.Forward (ask.Forward eid fid a)
+
 -- SBI, 'Timer Extension'. fid 0: event 1, vstimecmp = a0, return 0, 0
-unfoldable pub timeOf : ℕ → Args → Call
-timeOf fid a = pick (eqb fid 0) (call.SetTimer (a .a0)) notSupportedOf
+unfoldable pub timeEffect : Csrs → ℕ → Args → Effect
+timeEffect c fid a = pick (eqb fid 0) (setTimerOf c (a .a0) (writes.Pair 0 0)) (notSupportedEffect c)
 
 -- SBI, 'IPI Extension'. fid 0: move on, SendIpi(a0, a1, v0.2)
-unfoldable pub spiOf : ℕ → Args → Call
-spiOf fid a = pick (eqb fid 0) (call.SendIpi (standardRequest (a .a0) (a .a1))) notSupportedOf
+unfoldable pub spiEffect : Csrs → ℕ → Args → Effect
+spiEffect c fid a = pick (eqb fid 0) (movesOf c (exit.SendIpi (standardRequest (a .a0) (a .a1)))) (notSupportedEffect c)
 
--- SBI, 'Hart State Management Extension'. fid 0: move on, CpuUp(a0, a1, a2); 1: CpuDown(0); 3: Halt
-unfoldable pub hsmOf : ℕ → Args → Call
-hsmOf fid a =
-    pick (eqb fid 0) (call.CpuUp (a .a0) (record { 0 = a .a1 }) (a .a2))
-    (pick (eqb fid 1) call.CpuDown
-    (pick (eqb fid 3) call.Halt
-    notSupportedOf))
+-- SBI, 'Hart State Management Extension'. fid 0: move on, CpuUp(a0, a1, a2); 1: CpuDown(0) and 3: Halt, sepc unmoved
+unfoldable pub hsmEffect : Csrs → ℕ → Args → Effect
+hsmEffect c fid a =
+    pick (eqb fid 0) (movesOf c (exit.CpuUp (a .a0) (record { 0 = a .a1 }) (a .a2)))
+    (pick (eqb fid 1) (staysOf c (exit.CpuDown 0))
+    (pick (eqb fid 3) (staysOf c exit.Halt)
+    (notSupportedEffect c)))
 
--- SBI, 'System Reset Extension'. fid 0 with a0 = 0: SystemDown; other a0: return NOT_SUPPORTED, 0
-unfoldable pub srstOf : ℕ → Args → Call
-srstOf fid a = pick (eqb fid 0) (pick (eqb (a .a0) 0) call.SystemDown notSupportedOf) notSupportedOf
+-- SBI, 'System Reset Extension'. fid 0 with a0 = 0: SystemDown, sepc unmoved; other a0: return NOT_SUPPORTED, 0
+unfoldable pub srstEffect : Csrs → ℕ → Args → Effect
+srstEffect c fid a =
+    pick (eqb fid 0) (pick (eqb (a .a0) 0) (staysOf c exit.SystemDown) (notSupportedEffect c)) (notSupportedEffect c)
 
 -- n bytes at an address: none returns 0, 0; else ask 3 for a write, ask 5 for a read
-unfoldable pub spanOf : Bool → GuestPhysAddr → ℕ → Call
-spanOf write at n =
-    pick (eqb n 0) (call.Returns success 0)
-    (pick write (call.CopyIn at n) (call.ReadConsole at n))
+unfoldable pub spanEffect : Csrs → Bool → GuestPhysAddr → ℕ → Effect
+spanEffect c write at n =
+    pick (eqb n 0) (returnsOf c success 0)
+    (pick write (asksOf c (waiting.CopyIn n) (ask.CopyIn at n))
+    (asksOf c (waiting.ReadConsole n at) (ask.ReadConsole n)))
 
 -- a0 = 0 returns 0, 0 and asks nothing; then a2 not 0 returns INVALID_PARAM, 0; n is the lesser of a0 and room
-unfoldable pub consoleOf : Bool → Args → ℕ → Call
-consoleOf write a room =
-    pick (eqb (a .a0) 0) (call.Returns success 0)
-    (pick (eqb (a .a2) 0) (spanOf write (record { 0 = a .a1 }) (lesserOf (a .a0) room))
-    (call.Returns invalidParam 0))
+unfoldable pub consoleEffect : Csrs → Bool → Args → ℕ → Effect
+consoleEffect c write a room =
+    pick (eqb (a .a0) 0) (returnsOf c success 0)
+    (pick (eqb (a .a2) 0) (spanEffect c write (record { 0 = a .a1 }) (lesserOf (a .a0) room))
+    (returnsOf c invalidParam 0))
 
 -- SBI, 'Debug Console Extension'. fid 0: write; 1: read; 2: ask 7 with a0 mod 256
-unfoldable pub dbcnOf : ℕ → Args → ℕ → Call
-dbcnOf fid a room =
-    pick (eqb fid 0) (consoleOf true a room)
-    (pick (eqb fid 1) (consoleOf false a room)
-    (pick (eqb fid 2) (call.PutByte (a .a0 % 256))
-    notSupportedOf))
+unfoldable pub dbcnEffect : Csrs → ℕ → Args → ℕ → Effect
+dbcnEffect c fid a room =
+    pick (eqb fid 0) (consoleEffect c true a room)
+    (pick (eqb fid 1) (consoleEffect c false a room)
+    (pick (eqb fid 2) (asksOf c waiting.PutByte (ask.Emit (a .a0 % 256)))
+    (notSupportedEffect c)))
 
 -- SBI, 'RFENCE Extension'. fids 0 to 6 count events 3 to 9 in order; with any fid, ask 9
-unfoldable pub rfncOf : ℕ → Call
-rfncOf fid =
-    pick (eqb fid 0) (call.Forward event.FenceI)
-    (pick (eqb fid 1) (call.Forward event.SfenceVma)
-    (pick (eqb fid 2) (call.Forward event.SfenceVmaAsid)
-    (pick (eqb fid 3) (call.Forward event.HfenceGvmaVmid)
-    (pick (eqb fid 4) (call.Forward event.HfenceGvma)
-    (pick (eqb fid 5) (call.Forward event.HfenceVvmaAsid)
-    (pick (eqb fid 6) (call.Forward event.HfenceVvma)
-    (call.Forward event.Quiet)))))))
+unfoldable pub rfncEffect : Csrs → ℕ → ℕ → Args → Effect
+rfncEffect c eid fid a =
+    pick (eqb fid 0) (forwardEffect c event.FenceI eid fid a)
+    (pick (eqb fid 1) (forwardEffect c event.SfenceVma eid fid a)
+    (pick (eqb fid 2) (forwardEffect c event.SfenceVmaAsid eid fid a)
+    (pick (eqb fid 3) (forwardEffect c event.HfenceGvmaVmid eid fid a)
+    (pick (eqb fid 4) (forwardEffect c event.HfenceGvma eid fid a)
+    (pick (eqb fid 5) (forwardEffect c event.HfenceVvmaAsid eid fid a)
+    (pick (eqb fid 6) (forwardEffect c event.HfenceVvma eid fid a)
+    (forwardEffect c event.Quiet eid fid a)))))))
 
 -- the whole list; PMU and all other eids: ask 9. Room above 4,096 counts as 4,096
-unfoldable pub callOf : ℕ → ℕ → Args → ℕ → Call
-callOf eid fid a room =
-    pick (eqb eid legacySetTimer) (call.LegacyTimer (a .a0))
-    (pick (eqb eid legacyPutchar) (call.PutChar (a .a0))
-    (pick (eqb eid legacyGetchar) call.GetChar
-    (pick (eqb eid legacyClearIpi) call.ClearIpi
-    (pick (eqb eid legacySendIpi) (call.CopyMask (record { 0 = a .a0 }))
-    (pick (eqb eid legacyFenceI) call.Moves
-    (pick (eqb eid legacySfenceVma) call.Moves
-    (pick (eqb eid legacySfenceVmaAsid) call.Moves
-    (pick (eqb eid legacyShutdown) call.SystemDown
-    (pick (eqb eid eidTime) (timeOf fid a)
-    (pick (eqb eid eidSpi) (spiOf fid a)
-    (pick (eqb eid eidHsm) (hsmOf fid a)
-    (pick (eqb eid eidHvc) call.Hypercall
-    (pick (eqb eid eidSrst) (srstOf fid a)
-    (pick (eqb eid eidDbcn) (dbcnOf fid a (lesserOf room consoleRoom))
-    (pick (eqb eid eidRfnc) (rfncOf fid)
-    (call.Forward event.Quiet))))))))))))))))
+unfoldable pub ecallEffect : Csrs → ℕ → ℕ → Args → ℕ → Effect
+ecallEffect c eid fid a room =
+    pick (eqb eid legacySetTimer) (setTimerOf c (a .a0) (writes.One 10 0))
+    (pick (eqb eid legacyPutchar) (asksOf c waiting.PutChar (ask.Emit (a .a0)))
+    (pick (eqb eid legacyGetchar) (asksOf c waiting.GetChar ask.GetChar)
+    (pick (eqb eid legacyClearIpi) (clearIpiOf c)
+    (pick (eqb eid legacySendIpi) (asksOf c waiting.CopyMask (ask.CopyMask (record { 0 = a .a0 })))
+    (pick (eqb eid legacyFenceI) (movesOf c exit.Nothing)
+    (pick (eqb eid legacySfenceVma) (movesOf c exit.Nothing)
+    (pick (eqb eid legacySfenceVmaAsid) (movesOf c exit.Nothing)
+    (pick (eqb eid legacyShutdown) (staysOf c exit.SystemDown)
+    (pick (eqb eid eidTime) (timeEffect c fid a)
+    (pick (eqb eid eidSpi) (spiEffect c fid a)
+    (pick (eqb eid eidHsm) (hsmEffect c fid a)
+    (pick (eqb eid eidHvc) (hypercallOf c fid a)
+    (pick (eqb eid eidSrst) (srstEffect c fid a)
+    (pick (eqb eid eidDbcn) (dbcnEffect c fid a (lesserOf room consoleRoom))
+    (pick (eqb eid eidRfnc) (rfncEffect c eid fid a)
+    (forwardEffect c event.Quiet eid fid a))))))))))))))))
+
+-- legacy 4: SendIpi, or a short copy returns FAILED, 0
+unfoldable pub maskOf : LegacyRequest → Answered
+maskOf (legacy.Request r) = answered.SendIpi r
+maskOf legacy.ShortRead = answered.Returns failed 0
+
+-- DBCN fid 0, ask 3: count n leads to ask 4; else FAILED, 0
+unfoldable pub copiedOf : ℕ → ℕ → Answered
+copiedOf n got = pick (eqb got n) (answered.Print n) (answered.Returns failed 0)
+
+-- DBCN fid 1, ask 5: error 0 and a value from 1 to n leads to ask 6; every other pair is returned as given
+unfoldable pub readOf : ℕ → GuestPhysAddr → ℕ → ℕ → Answered
+readOf n at error value =
+    pick (eqb error 0)
+    (pick (eqb value 0) (answered.Returns error value)
+    (pick (leb value n) (answered.CopyOut at value)
+    (answered.Returns error value)))
+    (answered.Returns error value)
+
+-- DBCN fid 1, ask 6: count v returns 0, v; other counts FAILED, 0
+unfoldable pub copiedOutOf : ℕ → ℕ → Answered
+copiedOutOf v got = pick (eqb got v) (answered.Returns success v) (answered.Returns failed 0)
+
+-- an answer's numbers, by the ask that waits. Word and more are: ask 2 count and bytes; 3 and 6 count; 4, 5 and 9 error
+-- and value; 7 none; 8 the number. (A fetch's answer is not taken here.)
+unfoldable pub answeredOf : Waiting → ℕ → ℕ → Answered
+answeredOf waiting.Idle word more = answered.Wrong
+answeredOf (waiting.Load rd w s) word more = answered.Wrong
+answeredOf waiting.FetchCsr word more = answered.Wrong
+answeredOf (waiting.FetchFault at k) word more = answered.Wrong
+answeredOf waiting.CopyMask word more = maskOf (legacyRequest word more)
+answeredOf (waiting.CopyIn n) word more = copiedOf n word
+answeredOf (waiting.Print n) word more = answered.Returns word more
+answeredOf (waiting.ReadConsole n at) word more = readOf n at word more
+answeredOf (waiting.CopyOut v) word more = copiedOutOf v word
+-- legacy 1: no register written
+answeredOf waiting.PutChar word more = answered.Moves
+-- DBCN fid 2: return 0, 0
+answeredOf waiting.PutByte word more = answered.Returns success 0
+-- legacy 2: into a0
+answeredOf waiting.GetChar word more = answered.Gives word
+-- forwarded: the pair is returned
+answeredOf waiting.Forward word more = answered.Returns word more
+
+-- sepc moves on by 4 where the call is finished
+unfoldable pub answeredEffect : Csrs → Waiting → Answered → Effect
+answeredEffect c n answered.Wrong = refusedOf c n error.WrongAnswer
+answeredEffect c n answered.Moves = finishedOf (moved c 4) event.Quiet writes.Keep exit.Nothing
+answeredEffect c n (answered.Gives v) = finishedOf (moved c 4) event.Quiet (writes.One 10 v) exit.Nothing
+answeredEffect c n (answered.Returns e v) = finishedOf (moved c 4) event.Quiet (writes.Pair e v) exit.Nothing
+answeredEffect c n (answered.SendIpi r) = finishedOf (moved c 4) event.Quiet writes.Keep (exit.SendIpi r)
+answeredEffect c n (answered.Print k) = askingOf c event.Quiet (waiting.Print k) (ask.Print k)
+answeredEffect c n (answered.CopyOut at k) = askingOf c event.Quiet (waiting.CopyOut k) (ask.CopyOut at k)

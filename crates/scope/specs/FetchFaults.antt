@@ -1,23 +1,23 @@
--- Fetching the guest's instruction, and its faults. 01, Virtual instruction; PRIV, 'Hypervisor Extension': trap entry into VS mode.
-use Prim.Native.Nat.{ℕ, _*_, _/_, _^_}
+-- Fetching the guest's instruction, and its faults. 01, Virtual instruction.
+use Prim.Native.Nat.{ℕ, _^_, _*_, _/_}
 use mathlib.Core.Bool.{false}
-use Rattle.types.specs.declared.Access.the-variants as access
-use Rattle.types.specs.declared.Ask.the-variants as ask
-use Rattle.types.specs.declared.Error.the-variants as error
-use Rattle.types.specs.declared.Exit.the-variants as exit
-use Rattle.types.specs.declared.Fetch.{Fetch}
-use Rattle.types.specs.declared.Fetch.the-variants as fetch
-use Rattle.types.specs.declared.GuestVirtAddr.{GuestVirtAddr}
-use Rattle.consts.specs.Traps.{instructionPageFault, instructionAccessFault, instructionMisaligned}
-use Rattle.registers.specs.Bits.{spvpOf, sieOf, withBits}
-use Rattle.regs.specs.declared.Csrs.{Csrs}
-use Rattle.regs.specs.declared.Effect.{Effect}
-use Rattle.regs.specs.declared.Event.the-variants as event
-use Rattle.regs.specs.declared.Waiting.{Waiting}
-use Rattle.regs.specs.declared.Writes.the-variants as writes
-use Rattle.regs.specs.Effects.{finishedOf, askingOf, failedOf}
-use Rattle.fetch.specs.declared.Missed.{Missed}
-use Rattle.fetch.specs.declared.Missed.the-variants as missed
+use Rattle.isa_types.specs.declared.GuestVirtAddr.{GuestVirtAddr}
+use Rattle.isa_consts.specs.Traps.{instructionPageFault, instructionAccessFault, instructionMisaligned}
+use Rattle.isa_registers.specs.Bits.{spvpOf, sieOf, withBits}
+use Rattle.scope.specs.declared.decided.Missed.the-variants as missed
+use Rattle.scope.specs.declared.decided.Missed.{Missed}
+use Rattle.scope.specs.declared.machine.Csrs.{Csrs}
+use Rattle.scope.specs.declared.machine.Effect.{Effect}
+use Rattle.scope.specs.declared.machine.Event.the-variants as event
+use Rattle.scope.specs.declared.machine.Waiting.{Waiting}
+use Rattle.scope.specs.declared.machine.Writes.the-variants as writes
+use Rattle.scope.specs.declared.traps.Access.the-variants as access
+use Rattle.scope.specs.declared.traps.Ask.the-variants as ask
+use Rattle.scope.specs.declared.traps.Error.the-variants as error
+use Rattle.scope.specs.declared.traps.Exit.the-variants as exit
+use Rattle.scope.specs.declared.traps.Fetch.the-variants as fetch
+use Rattle.scope.specs.declared.traps.Fetch.{Fetch}
+use Rattle.scope.specs.Refusals.{askingOf, finishedOf, failedOf}
 
 -- ask 1 at sepc; supervisor = hstatus bit 8
 unfoldable pub askFetchOf : Csrs → Waiting → Effect

@@ -1,27 +1,28 @@
--- Guest page faults. 01, Guest page fault; PRIV, 'Hypervisor Extension': load guest-page fault 21, store guest-page fault 23.
+-- Guest page faults, and a load's completion. 01, Guest page fault.
 use Prim.Native.Nat.{ℕ}
 use mathlib.Core.Bool.{Bool}
-use Rattle.types.specs.declared.Access.{Access}
-use Rattle.types.specs.declared.Access.the-variants as access
-use Rattle.types.specs.declared.Error.the-variants as error
-use Rattle.types.specs.declared.Exit.the-variants as exit
-use Rattle.types.specs.declared.GuestPhysAddr.{GuestPhysAddr}
-use Rattle.types.specs.declared.Reply.the-variants as reply
-use Rattle.types.specs.declared.Width.{Width}
-use Rattle.decoder.specs.declared.Decoded.the-variants as decoded
-use Rattle.decoder.specs.declared.Trapped.{Trapped}
-use Rattle.decoder.specs.declared.Trapped.the-variants as trapped
-use Rattle.extension.specs.Extend.{cutOf}
-use Rattle.regs.specs.declared.Csrs.{Csrs}
-use Rattle.regs.specs.declared.Effect.{Effect}
-use Rattle.regs.specs.declared.Event.the-variants as event
-use Rattle.regs.specs.declared.Waiting.the-variants as waiting
-use Rattle.regs.specs.declared.Writes.the-variants as writes
-use Rattle.regs.specs.Record.{moved}
-use Rattle.regs.specs.Effects.{noArgs, finishedOf, failedOf}
-use Rattle.fetch.specs.Faults.{askFetchOf}
-use Rattle.page_fault.specs.declared.Fault.{Fault}
-use Rattle.page_fault.specs.declared.Fault.the-variants as fault
+use Rattle.isa_decoder.specs.declared.Decoded.the-variants as decoded
+use Rattle.isa_decoder.specs.declared.Trapped.the-variants as trapped
+use Rattle.isa_decoder.specs.declared.Trapped.{Trapped}
+use Rattle.isa_types.specs.declared.GuestPhysAddr.{GuestPhysAddr}
+use Rattle.isa_types.specs.declared.Width.{Width}
+use Rattle.isa_extension.specs.Extend.{cutOf, extendOf}
+use Rattle.scope.specs.declared.decided.Fault.the-variants as fault
+use Rattle.scope.specs.declared.decided.Fault.{Fault}
+use Rattle.scope.specs.declared.machine.Csrs.{Csrs}
+use Rattle.scope.specs.declared.machine.Effect.{Effect}
+use Rattle.scope.specs.declared.machine.Event.the-variants as event
+use Rattle.scope.specs.declared.machine.Waiting.the-variants as waiting
+use Rattle.scope.specs.declared.machine.Waiting.{Waiting}
+use Rattle.scope.specs.declared.machine.Writes.the-variants as writes
+use Rattle.scope.specs.declared.traps.Access.the-variants as access
+use Rattle.scope.specs.declared.traps.Access.{Access}
+use Rattle.scope.specs.declared.traps.Error.the-variants as error
+use Rattle.scope.specs.declared.traps.Exit.the-variants as exit
+use Rattle.scope.specs.declared.traps.Reply.the-variants as reply
+use Rattle.scope.specs.FetchFaults.{askFetchOf}
+use Rattle.scope.specs.Record.{moved, noArgs}
+use Rattle.scope.specs.Refusals.{finishedOf, failedOf, refusedOf, doneOf}
 
 -- loads under 21
 unfoldable pub loadOf : Access → Width → Bool → ℕ → ℕ → Fault
@@ -60,3 +61,19 @@ faultEffect c at k (fault.Load w s rd n) =
       args = noArgs;
     }
 faultEffect c at k (fault.Store w d n) = finishedOf (moved c n) event.Quiet writes.Keep (exit.MmioWrite at w d)
+
+-- a load's completion: the number cut to the width, extended, written to rd; with no load waiting refusal 2
+unfoldable pub completedOf : Csrs → Waiting → ℕ → Effect
+completedOf c waiting.Idle n = refusedOf c waiting.Idle error.BadState
+completedOf c (waiting.Load rd w s) n = doneOf c (writes.One rd (extendOf w s n)) waiting.Idle
+completedOf c waiting.FetchCsr n = refusedOf c waiting.FetchCsr error.BadState
+completedOf c (waiting.FetchFault at k) n = refusedOf c (waiting.FetchFault at k) error.BadState
+completedOf c waiting.CopyMask n = refusedOf c waiting.CopyMask error.BadState
+completedOf c (waiting.CopyIn k) n = refusedOf c (waiting.CopyIn k) error.BadState
+completedOf c (waiting.Print k) n = refusedOf c (waiting.Print k) error.BadState
+completedOf c (waiting.ReadConsole k at) n = refusedOf c (waiting.ReadConsole k at) error.BadState
+completedOf c (waiting.CopyOut k) n = refusedOf c (waiting.CopyOut k) error.BadState
+completedOf c waiting.PutChar n = refusedOf c waiting.PutChar error.BadState
+completedOf c waiting.PutByte n = refusedOf c waiting.PutByte error.BadState
+completedOf c waiting.GetChar n = refusedOf c waiting.GetChar error.BadState
+completedOf c waiting.Forward n = refusedOf c waiting.Forward error.BadState

@@ -1,23 +1,23 @@
--- What the host's own calls change. 01, The record; the guard of refusal 2 goes before each.
+-- The host's calls: setup, registers, page table, interrupts, IPI completion. 01, The record.
 use Prim.Native.Nat.{ℕ, _%_, _^_}
 use mathlib.Core.Bool.{Bool}
-use lib.Dec.{eqb, ltb}
-use Rattle.types.specs.Pick.{pick}
-use Rattle.types.specs.declared.Error.the-variants as error
-use Rattle.types.specs.declared.GuestPhysAddr.{GuestPhysAddr}
-use Rattle.types.specs.declared.IpiAbi.{IpiAbi}
-use Rattle.types.specs.declared.IpiAbi.the-variants as abi
-use Rattle.consts.specs.Csr.{vssip, vstip, vseip, setupSstatus, setupHstatus, setupHie, noTimer}
-use Rattle.consts.specs.Traps.{supervisorSoft, supervisorTimer, supervisorExternal}
-use Rattle.registers.specs.Bits.{withBits}
-use Rattle.registers.specs.Values.{hgatpOf}
-use Rattle.regs.specs.declared.Csrs.{Csrs}
-use Rattle.regs.specs.declared.Effect.{Effect}
-use Rattle.regs.specs.declared.Waiting.{Waiting}
-use Rattle.regs.specs.declared.Writes.{Writes}
-use Rattle.regs.specs.declared.Writes.the-variants as writes
-use Rattle.regs.specs.Record.{timed, pended}
-use Rattle.regs.specs.Effects.{doneOf, refusedOf}
+use lib.Dec.{ltb, eqb}
+use Rattle.isa_types.specs.declared.GuestPhysAddr.{GuestPhysAddr}
+use Rattle.isa_consts.specs.Csr.{setupSstatus, setupHstatus, setupHie, noTimer, vssip, vstip, vseip}
+use Rattle.isa_consts.specs.Traps.{supervisorSoft, supervisorTimer, supervisorExternal}
+use Rattle.isa_registers.specs.Bits.{withBits}
+use Rattle.isa_registers.specs.Values.{hgatpOf}
+use Rattle.isa_types.specs.Pick.{pick}
+use Rattle.scope.specs.declared.machine.Csrs.{Csrs}
+use Rattle.scope.specs.declared.machine.Effect.{Effect}
+use Rattle.scope.specs.declared.machine.Waiting.{Waiting}
+use Rattle.scope.specs.declared.machine.Writes.the-variants as writes
+use Rattle.scope.specs.declared.machine.Writes.{Writes}
+use Rattle.scope.specs.declared.traps.Error.the-variants as error
+use Rattle.scope.specs.declared.traps.IpiAbi.the-variants as abi
+use Rattle.scope.specs.declared.traps.IpiAbi.{IpiAbi}
+use Rattle.scope.specs.Record.{timed, pended}
+use Rattle.scope.specs.Refusals.{doneOf, refusedOf}
 
 -- setup: sstatus 0x2100, hstatus 0x200000180, hie 0x444, vstimecmp 2^64 - 1, hvip and hgeie 0; the rest stays
 unfoldable pub setupCsrs : Csrs → Csrs

@@ -1,18 +1,22 @@
--- Reading and writing the parts of a vCPU record. 01, The record.
+-- The record: its parts read and written, and the whole outcome of an effect. 01, The record.
 use Prim.Native.Nat.{ℕ, _+_, _-_}
 use mathlib.Core.Bool.{Bool, true, false}
 use mathlib.Core.List.{List, [], _∷_}
-use lib.ListN.{set, getD}
 use lib.Dec.{eqb, ltb}
-use Rattle.types.specs.Pick.{pick, wrapped}
-use Rattle.types.specs.declared.Args.{Args}
-use Rattle.regs.specs.declared.Csrs.{Csrs}
-use Rattle.regs.specs.declared.Waiting.{Waiting}
-use Rattle.regs.specs.declared.Waiting.the-variants as waiting
-use Rattle.regs.specs.declared.Writes.{Writes}
-use Rattle.regs.specs.declared.Writes.the-variants as writes
-use Rattle.regs.specs.declared.Event.{Event}
-use Rattle.regs.specs.declared.Event.the-variants as event
+use lib.ListN.{getD, set}
+use Rattle.isa_types.specs.Pick.{pick, wrapped}
+use Rattle.scope.specs.declared.machine.Csrs.{Csrs}
+use Rattle.scope.specs.declared.machine.Effect.{Effect}
+use Rattle.scope.specs.declared.machine.Event.the-variants as event
+use Rattle.scope.specs.declared.machine.Event.{Event}
+use Rattle.scope.specs.declared.machine.Outcome.{Outcome}
+use Rattle.scope.specs.declared.machine.Vcpu.{Vcpu}
+use Rattle.scope.specs.declared.machine.Waiting.the-variants as waiting
+use Rattle.scope.specs.declared.machine.Waiting.{Waiting}
+use Rattle.scope.specs.declared.machine.Writes.the-variants as writes
+use Rattle.scope.specs.declared.machine.Writes.{Writes}
+use Rattle.scope.specs.declared.traps.Args.{Args}
+use Rattle.scope.specs.declared.traps.Reply.the-variants as reply
 
 -- register i; x0 reads 0
 unfoldable pub valueOf : List ℕ → ℕ → ℕ
@@ -114,3 +118,22 @@ isIdle waiting.Forward = false
 -- the six arguments in order
 unfoldable pub listed : Args → List ℕ
 listed a = a .a0 ∷ a .a1 ∷ a .a2 ∷ a .a3 ∷ a .a4 ∷ a .a5 ∷ []
+
+-- the whole later record, the reply, and the array beside it
+unfoldable pub applied : Vcpu → Effect → Outcome
+applied v e =
+    record {
+      vcpu =
+          record {
+            x = stored (v .x) (e .writes);
+            csrs = e .csrs;
+            counts = counted (v .counts) (e .event);
+            waiting = e .waiting;
+          };
+      reply = e .reply;
+      args = listed (e .args);
+    }
+
+-- the array beside every reply but a hypercall
+unfoldable pub noArgs : Args
+noArgs = record { a0 = 0; a1 = 0; a2 = 0; a3 = 0; a4 = 0; a5 = 0 }

@@ -1,43 +1,33 @@
--- What a call does to a record, as one effect, and the whole outcome of applying it.
+-- How a call ends: an exit, an ask, an error, a refusal. 01, Refusals and errors by number.
 use Prim.Native.Nat.{ℕ}
 use lib.Dec.{eqb}
-use Rattle.types.specs.Pick.{pick}
-use Rattle.types.specs.declared.Args.{Args}
-use Rattle.types.specs.declared.Ask.{Ask}
-use Rattle.types.specs.declared.Exit.{Exit}
-use Rattle.types.specs.declared.Error.{Error}
-use Rattle.types.specs.declared.Error.the-variants as error
-use Rattle.types.specs.declared.Reply.the-variants as reply
-use Rattle.regs.specs.declared.Csrs.{Csrs}
-use Rattle.regs.specs.declared.Vcpu.{Vcpu}
-use Rattle.regs.specs.declared.Waiting.{Waiting}
-use Rattle.regs.specs.declared.Waiting.the-variants as waiting
-use Rattle.regs.specs.declared.Writes.{Writes}
-use Rattle.regs.specs.declared.Writes.the-variants as writes
-use Rattle.regs.specs.declared.Event.{Event}
-use Rattle.regs.specs.declared.Event.the-variants as event
-use Rattle.regs.specs.declared.Effect.{Effect}
-use Rattle.regs.specs.declared.Outcome.{Outcome}
-use Rattle.regs.specs.Record.{stored, counted, listed, waitingAsk}
+use Rattle.isa_types.specs.Pick.{pick}
+use Rattle.scope.specs.declared.machine.Csrs.{Csrs}
+use Rattle.scope.specs.declared.machine.Effect.{Effect}
+use Rattle.scope.specs.declared.machine.Event.the-variants as event
+use Rattle.scope.specs.declared.machine.Event.{Event}
+use Rattle.scope.specs.declared.machine.Outcome.{Outcome}
+use Rattle.scope.specs.declared.machine.Vcpu.{Vcpu}
+use Rattle.scope.specs.declared.machine.Waiting.the-variants as waiting
+use Rattle.scope.specs.declared.machine.Waiting.{Waiting}
+use Rattle.scope.specs.declared.machine.Writes.the-variants as writes
+use Rattle.scope.specs.declared.machine.Writes.{Writes}
+use Rattle.scope.specs.declared.traps.Ask.{Ask}
+use Rattle.scope.specs.declared.traps.Error.the-variants as error
+use Rattle.scope.specs.declared.traps.Error.{Error}
+use Rattle.scope.specs.declared.traps.Exit.{Exit}
+use Rattle.scope.specs.declared.traps.Reply.the-variants as reply
+use Rattle.scope.specs.Record.{noArgs, waitingAsk, applied}
 
--- the whole later record, the reply, and the array beside it
-unfoldable pub applied : Vcpu → Effect → Outcome
-applied v e =
-    record {
-      vcpu =
-          record {
-            x = stored (v .x) (e .writes);
-            csrs = e .csrs;
-            counts = counted (v .counts) (e .event);
-            waiting = e .waiting;
-          };
-      reply = e .reply;
-      args = listed (e .args);
-    }
-
--- the array beside every reply but a hypercall
-unfoldable pub noArgs : Args
-noArgs = record { a0 = 0; a1 = 0; a2 = 0; a3 = 0; a4 = 0; a5 = 0 }
+-- 01, Refusals and errors by number
+unfoldable pub errorNumber : Error → ℕ
+errorNumber error.InvalidInput = 1
+errorNumber error.BadState = 2
+errorNumber error.Unsupported = 3
+errorNumber error.InvalidTrap = 4
+errorNumber error.DecodeFailed = 5
+errorNumber error.GuestMemoryFault = 6
+errorNumber error.WrongAnswer = 7
 
 -- a trap finished with an exit: nothing waits
 unfoldable pub finishedOf : Csrs → Event → Writes → Exit → Effect

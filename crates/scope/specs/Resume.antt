@@ -1,26 +1,26 @@
--- How the host's answer carries a trap on. 01, One trap: an answer carries its ask's number, and that is its kind.
+-- How the host's answer carries a trap on. 01, One trap.
 use Prim.Native.Nat.{ℕ}
 use mathlib.Core.List.{List}
 use lib.Dec.{eqb}
-use Rattle.types.specs.Pick.{pick}
-use Rattle.types.specs.Numbers.{answerNumber}
-use Rattle.types.specs.declared.Answer.{Answer}
-use Rattle.types.specs.declared.Answer.the-variants as answer
-use Rattle.types.specs.declared.Error.the-variants as error
-use Rattle.types.specs.declared.Fetch.{Fetch}
-use Rattle.types.specs.declared.Fetch.the-variants as fetch
-use Rattle.fields.specs.Fields.{rs1Field}
-use Rattle.decoder.specs.Length as length
-use Rattle.regs.specs.declared.Csrs.{Csrs}
-use Rattle.regs.specs.declared.Effect.{Effect}
-use Rattle.regs.specs.declared.Waiting.{Waiting}
-use Rattle.regs.specs.declared.Waiting.the-variants as waiting
-use Rattle.regs.specs.Record.{valueOf, waitingAsk}
-use Rattle.regs.specs.Effects.{refusedOf}
-use Rattle.fetch.specs.Faults.{missedOf, missedEffect}
-use Rattle.virtual_inst.specs.Stimecmp.{csrOf, csrEffect}
-use Rattle.answers.specs.Answers.{answeredOf, answeredEffect}
-use Rattle.calls.specs.Traps.{mmioOf}
+use Rattle.isa_decoder.specs.Length as length
+use Rattle.isa_fields.specs.Fields.{rs1Field}
+use Rattle.isa_types.specs.Pick.{pick}
+use Rattle.scope.specs.declared.machine.Csrs.{Csrs}
+use Rattle.scope.specs.declared.machine.Effect.{Effect}
+use Rattle.scope.specs.declared.machine.Waiting.the-variants as waiting
+use Rattle.scope.specs.declared.machine.Waiting.{Waiting}
+use Rattle.scope.specs.declared.traps.Answer.the-variants as answer
+use Rattle.scope.specs.declared.traps.Answer.{Answer}
+use Rattle.scope.specs.declared.traps.Error.the-variants as error
+use Rattle.scope.specs.declared.traps.Fetch.the-variants as fetch
+use Rattle.scope.specs.declared.traps.Fetch.{Fetch}
+use Rattle.scope.specs.Classes.{mmioOf}
+use Rattle.scope.specs.Ecalls.{answeredOf, answeredEffect}
+use Rattle.scope.specs.FetchFaults.{missedOf, missedEffect}
+use Rattle.scope.specs.Record.{valueOf, waitingAsk}
+use Rattle.scope.specs.Refusals.{refusedOf}
+use Rattle.scope.specs.Trap.{answerNumber}
+use Rattle.scope.specs.VirtualInstruction.{csrOf, csrEffect}
 
 -- the word that was fetched: a CSR instruction with its rs1, or a load or store
 unfoldable pub resumedOf : List ℕ → Csrs → Waiting → ℕ → Effect
@@ -63,8 +63,6 @@ continuedOf x c n (answer.Char number) = plainOf c n number 0
 continuedOf x c n (answer.Forwarded error value) = plainOf c n error value
 
 -- no ask waits, or the answer is of another ask's kind: refusal 7
-unfoldable pub matchedOf : ℕ → ℕ → List ℕ → Csrs → Waiting → Answer → Effect
-matchedOf ask number x c n a = pick (eqb ask number) (continuedOf x c n a) (refusedOf c n error.WrongAnswer)
-
 unfoldable pub answerEffect : List ℕ → Csrs → Waiting → Answer → Effect
-answerEffect x c n a = matchedOf (waitingAsk n) (answerNumber a) x c n a
+answerEffect x c n a =
+    pick (eqb (waitingAsk n) (answerNumber a)) (continuedOf x c n a) (refusedOf c n error.WrongAnswer)

@@ -1,22 +1,21 @@
--- The numbers that document 01 gives to widths, accesses, exits, asks, answers and errors.
+-- One trap: the numbers that document 01 gives to exits, asks, and answers, and what each carries.
 use Prim.Native.Nat.{ℕ}
 use mathlib.Core.Bool.{Bool, true, false}
-use Rattle.types.specs.declared.IpiAbi.{IpiAbi}
-use Rattle.types.specs.declared.IpiAbi.the-variants as abi
-use Rattle.types.specs.declared.Width.{Width}
-use Rattle.types.specs.declared.Width.the-variants as width
-use Rattle.types.specs.declared.Access.{Access}
-use Rattle.types.specs.declared.Access.the-variants as access
-use Rattle.types.specs.declared.Exit.{Exit}
-use Rattle.types.specs.declared.Exit.the-variants as exit
-use Rattle.types.specs.declared.Ask.{Ask}
-use Rattle.types.specs.declared.Ask.the-variants as ask
-use Rattle.types.specs.declared.Answer.{Answer}
-use Rattle.types.specs.declared.Answer.the-variants as answer
-use Rattle.types.specs.declared.Fetch.{Fetch}
-use Rattle.types.specs.declared.Fetch.the-variants as fetch
-use Rattle.types.specs.declared.Error.{Error}
-use Rattle.types.specs.declared.Error.the-variants as error
+use mathlib.Core.List.{List, [], _∷_}
+use Rattle.isa_types.specs.declared.Width.the-variants as width
+use Rattle.isa_types.specs.declared.Width.{Width}
+use Rattle.scope.specs.declared.traps.Access.the-variants as access
+use Rattle.scope.specs.declared.traps.Access.{Access}
+use Rattle.scope.specs.declared.traps.Answer.the-variants as answer
+use Rattle.scope.specs.declared.traps.Answer.{Answer}
+use Rattle.scope.specs.declared.traps.Ask.the-variants as ask
+use Rattle.scope.specs.declared.traps.Ask.{Ask}
+use Rattle.scope.specs.declared.traps.Exit.the-variants as exit
+use Rattle.scope.specs.declared.traps.Exit.{Exit}
+use Rattle.scope.specs.declared.traps.Fetch.the-variants as fetch
+use Rattle.scope.specs.declared.traps.Fetch.{Fetch}
+use Rattle.scope.specs.declared.traps.IpiAbi.the-variants as abi
+use Rattle.scope.specs.declared.traps.IpiAbi.{IpiAbi}
 
 -- ISA, 'Load and Store Instructions': bytes moved
 unfoldable pub widthBytes : Width → ℕ
@@ -78,16 +77,6 @@ fetchNumber (fetch.Misaligned a) = 3
 fetchNumber (fetch.GuestPage a) = 4
 fetchNumber fetch.Unhandled = 5
 
--- 01, Refusals and errors by number
-unfoldable pub errorNumber : Error → ℕ
-errorNumber error.InvalidInput = 1
-errorNumber error.BadState = 2
-errorNumber error.Unsupported = 3
-errorNumber error.InvalidTrap = 4
-errorNumber error.DecodeFailed = 5
-errorNumber error.GuestMemoryFault = 6
-errorNumber error.WrongAnswer = 7
-
 -- legacy 0, v0.2 1
 unfoldable pub abiNumber : IpiAbi → ℕ
 abiNumber abi.Legacy = 0
@@ -97,3 +86,50 @@ abiNumber abi.SbiV02 = 1
 unfoldable pub flagOf : Bool → ℕ
 flagOf true = 1
 flagOf false = 0
+
+-- an exit: up to three
+unfoldable pub exitValues : Exit → List ℕ
+exitValues exit.Nothing = 0 ∷ 0 ∷ 0 ∷ []
+exitValues (exit.ExternalInterrupt vector) = vector ∷ 0 ∷ 0 ∷ []
+exitValues (exit.SendIpi r) = r .mask ∷ r .base ∷ abiNumber (r .abi) ∷ []
+exitValues (exit.CpuUp target entry arg) = target ∷ entry .0 ∷ arg ∷ []
+exitValues (exit.CpuDown state) = state ∷ 0 ∷ 0 ∷ []
+exitValues exit.Halt = 0 ∷ 0 ∷ 0 ∷ []
+exitValues (exit.Hypercall nr) = nr ∷ 0 ∷ 0 ∷ []
+exitValues exit.SystemDown = 0 ∷ 0 ∷ 0 ∷ []
+exitValues (exit.NestedPageFault addr k) = addr .0 ∷ accessNumber k ∷ 0 ∷ []
+exitValues (exit.MmioRead addr w) = addr .0 ∷ widthBytes w ∷ 0 ∷ []
+exitValues (exit.MmioWrite addr w d) = addr .0 ∷ widthBytes w ∷ d ∷ []
+
+-- an ask: up to eight
+unfoldable pub askValues : Ask → List ℕ
+askValues (ask.Fetch at s) = at .0 ∷ flagOf s ∷ 0 ∷ 0 ∷ 0 ∷ 0 ∷ 0 ∷ 0 ∷ []
+askValues (ask.CopyMask at) = at .0 ∷ 0 ∷ 0 ∷ 0 ∷ 0 ∷ 0 ∷ 0 ∷ 0 ∷ []
+askValues (ask.CopyIn at n) = at .0 ∷ n ∷ 0 ∷ 0 ∷ 0 ∷ 0 ∷ 0 ∷ 0 ∷ []
+askValues (ask.Print n) = n ∷ 0 ∷ 0 ∷ 0 ∷ 0 ∷ 0 ∷ 0 ∷ 0 ∷ []
+askValues (ask.ReadConsole n) = n ∷ 0 ∷ 0 ∷ 0 ∷ 0 ∷ 0 ∷ 0 ∷ 0 ∷ []
+askValues (ask.CopyOut at n) = at .0 ∷ n ∷ 0 ∷ 0 ∷ 0 ∷ 0 ∷ 0 ∷ 0 ∷ []
+askValues (ask.Emit n) = n ∷ 0 ∷ 0 ∷ 0 ∷ 0 ∷ 0 ∷ 0 ∷ 0 ∷ []
+askValues ask.GetChar = 0 ∷ 0 ∷ 0 ∷ 0 ∷ 0 ∷ 0 ∷ 0 ∷ 0 ∷ []
+askValues (ask.Forward eid fid a) = eid ∷ fid ∷ a .a0 ∷ a .a1 ∷ a .a2 ∷ a .a3 ∷ a .a4 ∷ a .a5 ∷ []
+
+-- a fetch's result: the word, or the address of the fault
+unfoldable pub fetchValue : Fetch → ℕ
+fetchValue (fetch.Word w) = w
+fetchValue (fetch.Page a) = a .0
+fetchValue (fetch.Access a) = a .0
+fetchValue (fetch.Misaligned a) = a .0
+fetchValue (fetch.GuestPage a) = a .0
+fetchValue fetch.Unhandled = 0
+
+-- an answer: word and more of the replay program
+unfoldable pub answerValues : Answer → List ℕ
+answerValues (answer.Fetched f) = fetchValue f ∷ fetchNumber f ∷ []
+answerValues (answer.MaskCopied n b) = n ∷ b ∷ []
+answerValues (answer.CopiedIn n) = n ∷ 0 ∷ []
+answerValues (answer.Printed e v) = e ∷ v ∷ []
+answerValues (answer.ConsoleRead e v) = e ∷ v ∷ []
+answerValues (answer.CopiedOut n) = n ∷ 0 ∷ []
+answerValues answer.Emitted = 0 ∷ 0 ∷ []
+answerValues (answer.Char n) = n ∷ 0 ∷ []
+answerValues (answer.Forwarded e v) = e ∷ v ∷ []

@@ -1,24 +1,23 @@
--- CSR instructions on stimecmp. ISA, 'Zicsr': CSRRW 1, CSRRS 2, CSRRC 3, CSRRWI 5, CSRRSI 6, CSRRCI 7; PRIV, 'Sstc';
--- 01, Virtual instruction.
+-- CSR instructions on stimecmp. 01, Virtual instruction.
 use Prim.Native.Nat.{ℕ, _%_, _^_}
 use mathlib.Core.Bool.{true, false}
 use lib.Dec.{eqb}
-use Rattle.types.specs.Pick.{pick}
-use Rattle.types.specs.declared.Error.the-variants as error
-use Rattle.types.specs.declared.Exit.the-variants as exit
-use Rattle.consts.specs.Csr.{systemOpcode, stimecmp}
-use Rattle.registers.specs.Bits.{withBits}
-use Rattle.fields.specs.Fields.{opcodeField, rdField, funct3Field, rs1Field, csrField}
-use Rattle.regs.specs.declared.Csrs.{Csrs}
-use Rattle.regs.specs.declared.Effect.{Effect}
-use Rattle.regs.specs.declared.Event.the-variants as event
-use Rattle.regs.specs.declared.Waiting.the-variants as waiting
-use Rattle.regs.specs.declared.Writes.the-variants as writes
-use Rattle.regs.specs.Record.{moved, timed}
-use Rattle.regs.specs.Effects.{finishedOf, failedOf}
-use Rattle.fetch.specs.Faults.{askFetchOf}
-use Rattle.virtual_inst.specs.declared.Csr.{Csr}
-use Rattle.virtual_inst.specs.declared.Csr.the-variants as csr
+use Rattle.isa_consts.specs.Csr.{systemOpcode, stimecmp}
+use Rattle.isa_fields.specs.Fields.{rdField, funct3Field, rs1Field, opcodeField, csrField}
+use Rattle.isa_registers.specs.Bits.{withBits}
+use Rattle.isa_types.specs.Pick.{pick}
+use Rattle.scope.specs.declared.decided.Csr.the-variants as csr
+use Rattle.scope.specs.declared.decided.Csr.{Csr}
+use Rattle.scope.specs.declared.machine.Csrs.{Csrs}
+use Rattle.scope.specs.declared.machine.Effect.{Effect}
+use Rattle.scope.specs.declared.machine.Event.the-variants as event
+use Rattle.scope.specs.declared.machine.Waiting.the-variants as waiting
+use Rattle.scope.specs.declared.machine.Writes.the-variants as writes
+use Rattle.scope.specs.declared.traps.Error.the-variants as error
+use Rattle.scope.specs.declared.traps.Exit.the-variants as exit
+use Rattle.scope.specs.FetchFaults.{askFetchOf}
+use Rattle.scope.specs.Record.{moved, timed}
+use Rattle.scope.specs.Refusals.{finishedOf, failedOf}
 
 -- old OR bits; with field 0 no write
 unfoldable pub setOf : ℕ → ℕ → ℕ → ℕ

@@ -1,26 +1,29 @@
--- What the words of a record mean, one number at a time. Every pattern of words has a meaning.
+-- What the words of a record and of a call mean.
 use Prim.Native.Nat.{ℕ, _%_, _^_}
 use mathlib.Core.Bool.{Bool, true, false}
 use mathlib.Core.List.{List, [], _∷_}
-use lib.ListN.{getD}
 use lib.Dec.{eqb}
-use Rattle.types.specs.Pick.{pick}
-use Rattle.types.specs.Numbers.{accessNumber, flagOf, widthBytes}
-use Rattle.types.specs.declared.Access.{Access}
-use Rattle.types.specs.declared.Access.the-variants as access
-use Rattle.types.specs.declared.Fetch.{Fetch}
-use Rattle.types.specs.declared.Fetch.the-variants as fetch
-use Rattle.types.specs.declared.IpiAbi.{IpiAbi}
-use Rattle.types.specs.declared.IpiAbi.the-variants as abi
-use Rattle.types.specs.declared.Width.{Width}
-use Rattle.types.specs.declared.Width.the-variants as width
-use Rattle.sbi_ipi.specs.declared.IpiCompletion.{IpiCompletion}
-use Rattle.sbi_ipi.specs.declared.IpiCompletion.the-variants as completion
-use Rattle.regs.specs.declared.Csrs.{Csrs}
-use Rattle.regs.specs.declared.Vcpu.{Vcpu}
-use Rattle.regs.specs.declared.Waiting.{Waiting}
-use Rattle.regs.specs.declared.Waiting.the-variants as waiting
-use Rattle.words.specs.declared.Record.{Record}
+use lib.ListN.{getD}
+use Rattle.isa_types.specs.declared.Width.the-variants as width
+use Rattle.isa_types.specs.declared.Width.{Width}
+use Rattle.isa_types.specs.Pick.{pick}
+use Rattle.scope.specs.declared.decided.IpiCompletion.the-variants as completion
+use Rattle.scope.specs.declared.decided.IpiCompletion.{IpiCompletion}
+use Rattle.scope.specs.declared.hosts.HostCall.the-variants as hostCall
+use Rattle.scope.specs.declared.hosts.HostCall.{HostCall}
+use Rattle.scope.specs.declared.machine.Csrs.{Csrs}
+use Rattle.scope.specs.declared.machine.Record.{Record}
+use Rattle.scope.specs.declared.machine.Vcpu.{Vcpu}
+use Rattle.scope.specs.declared.machine.Waiting.the-variants as waiting
+use Rattle.scope.specs.declared.machine.Waiting.{Waiting}
+use Rattle.scope.specs.declared.traps.Access.the-variants as access
+use Rattle.scope.specs.declared.traps.Access.{Access}
+use Rattle.scope.specs.declared.traps.Answer.the-variants as answer
+use Rattle.scope.specs.declared.traps.Fetch.the-variants as fetch
+use Rattle.scope.specs.declared.traps.Fetch.{Fetch}
+use Rattle.scope.specs.declared.traps.IpiAbi.the-variants as abi
+use Rattle.scope.specs.declared.traps.IpiAbi.{IpiAbi}
+use Rattle.scope.specs.Trap.{accessNumber, flagOf, widthBytes}
 
 -- 0 is no, every other word yes
 unfoldable pub tested : ℕ → Bool
@@ -119,3 +122,36 @@ unpackOf r =
 unfoldable pub packOf : Vcpu → Record
 packOf v =
     record { x = v .x; csrs = csrsWords (v .csrs); counts = v .counts; waiting = waitingWords (v .waiting) }
+
+-- the read of a register that isn't there: refusal 1, and nothing changes
+abbrev pub nowhere : HostCall
+nowhere = hostCall.GetGpr 32
+
+-- the answer to the ask of this number
+unfoldable pub answerBy : ℕ → ℕ → ℕ → HostCall
+answerBy ask a b =
+    pick (eqb ask 1) (hostCall.Answer (answer.Fetched (fetchOf a b)))
+    (pick (eqb ask 2) (hostCall.Answer (answer.MaskCopied a b))
+    (pick (eqb ask 3) (hostCall.Answer (answer.CopiedIn a))
+    (pick (eqb ask 4) (hostCall.Answer (answer.Printed a b))
+    (pick (eqb ask 5) (hostCall.Answer (answer.ConsoleRead a b))
+    (pick (eqb ask 6) (hostCall.Answer (answer.CopiedOut a))
+    (pick (eqb ask 7) (hostCall.Answer answer.Emitted)
+    (pick (eqb ask 8) (hostCall.Answer (answer.Char a))
+    (pick (eqb ask 9) (hostCall.Answer (answer.Forwarded a b)) nowhere))))))))
+
+-- the call by its kind, from its numbers in order
+unfoldable pub callBy : ℕ → ℕ → ℕ → ℕ → ℕ → ℕ → HostCall
+callBy kind a b d e f =
+    pick (eqb kind 1) hostCall.Setup
+    (pick (eqb kind 2) (hostCall.SetEntry (record { 0 = a }))
+    (pick (eqb kind 3) (hostCall.GetGpr a)
+    (pick (eqb kind 4) (hostCall.SetGpr a b)
+    (pick (eqb kind 5) (hostCall.SetReturnValue a)
+    (pick (eqb kind 6) (hostCall.SetNestedPageTable a b d)
+    (pick (eqb kind 7) (hostCall.SetPending a (tested b))
+    (pick (eqb kind 8) (hostCall.LatchHvip a)
+    (pick (eqb kind 9) (hostCall.CompleteIpi (abiOf a) (completionOf b))
+    (pick (eqb kind 10) (hostCall.Start (record { scause = a; stval = b; htval = d; htinst = e; room = f }))
+    (pick (eqb kind 11) (answerBy a b d)
+    (pick (eqb kind 12) (hostCall.CompleteLoad a) nowhere)))))))))))

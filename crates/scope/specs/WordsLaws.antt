@@ -1,16 +1,16 @@
--- The words of any record read back as it, so no call makes an unknown kind.
+-- The words of any record read back as it.
 use mathlib.Core.Bool.{Bool, true, false}
 use mathlib.Core.Path.{_≡_, refl}
-use Rattle.types.specs.Numbers.{accessNumber, flagOf, widthBytes}
-use Rattle.types.specs.declared.Access.{Access}
-use Rattle.types.specs.declared.Access.the-variants as access
-use Rattle.types.specs.declared.Width.{Width}
-use Rattle.types.specs.declared.Width.the-variants as width
-use Rattle.regs.specs.declared.Csrs.{Csrs}
-use Rattle.regs.specs.declared.Vcpu.{Vcpu}
-use Rattle.regs.specs.declared.Waiting.{Waiting}
-use Rattle.regs.specs.declared.Waiting.the-variants as waiting
-use Rattle.words.specs.Words.{accessOf, csrsOf, csrsWords, packOf, tested, unpackOf, waitingBy, waitingOf, waitingWords, widthOf}
+use Rattle.isa_types.specs.declared.Width.the-variants as width
+use Rattle.isa_types.specs.declared.Width.{Width}
+use Rattle.scope.specs.declared.machine.Csrs.{Csrs}
+use Rattle.scope.specs.declared.machine.Vcpu.{Vcpu}
+use Rattle.scope.specs.declared.machine.Waiting.the-variants as waiting
+use Rattle.scope.specs.declared.machine.Waiting.{Waiting}
+use Rattle.scope.specs.declared.traps.Access.the-variants as access
+use Rattle.scope.specs.declared.traps.Access.{Access}
+use Rattle.scope.specs.Trap.{widthBytes, accessNumber, flagOf}
+use Rattle.scope.specs.Words.{widthOf, accessOf, tested, waitingBy, waitingOf, waitingWords, csrsOf, csrsWords, packOf, unpackOf}
 
 -- a width is that of its bytes
 pub width-back : (w : Width) → widthOf (widthBytes w) ≡ w

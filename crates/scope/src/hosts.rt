@@ -1,9 +1,9 @@
-// What a trap, an answer and every other public call does: the definitions that promises cite, and the calls as one type. No code.
-use sbi_ipi::IpiCompletion;
-use types::Answer;
-use types::GuestPhysAddr;
-use types::IpiAbi;
-use types::Trap;
+// The calls on a record as one type.
+use crate::decided::IpiCompletion;
+use crate::traps::Answer;
+use crate::traps::IpiAbi;
+use crate::traps::Trap;
+use isa_types::GuestPhysAddr;
 
 // A call on a vCPU record, with what it is given.
 pub enum HostCall {

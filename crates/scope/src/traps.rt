@@ -1,19 +1,7 @@
-// The types that several crates share: addresses, widths, asks, answers, exits, errors.
-// specs/Numbers.antt gives each enum's number in document 01, specs/Values.antt the numbers that its cases carry.
-
-// An address in a guest's physical memory.
-pub struct GuestPhysAddr(pub u64);
-
-// An address as the guest's own page tables see it.
-pub struct GuestVirtAddr(pub u64);
-
-// How many bytes a load or store moves.
-pub enum Width {
-    Byte,
-    Half,
-    Word,
-    Double,
-}
+// One trap: what the host hands in, is asked and is told. 01, One trap.
+use isa_types::GuestPhysAddr;
+use isa_types::GuestVirtAddr;
+use isa_types::Width;
 
 // What a guest was doing when its memory access failed.
 pub enum Access {

@@ -49,11 +49,11 @@ fn run(fd: i32) {
 
 // Makes a line's call. The line must be spelled as its own six words and what the call gave are.
 fn line_on(r: &mut [u64; 58], line: &[u8; 136]) -> bool {
-    let mut w = call_lines::words(line);
+    let mut w = test_call_lines::words(line);
     let mut out = [0u64; 8];
     w[6] = made(r, &mut out, w);
     w[7] = sum(r, &out);
-    call_lines::spelled(line, w)
+    test_call_lines::spelled(line, w)
 }
 
 // The call: crate abi's kinds 1 to 12, and three more. 0 writes a word of the record, 13 is to_print, 14 is new.
@@ -63,7 +63,7 @@ fn made(r: &mut [u64; 58], out: &mut [u64; 8], c: [u64; 8]) -> u64 {
     let b = c[2];
     let d = c[3];
     match kind {
-        3 => in_place_gprs::vcpu_get_gpr(r, a, out),
+        3 => in_place_entry_gprs::vcpu_get_gpr(r, a, out),
         10 => started(r, out, trap_of(c)),
         11 => answered(r, out, [a, b, d]),
         13 => printed(r, out),
@@ -77,15 +77,15 @@ fn trap_of(c: [u64; 8]) -> [u64; 5] {
 }
 
 fn started(r: &mut [u64; 58], out: &mut [u64; 8], t: [u64; 5]) -> u64 {
-    in_place_trap::vcpu_start(r, &t, out)
+    in_place_entry_trap::vcpu_start(r, &t, out)
 }
 
 fn answered(r: &mut [u64; 58], out: &mut [u64; 8], a: [u64; 3]) -> u64 {
-    in_place_trap::vcpu_answer(r, &a, out)
+    in_place_entry_trap::vcpu_answer(r, &a, out)
 }
 
 fn printed(r: &[u64; 58], out: &mut [u64; 8]) -> u64 {
-    out[0] = in_place_load::vcpu_to_print(r);
+    out[0] = in_place_entry_load::vcpu_to_print(r);
     0x41
 }
 
@@ -93,16 +93,16 @@ fn printed(r: &[u64; 58], out: &mut [u64; 8]) -> u64 {
 fn silent(r: &mut [u64; 58], kind: u64, a: u64, b: u64, d: u64) -> u64 {
     match kind {
         0 => written(r, a, b),
-        1 => in_place_setup::vcpu_setup(r),
-        2 => in_place_setup::vcpu_set_entry(r, a),
-        4 => in_place_gprs::vcpu_set_gpr(r, a, b),
-        5 => in_place_gprs::vcpu_set_return_value(r, a),
-        6 => in_place_setup::vcpu_set_nested_page_table(r, a, b, d),
-        7 => in_place_interrupts::vcpu_set_pending(r, a, b),
-        8 => in_place_interrupts::vcpu_latch_hvip(r, a),
-        9 => in_place_interrupts::vcpu_complete_ipi(r, a, b),
-        12 => in_place_load::vcpu_complete_load(r, a),
-        14 => in_place_setup::vcpu_new(r, a, b),
+        1 => in_place_entry_setup::vcpu_setup(r),
+        2 => in_place_entry_setup::vcpu_set_entry(r, a),
+        4 => in_place_entry_gprs::vcpu_set_gpr(r, a, b),
+        5 => in_place_entry_gprs::vcpu_set_return_value(r, a),
+        6 => in_place_entry_setup::vcpu_set_nested_page_table(r, a, b, d),
+        7 => in_place_entry_interrupts::vcpu_set_pending(r, a, b),
+        8 => in_place_entry_interrupts::vcpu_latch_hvip(r, a),
+        9 => in_place_entry_interrupts::vcpu_complete_ipi(r, a, b),
+        12 => in_place_entry_load::vcpu_complete_load(r, a),
+        14 => in_place_entry_setup::vcpu_new(r, a, b),
         _ => 0x101,
     }
 }
@@ -117,8 +117,8 @@ fn written(r: &mut [u64; 58], i: u64, n: u64) -> u64 {
 
 // The sum of what was given and of the record. What waits goes in by its meaning.
 fn sum(r: &[u64; 58], out: &[u64; 8]) -> u64 {
-    let w = words::waiting_words(words::waiting_of([r[54], r[55], r[56], r[57]]));
-    call_lines::all(call_lines::kept(call_lines::all(0, out), r), &w)
+    let w = words_record::waiting_words(words_record::waiting_of([r[54], r[55], r[56], r[57]]));
+    test_call_lines::all(test_call_lines::kept(test_call_lines::all(0, out), r), &w)
 }
 
 fn print(what: &[u8], n: u64) {

@@ -4,36 +4,34 @@ use mathlib.Core.Bool.{Bool, true, false}
 use mathlib.Core.List.{List, [], _∷_, _++_}
 use lib.ListN.{getD, set, replicate}
 use lib.Dec.{eqb, T}
-use Rattle.types.specs.Pick.{and}
-use Rattle.types.specs.Numbers.{abiNumber, accessNumber, answerNumber, askNumber, errorNumber, exitNumber, widthBytes}
-use Rattle.types.specs.Values.{exitValues}
-use Rattle.types.specs.declared.Answer.the-variants as answer
-use Rattle.types.specs.declared.Fetch.the-variants as fetch
-use Rattle.types.specs.declared.Reply.{Reply}
-use Rattle.types.specs.declared.Reply.the-variants as reply
-use Rattle.types.specs.declared.Trap.{Trap}
-use Rattle.consts.specs.Traps.{knownCause, knownException, knownInterrupt}
-use Rattle.registers.specs.Bits.{sieOf, spvpOf, withBits}
-use Rattle.registers.specs.Values.{guestPageFaultAddr, hgatpOf}
-use Rattle.fields.specs.Fields.{csrField, funct3Field, opcodeField, rdField, rs1Field, rs2Field}
-use Rattle.decoder.specs.Decode as decode
-use Rattle.decoder.specs.Length as length
-use Rattle.extension.specs.Extend.{cutOf, extendBy, extendOf, signedBy, widthBits}
-use Rattle.regs.specs.declared.Outcome.{Outcome}
-use Rattle.regs.specs.declared.Vcpu.{Vcpu}
-use Rattle.regs.specs.Record.{bumped, counted, eventNumber, isIdle, listed, moved, pended, stored, timed, valueOf, waitingAsk}
-use Rattle.regs.specs.Effects.{applied, askingOf, doneOf, failedOf, finishedOf, guardedOf, noArgs, refusedOf, unlessAsking}
-use Rattle.sbi.specs.Calls.{callOf, timeOf}
-use Rattle.ecall_effect.specs.Doing.{callEffect}
-use Rattle.deeds.specs.Deeds.{movesOf, setTimerOf, staysOf}
-use Rattle.fetch.specs.Faults.{askFetchOf, injectedOf, missedEffect, missedOf, trapStatusOf}
-use Rattle.virtual_inst.specs.Stimecmp as virt
-use Rattle.page_fault.specs.Mmio.{faultEffect, faultOf, loadOf, storeOf}
-use Rattle.answers.specs.Answers.{completedOf}
-use Rattle.host_calls.specs.HostCalls.{pagingBy, pagingEffect, setupCsrs, tableCsrs}
-use Rattle.calls.specs.Traps.{argumentsOf, causeOf, mmioOf, pageFaultOf, sbiOf, startEffect, startedOf, stimecmpOf, trapOf}
-use Rattle.calls.specs.Resume.{answerEffect, continuedOf, fetchedOf, matchedOf, resumedOf}
-use Rattle.calls.specs.Calls.{answerOf, completeLoadOf, newOf, pagingOf, setupOf, startOf}
+use Rattle.isa_types.specs.Pick.{and}
+use Rattle.scope.specs.Ecalls.{ecallEffect, timeEffect, spiEffect, hsmEffect, srstEffect, spanEffect, consoleEffect, dbcnEffect, rfncEffect, forwardEffect, notSupportedEffect}
+use Rattle.scope.specs.Trap.{abiNumber, accessNumber, answerNumber, askNumber, exitNumber, widthBytes, exitValues}
+use Rattle.scope.specs.Refusals.{errorNumber, askingOf, doneOf, failedOf, finishedOf, guardedOf, refusedOf, unlessAsking}
+use Rattle.scope.specs.declared.traps.Answer.the-variants as answer
+use Rattle.scope.specs.declared.traps.Fetch.the-variants as fetch
+use Rattle.scope.specs.declared.traps.Reply.{Reply}
+use Rattle.scope.specs.declared.traps.Reply.the-variants as reply
+use Rattle.scope.specs.declared.traps.Trap.{Trap}
+use Rattle.isa_consts.specs.Traps.{knownCause, knownException, knownInterrupt}
+use Rattle.isa_registers.specs.Bits.{sieOf, spvpOf, withBits}
+use Rattle.isa_registers.specs.Values.{guestPageFaultAddr, hgatpOf}
+use Rattle.isa_fields.specs.Fields.{csrField, funct3Field, opcodeField, rdField, rs1Field, rs2Field}
+use Rattle.isa_decoder.specs.Decode as decode
+use Rattle.isa_decoder.specs.Length as length
+use Rattle.isa_extension.specs.Extend.{cutOf, extendBy, extendOf, signedBy, widthBits}
+use Rattle.scope.specs.declared.machine.Outcome.{Outcome}
+use Rattle.scope.specs.declared.machine.Vcpu.{Vcpu}
+use Rattle.scope.specs.Record.{bumped, counted, eventNumber, isIdle, listed, moved, pended, stored, timed, valueOf, waitingAsk, applied, noArgs}
+use Rattle.scope.specs.Decided.{callOf, timeOf, callEffect}
+use Rattle.scope.specs.Ecalls.{movesOf, setTimerOf, staysOf}
+use Rattle.scope.specs.FetchFaults.{askFetchOf, injectedOf, missedEffect, missedOf, trapStatusOf}
+use Rattle.scope.specs.VirtualInstruction as virt
+use Rattle.scope.specs.GuestPageFault.{faultEffect, faultOf, loadOf, storeOf, completedOf}
+use Rattle.scope.specs.Host.{pagingBy, pagingEffect, setupCsrs, tableCsrs}
+use Rattle.scope.specs.Classes.{argumentsOf, mmioOf, pageFaultOf, sbiOf, startEffect, stimecmpOf, trapOf}
+use Rattle.scope.specs.Resume.{answerEffect, continuedOf, fetchedOf, resumedOf}
+use Rattle.scope.specs.Calls.{answerOf, completeLoadOf, newOf, pagingOf, setupOf, startOf}
 
 -- a record as new and setup leave it, but for sepc, the timer and the registers given
 unfoldable base : ℕ → ℕ → List ℕ → Vcpu
@@ -161,5 +159,5 @@ all (r ∷ rs) = and (equal (r .got) (r .wanted)) (all rs)
 
 -- the whole table
 cases : T (all marked)
-unfolding all equal marked row shown code base twelve startOf answerOf completeLoadOf newOf pagingOf setupOf unlessAsking startEffect startedOf trapOf causeOf sbiOf stimecmpOf mmioOf pageFaultOf argumentsOf answerEffect matchedOf continuedOf fetchedOf resumedOf pagingBy pagingEffect setupCsrs tableCsrs completedOf faultEffect faultOf loadOf storeOf virt.startOf virt.startBy virt.csrOf virt.csrBy virt.stimecmpOf virt.setOf virt.clearedOf virt.csrEffect askFetchOf injectedOf missedEffect missedOf trapStatusOf callOf timeOf callEffect movesOf setTimerOf staysOf applied askingOf doneOf failedOf finishedOf guardedOf noArgs refusedOf bumped counted eventNumber isIdle listed moved pended stored timed valueOf waitingAsk cutOf extendBy extendOf signedBy widthBits decode.decodeOf decode.decodeBy decode.loadOf decode.storeOf length.htinstOf length.transformedOf length.storeSource length.opSource csrField funct3Field opcodeField rdField rs1Field rs2Field sieOf spvpOf withBits guestPageFaultAddr hgatpOf knownCause knownException knownInterrupt exitValues exitNumber askNumber errorNumber answerNumber accessNumber widthBytes abiNumber
+unfolding all equal marked row shown code base twelve startOf answerOf completeLoadOf newOf pagingOf setupOf unlessAsking startEffect trapOf sbiOf stimecmpOf mmioOf pageFaultOf argumentsOf answerEffect continuedOf fetchedOf resumedOf pagingBy pagingEffect setupCsrs tableCsrs completedOf faultEffect faultOf loadOf storeOf virt.startOf virt.startBy virt.csrOf virt.csrBy virt.stimecmpOf virt.setOf virt.clearedOf virt.csrEffect askFetchOf injectedOf missedEffect missedOf trapStatusOf callOf timeOf callEffect movesOf setTimerOf staysOf applied askingOf doneOf failedOf finishedOf guardedOf noArgs refusedOf bumped counted eventNumber isIdle listed moved pended stored timed valueOf waitingAsk cutOf extendBy extendOf signedBy widthBits decode.decodeOf decode.decodeBy decode.loadOf decode.storeOf length.htinstOf length.transformedOf length.storeSource length.opSource csrField funct3Field opcodeField rdField rs1Field rs2Field sieOf spvpOf withBits guestPageFaultAddr hgatpOf knownCause knownException knownInterrupt exitValues exitNumber askNumber errorNumber answerNumber accessNumber widthBytes abiNumber ecallEffect timeEffect spiEffect hsmEffect srstEffect spanEffect consoleEffect dbcnEffect rfncEffect forwardEffect notSupportedEffect
 cases = tt

@@ -1,40 +1,37 @@
 -- The first four traps of each stored capture of the published Rust (docs/CAPTURES.md), by the numbers of its lines.
 -- tools/definitions.py listed writes this file.
-use Rattle.types.specs.Numbers as theTypesNumbers
-use Rattle.consts.specs.Traps as theConstsTraps
-use Rattle.registers.specs.Bits as theRegistersBits
-use Rattle.registers.specs.Values as theRegistersValues
-use Rattle.fields.specs.Fields as theFieldsFields
-use Rattle.extension.specs.Extend as theExtensionExtend
-use Rattle.decoder.specs.Decode as theDecoderDecode
-use Rattle.decoder.specs.Length as theDecoderLength
-use Rattle.sbi_ipi.specs.Ipi as theSbiIpiIpi
-use Rattle.regs.specs.Record as theRegsRecord
-use Rattle.regs.specs.Effects as theRegsEffects
-use Rattle.sbi.specs.Calls as theSbiCalls
-use Rattle.deeds.specs.Deeds as theDeedsDeeds
-use Rattle.ecall_effect.specs.Doing as theEcallEffectDoing
-use Rattle.fetch.specs.Faults as theFetchFaults
-use Rattle.virtual_inst.specs.Stimecmp as theVirtualInstStimecmp
-use Rattle.page_fault.specs.Mmio as thePageFaultMmio
-use Rattle.answers.specs.Answers as theAnswersAnswers
-use Rattle.host_calls.specs.HostCalls as theHostCallsHostCalls
-use Rattle.calls.specs.Calls as theCallsCalls
-use Rattle.calls.specs.Resume as theCallsResume
-use Rattle.calls.specs.Traps as theCallsTraps
-use Rattle.steps.specs.Pairs as theStepsPairs
-use Rattle.steps.specs.Steps as theStepsSteps
-use Rattle.order.specs.Order as theOrderOrder
-use Rattle.steps.specs.declared.State.{State}
-use Rattle.steps.specs.declared.Step.{Step}
-use Rattle.steps.specs.declared.Gives.{Gives}
-use Rattle.steps.specs.declared.Gives.the-variants as gives
-use Rattle.order.specs.Order.{begun, endOf, tookOf}
+use Rattle.scope.specs.Refusals as theTypesNumbers
+use Rattle.scope.specs.Trap as theTypesNumbers2
+use Rattle.isa_consts.specs.Traps as theConstsTraps
+use Rattle.isa_registers.specs.Bits as theRegistersBits
+use Rattle.isa_registers.specs.Values as theRegistersValues
+use Rattle.isa_fields.specs.Fields as theFieldsFields
+use Rattle.isa_extension.specs.Extend as theExtensionExtend
+use Rattle.isa_decoder.specs.Decode as theDecoderDecode
+use Rattle.isa_decoder.specs.Length as theDecoderLength
+use Rattle.scope.specs.Ecalls as theSbiIpiIpi
+use Rattle.scope.specs.Record as theRegsRecord
+use Rattle.scope.specs.Decided as theSbiCalls
+use Rattle.scope.specs.FetchFaults as theFetchFaults
+use Rattle.scope.specs.VirtualInstruction as theVirtualInstStimecmp
+use Rattle.scope.specs.GuestPageFault as thePageFaultMmio
+use Rattle.scope.specs.Host as theHostCallsHostCalls
+use Rattle.scope.specs.Calls as theCallsCalls
+use Rattle.scope.specs.Resume as theCallsResume
+use Rattle.scope.specs.Classes as theCallsTraps
+use Rattle.replay_steps.specs.Pairs as theStepsPairs
+use Rattle.replay_steps.specs.Steps as theStepsSteps
+use Rattle.replay_order.specs.Order as theOrderOrder
+use Rattle.replay_steps.specs.declared.State.{State}
+use Rattle.replay_steps.specs.declared.Step.{Step}
+use Rattle.replay_steps.specs.declared.Gives.{Gives}
+use Rattle.replay_steps.specs.declared.Gives.the-variants as gives
+use Rattle.replay_order.specs.Order.{begun, endOf, tookOf}
+use Rattle.test_definitions.specs.Same.{both, equal}
 use Prim.Native.Nat.{ℕ, _+_, _-_, _*_, _%_, _^_}
 use mathlib.Core.Bool.{Bool, true, false}
 use mathlib.Core.List.{List, [], _∷_, _++_}
 use lib.Dec.{eqb, ltb, T}
-use Rattle.listed.specs.Same.{both, equal}
 
 abbrev numbers : Gives → List ℕ → List ℕ
 numbers gives.Nothing l = l
@@ -232,5 +229,5 @@ abbrev row-60 : Bool
 row-60 = equal (gave begun (580297996689182347 ∷ 14383355142125896061 ∷ 11 ∷ 18446744073709551615 ∷ 18446744073009889093 ∷ 18446744073709551607 ∷ 7961990061063608870 ∷ 11 ∷ 72057594037927935 ∷ 0 ∷ 2 ∷ 8 ∷ 9874717285410402221 ∷ 11511835567473645518 ∷ 17087868956471828389 ∷ 1 ∷ 1853303259 ∷ 1 ∷ 3842147611772776400 ∷ 18446744073709551610 ∷ 9502028534134515256 ∷ 3144086440153372355 ∷ 1261445223168201859 ∷ 8054610332641404077 ∷ 1490682193 ∷ 16720391943930985761 ∷ 0 ∷ 0 ∷ 1 ∷ 7681012100987448341 ∷ 2147483648 ∷ 639337963543153515 ∷ 0 ∷ 21 ∷ 1257194435 ∷ 18446744073709551603 ∷ 2 ∷ 22 ∷ 1238404922052007 ∷ 5447218030234493435 ∷ 1401 ∷ 16313899617715768357 ∷ 0 ∷ 22 ∷ 4294967295 ∷ 18446744073709551614 ∷ 18446744073709551615 ∷ 16839951007158541219 ∷ 0 ∷ 23 ∷ 4 ∷ 5345329136853204508 ∷ 18446744073340816125 ∷ [])) (261 ∷ 580297996689182347 ∷ 8 ∷ 9874717285410402221 ∷ 259 ∷ 580297996689182347 ∷ 8 ∷ 9874717285410402221 ∷ 259 ∷ 580297996689182347 ∷ 8 ∷ 9874717285410402221 ∷ 8 ∷ 580297996689182347 ∷ 8 ∷ 9874717285410402221 ∷ [])
 
 rows-60 : T (both row-0 (both row-1 (both row-2 (both row-3 (both row-4 (both row-5 (both row-6 (both row-7 (both row-8 (both row-9 (both row-10 (both row-11 (both row-12 (both row-13 (both row-14 (both row-15 (both row-16 (both row-17 (both row-18 (both row-19 (both row-20 (both row-21 (both row-22 (both row-23 (both row-24 (both row-25 (both row-26 (both row-27 (both row-28 (both row-29 (both row-30 (both row-31 (both row-32 (both row-33 (both row-34 (both row-35 (both row-36 (both row-37 (both row-38 (both row-39 (both row-40 (both row-41 (both row-42 (both row-43 (both row-44 (both row-45 (both row-46 (both row-47 (both row-48 (both row-49 (both row-50 (both row-51 (both row-52 (both row-53 (both row-54 (both row-55 (both row-56 (both row-57 (both row-58 (both row-59 (both row-60 (true))))))))))))))))))))))))))))))))))))))))))))))))))))))))))))))
-unfolding theTypesNumbers.widthBytes theTypesNumbers.accessNumber theTypesNumbers.exitNumber theTypesNumbers.askNumber theTypesNumbers.answerNumber theTypesNumbers.fetchNumber theTypesNumbers.errorNumber theTypesNumbers.abiNumber theTypesNumbers.flagOf theConstsTraps.supervisorExternal theConstsTraps.knownInterrupt theConstsTraps.knownException theConstsTraps.knownCause theRegistersBits.spvpOf theRegistersBits.sieOf theRegistersBits.withBits theRegistersValues.hgatpOf theRegistersValues.guestPageFaultAddr theRegistersValues.delegatedExceptions theRegistersValues.delegatedInterrupts theFieldsFields.opcodeField theFieldsFields.rdField theFieldsFields.funct3Field theFieldsFields.rs1Field theFieldsFields.rs2Field theFieldsFields.csrField theExtensionExtend.widthBits theExtensionExtend.signedBy theExtensionExtend.extendBy theExtensionExtend.cutOf theExtensionExtend.extendOf theDecoderDecode.loadOf theDecoderDecode.storeOf theDecoderDecode.decodeBy theDecoderDecode.decodeOf theDecoderLength.transformedOf theDecoderLength.htinstOf theDecoderLength.fetchedOf theDecoderLength.opSource theDecoderLength.storeSource theSbiIpiIpi.standardRequest theSbiIpiIpi.legacyRequest theSbiIpiIpi.completionNumber theRegsRecord.valueOf theRegsRecord.stored theRegsRecord.moved theRegsRecord.timed theRegsRecord.pended theRegsRecord.eventNumber theRegsRecord.bumped theRegsRecord.counted theRegsRecord.waitingAsk theRegsRecord.isIdle theRegsRecord.listed theRegsEffects.applied theRegsEffects.noArgs theRegsEffects.finishedOf theRegsEffects.askingOf theRegsEffects.failedOf theRegsEffects.refusedOf theRegsEffects.doneOf theRegsEffects.guardedOf theRegsEffects.unlessAsking theSbiCalls.notSupportedOf theSbiCalls.lesserOf theSbiCalls.timeOf theSbiCalls.spiOf theSbiCalls.hsmOf theSbiCalls.srstOf theSbiCalls.spanOf theSbiCalls.consoleOf theSbiCalls.dbcnOf theSbiCalls.rfncOf theSbiCalls.callOf theDeedsDeeds.returnsOf theDeedsDeeds.movesOf theDeedsDeeds.staysOf theDeedsDeeds.asksOf theDeedsDeeds.setTimerOf theDeedsDeeds.clearIpiOf theDeedsDeeds.hypercallOf theEcallEffectDoing.callEffect theFetchFaults.askFetchOf theFetchFaults.missedOf theFetchFaults.trapStatusOf theFetchFaults.injectedOf theFetchFaults.missedEffect theVirtualInstStimecmp.setOf theVirtualInstStimecmp.clearedOf theVirtualInstStimecmp.stimecmpOf theVirtualInstStimecmp.csrBy theVirtualInstStimecmp.csrOf theVirtualInstStimecmp.startBy theVirtualInstStimecmp.startOf theVirtualInstStimecmp.csrEffect thePageFaultMmio.loadOf thePageFaultMmio.storeOf thePageFaultMmio.faultOf thePageFaultMmio.faultEffect theAnswersAnswers.maskOf theAnswersAnswers.copiedOf theAnswersAnswers.readOf theAnswersAnswers.copiedOutOf theAnswersAnswers.answeredOf theAnswersAnswers.answeredEffect theAnswersAnswers.completedOf theHostCallsHostCalls.setupCsrs theHostCallsHostCalls.entryCsrs theHostCallsHostCalls.writeEffect theHostCallsHostCalls.tableCsrs theHostCallsHostCalls.pagingBy theHostCallsHostCalls.pagingEffect theHostCallsHostCalls.pendingBy theHostCallsHostCalls.pendingEffect theHostCallsHostCalls.ipiWrites theCallsCalls.newOf theCallsCalls.setupOf theCallsCalls.setEntryOf theCallsCalls.getGprOf theCallsCalls.setGprOf theCallsCalls.setReturnOf theCallsCalls.pagingOf theCallsCalls.pendingOf theCallsCalls.latchOf theCallsCalls.completeIpiOf theCallsCalls.startOf theCallsCalls.answerOf theCallsCalls.completeLoadOf theCallsCalls.printCount theCallsCalls.firstOf theCallsCalls.printedOf theCallsResume.resumedOf theCallsResume.fetchedOf theCallsResume.plainOf theCallsResume.continuedOf theCallsResume.matchedOf theCallsResume.answerEffect theCallsTraps.argumentsOf theCallsTraps.sbiOf theCallsTraps.stimecmpOf theCallsTraps.mmioOf theCallsTraps.pageFaultOf theCallsTraps.externalOf theCallsTraps.otherOf theCallsTraps.causeOf theCallsTraps.trapOf theCallsTraps.startedOf theCallsTraps.startEffect theStepsPairs.fetchFor theStepsPairs.answerFor theStepsSteps.nextOf theStepsSteps.codeOf theStepsSteps.calledOf theStepsSteps.trappedOf theStepsSteps.settledOf theStepsSteps.badOf theStepsSteps.startedOf theStepsSteps.pairedOf theStepsSteps.moreOf theOrderOrder.begun theOrderOrder.headedOf theOrderOrder.headerOf theOrderOrder.keptOf theOrderOrder.tookOf theOrderOrder.withOf theOrderOrder.gaveOf theOrderOrder.endOf
+unfolding theTypesNumbers2.widthBytes theTypesNumbers2.accessNumber theTypesNumbers2.exitNumber theTypesNumbers2.askNumber theTypesNumbers2.answerNumber theTypesNumbers2.fetchNumber theTypesNumbers.errorNumber theTypesNumbers2.abiNumber theTypesNumbers2.flagOf theConstsTraps.supervisorExternal theConstsTraps.knownInterrupt theConstsTraps.knownException theConstsTraps.knownCause theRegistersBits.spvpOf theRegistersBits.sieOf theRegistersBits.withBits theRegistersValues.hgatpOf theRegistersValues.guestPageFaultAddr theRegistersValues.delegatedExceptions theRegistersValues.delegatedInterrupts theFieldsFields.opcodeField theFieldsFields.rdField theFieldsFields.funct3Field theFieldsFields.rs1Field theFieldsFields.rs2Field theFieldsFields.csrField theExtensionExtend.widthBits theExtensionExtend.signedBy theExtensionExtend.extendBy theExtensionExtend.cutOf theExtensionExtend.extendOf theDecoderDecode.loadOf theDecoderDecode.storeOf theDecoderDecode.decodeBy theDecoderDecode.decodeOf theDecoderLength.transformedOf theDecoderLength.htinstOf theDecoderLength.fetchedOf theDecoderLength.opSource theDecoderLength.storeSource theSbiIpiIpi.standardRequest theSbiIpiIpi.legacyRequest theSbiIpiIpi.completionNumber theRegsRecord.valueOf theRegsRecord.stored theRegsRecord.moved theRegsRecord.timed theRegsRecord.pended theRegsRecord.eventNumber theRegsRecord.bumped theRegsRecord.counted theRegsRecord.waitingAsk theRegsRecord.isIdle theRegsRecord.listed theRegsRecord.applied theRegsRecord.noArgs theTypesNumbers.finishedOf theTypesNumbers.askingOf theTypesNumbers.failedOf theTypesNumbers.refusedOf theTypesNumbers.doneOf theTypesNumbers.guardedOf theTypesNumbers.unlessAsking theSbiCalls.notSupportedOf theSbiIpiIpi.lesserOf theSbiCalls.timeOf theSbiCalls.spiOf theSbiCalls.hsmOf theSbiCalls.srstOf theSbiCalls.spanOf theSbiCalls.consoleOf theSbiCalls.dbcnOf theSbiCalls.rfncOf theSbiCalls.callOf theSbiIpiIpi.returnsOf theSbiIpiIpi.movesOf theSbiIpiIpi.staysOf theSbiIpiIpi.asksOf theSbiIpiIpi.setTimerOf theSbiIpiIpi.clearIpiOf theSbiIpiIpi.hypercallOf theSbiCalls.callEffect theFetchFaults.askFetchOf theFetchFaults.missedOf theFetchFaults.trapStatusOf theFetchFaults.injectedOf theFetchFaults.missedEffect theVirtualInstStimecmp.setOf theVirtualInstStimecmp.clearedOf theVirtualInstStimecmp.stimecmpOf theVirtualInstStimecmp.csrBy theVirtualInstStimecmp.csrOf theVirtualInstStimecmp.startBy theVirtualInstStimecmp.startOf theVirtualInstStimecmp.csrEffect thePageFaultMmio.loadOf thePageFaultMmio.storeOf thePageFaultMmio.faultOf thePageFaultMmio.faultEffect theSbiIpiIpi.maskOf theSbiIpiIpi.copiedOf theSbiIpiIpi.readOf theSbiIpiIpi.copiedOutOf theSbiIpiIpi.answeredOf theSbiIpiIpi.answeredEffect thePageFaultMmio.completedOf theHostCallsHostCalls.setupCsrs theHostCallsHostCalls.entryCsrs theHostCallsHostCalls.writeEffect theHostCallsHostCalls.tableCsrs theHostCallsHostCalls.pagingBy theHostCallsHostCalls.pagingEffect theHostCallsHostCalls.pendingBy theHostCallsHostCalls.pendingEffect theHostCallsHostCalls.ipiWrites theCallsCalls.newOf theCallsCalls.setupOf theCallsCalls.setEntryOf theCallsCalls.getGprOf theCallsCalls.setGprOf theCallsCalls.setReturnOf theCallsCalls.pagingOf theCallsCalls.pendingOf theCallsCalls.latchOf theCallsCalls.completeIpiOf theCallsCalls.startOf theCallsCalls.answerOf theCallsCalls.completeLoadOf theCallsCalls.printCount theCallsCalls.firstOf theCallsCalls.printedOf theCallsResume.resumedOf theCallsResume.fetchedOf theCallsResume.plainOf theCallsResume.continuedOf theCallsResume.answerEffect theCallsTraps.argumentsOf theCallsTraps.sbiOf theCallsTraps.stimecmpOf theCallsTraps.mmioOf theCallsTraps.pageFaultOf theCallsTraps.externalOf theCallsTraps.otherOf theCallsTraps.trapOf theCallsTraps.startEffect theStepsPairs.fetchFor theStepsPairs.answerFor theStepsSteps.nextOf theStepsSteps.codeOf theStepsSteps.calledOf theStepsSteps.trappedOf theStepsSteps.settledOf theStepsSteps.badOf theStepsSteps.startedOf theStepsSteps.pairedOf theStepsSteps.moreOf theOrderOrder.begun theOrderOrder.headedOf theOrderOrder.headerOf theOrderOrder.keptOf theOrderOrder.tookOf theOrderOrder.withOf theOrderOrder.gaveOf theOrderOrder.endOf theSbiIpiIpi.ecallEffect theSbiIpiIpi.timeEffect theSbiIpiIpi.spiEffect theSbiIpiIpi.hsmEffect theSbiIpiIpi.srstEffect theSbiIpiIpi.spanEffect theSbiIpiIpi.consoleEffect theSbiIpiIpi.dbcnEffect theSbiIpiIpi.rfncEffect theSbiIpiIpi.forwardEffect theSbiIpiIpi.notSupportedEffect
 rows-60 = tt

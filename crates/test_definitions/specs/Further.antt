@@ -4,37 +4,37 @@ use mathlib.Core.Bool.{Bool, true, false}
 use mathlib.Core.List.{List, [], _∷_, _++_}
 use lib.Dec.{eqb, T}
 use lib.ListN.{replicate}
-use Rattle.types.specs.Pick.{and}
-use Rattle.types.specs.Numbers.{abiNumber, accessNumber, answerNumber, errorNumber, exitNumber, fetchNumber, flagOf, widthBytes}
-use Rattle.types.specs.Values.{answerValues, askValues, exitValues, fetchValue}
-use Rattle.types.specs.declared.Access.the-variants as access
-use Rattle.types.specs.declared.Answer.{Answer}
-use Rattle.types.specs.declared.Answer.the-variants as answer
-use Rattle.types.specs.declared.Ask.the-variants as ask
-use Rattle.types.specs.declared.Error.the-variants as error
-use Rattle.types.specs.declared.Exit.the-variants as exit
-use Rattle.types.specs.declared.Fetch.the-variants as fetch
-use Rattle.types.specs.declared.IpiAbi.the-variants as abi
-use Rattle.types.specs.declared.Reply.{Reply}
-use Rattle.types.specs.declared.Reply.the-variants as reply
-use Rattle.types.specs.declared.Width.the-variants as width
-use Rattle.consts.specs.Sbi.{eidPmu}
-use Rattle.registers.specs.Values.{delegatedExceptions, delegatedInterrupts}
-use Rattle.regs.specs.declared.Outcome.{Outcome}
-use Rattle.regs.specs.declared.Vcpu.{Vcpu}
-use Rattle.regs.specs.declared.Waiting.{Waiting}
-use Rattle.regs.specs.declared.Waiting.the-variants as waiting
-use Rattle.calls.specs.Calls.{firstOf, newOf, printCount, printedOf}
-use Rattle.words.specs.Words.{waitingWords}
-use Rattle.place.specs.View.{askCount, besideOf, exitCount, hostLeaves, outOf, refusalWord, replyWord, trapLeaves, waitingCount}
-use Rattle.lines.specs.Keys.{bytes}
-use Rattle.digits.specs.Hex.{digitOf, nibbleOf, pushOf, pushedOf, readOf}
-use Rattle.lines.specs.Lines.{Taken, atEndOf, begins, inDigitsOf, inKeyOf, lineOf, takenOf}
-use Rattle.put.specs.Put.{putAt}
-use Rattle.digits.specs.declared.Digits.{Digits}
-use Rattle.digits.specs.declared.Digits.the-variants as digits
-use Rattle.lines.specs.declared.Got.{Got}
-use Rattle.lines.specs.declared.Got.the-variants as got
+use Rattle.isa_types.specs.Pick.{and}
+use Rattle.scope.specs.Trap.{abiNumber, accessNumber, answerNumber, exitNumber, fetchNumber, flagOf, widthBytes, answerValues, askValues, exitValues, fetchValue}
+use Rattle.scope.specs.Refusals.{errorNumber}
+use Rattle.scope.specs.declared.traps.Access.the-variants as access
+use Rattle.scope.specs.declared.traps.Answer.{Answer}
+use Rattle.scope.specs.declared.traps.Answer.the-variants as answer
+use Rattle.scope.specs.declared.traps.Ask.the-variants as ask
+use Rattle.scope.specs.declared.traps.Error.the-variants as error
+use Rattle.scope.specs.declared.traps.Exit.the-variants as exit
+use Rattle.scope.specs.declared.traps.Fetch.the-variants as fetch
+use Rattle.scope.specs.declared.traps.IpiAbi.the-variants as abi
+use Rattle.scope.specs.declared.traps.Reply.{Reply}
+use Rattle.scope.specs.declared.traps.Reply.the-variants as reply
+use Rattle.isa_types.specs.declared.Width.the-variants as width
+use Rattle.isa_consts.specs.Sbi.{eidPmu}
+use Rattle.isa_registers.specs.Values.{delegatedExceptions, delegatedInterrupts}
+use Rattle.scope.specs.declared.machine.Outcome.{Outcome}
+use Rattle.scope.specs.declared.machine.Vcpu.{Vcpu}
+use Rattle.scope.specs.declared.machine.Waiting.{Waiting}
+use Rattle.scope.specs.declared.machine.Waiting.the-variants as waiting
+use Rattle.scope.specs.Calls.{firstOf, newOf, printCount, printedOf}
+use Rattle.scope.specs.Words.{waitingWords}
+use Rattle.in_place_record.specs.View.{askCount, besideOf, exitCount, hostLeaves, outOf, refusalWord, replyWord, trapLeaves, waitingCount}
+use Rattle.replay_lines.specs.Keys.{bytes}
+use Rattle.replay_digits.specs.Hex.{digitOf, nibbleOf, pushOf, pushedOf, readOf}
+use Rattle.replay_lines.specs.Lines.{Taken, atEndOf, begins, inDigitsOf, inKeyOf, lineOf, takenOf}
+use Rattle.replay_output.specs.Put.{putAt}
+use Rattle.replay_digits.specs.declared.Digits.{Digits}
+use Rattle.replay_digits.specs.declared.Digits.the-variants as digits
+use Rattle.replay_lines.specs.declared.Got.{Got}
+use Rattle.replay_lines.specs.declared.Got.the-variants as got
 
 -- an answer: its ask's number, word and more
 abbrev pair : Answer → List ℕ

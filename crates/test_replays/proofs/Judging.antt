@@ -5,15 +5,15 @@ use mathlib.Core.List.{List, [], _++_, append-nil}
 use mathlib.Core.Path.{_≡_, sym, ap, _∙_, subst}
 use lib.ListN.{drop, drop-of-length-le, length, length-drop, take, take-append-drop}
 use lib.Seq.{length-take-le, take-all}
-use Rattle.put.specs.Put.{Put}
-use Rattle.put.specs.PutLaws.{put-front}
-use Rattle.steps.specs.declared.Gives.{Gives}
-use Rattle.steps.specs.declared.State.{State}
-use Rattle.order.specs.Order.{begun, endOf}
-use Rattle.capture.specs.declared.Filled.{Filled}
-use Rattle.capture.specs.Feeds.{Fills}
-use Rattle.capture.specs.Laws.{text-short, written-end}
-use Rattle.capture.specs.Replay.{afterOf, outOf, replayOf, textOf}
+use Rattle.replay_output.specs.Put.{Put}
+use Rattle.replay_output.specs.PutLaws.{put-front}
+use Rattle.replay_steps.specs.declared.Gives.{Gives}
+use Rattle.replay_steps.specs.declared.State.{State}
+use Rattle.replay_order.specs.Order.{begun, endOf}
+use Rattle.replay_capture.specs.declared.Filled.{Filled}
+use Rattle.replay_capture.specs.Feeds.{Fills}
+use Rattle.replay_capture.specs.Laws.{text-short, written-end}
+use Rattle.replay_capture.specs.Replay.{afterOf, outOf, replayOf, textOf}
 
 -- all bytes were fed: the output is what was written and what the end gives
 whole-replay : (c : List ℕ) (room : ℕ) (out : List ℕ) (f : Filled) → Fills begun c room out f → length c ≤ f .next

@@ -2,9 +2,9 @@
 use Prim.Native.Nat.{ℕ}
 use mathlib.Core.List.{List}
 use mathlib.Core.Path.{_≡_}
-use Rattle.capture.specs.Replay.{replayOf}
-use Rattle.replays.specs.declared.Verdict.{Verdict}
-use Rattle.replays.specs.declared.Verdict.the-variants as verdict
+use Rattle.replay_capture.specs.Replay.{replayOf}
+use Rattle.test_replays.specs.declared.Verdict.{Verdict}
+use Rattle.test_replays.specs.declared.Verdict.the-variants as verdict
 
 -- a capture that is called the same gives the expected output, all of it
 abbrev pub Judged : List ℕ → List ℕ → Verdict → Type 0

@@ -4,7 +4,7 @@ ghost use Prim.Native.Nat.{_≤_};
 ghost use mathlib.Core.Path.{_≡_};
 ghost use lib.ListN.{length, take};
 ghost use Rattle.io.specs.Counts.{Counts};
-ghost use Rattle.replays.specs.Judged.{Judged};
+ghost use Rattle.test_replays.specs.Judged.{Judged};
 use libc::STDOUT_FILENO;
 
 // What came of one capture.
@@ -80,7 +80,7 @@ fn judge(capture: &[u8], expected: &[u8]) -> Verdict
     ensures { λ r. ⌜ Judged (now (capture .entry)) (now (expected .entry)) r ⌝ }
 {
     let mut out = io::large_buffer();
-    let f = capture::fill(order::begin(), capture, &mut out);
+    let f = replay_capture::fill(replay_order::begin(), capture, &mut out);
     let e = f.end;
     if f.next < capture.len() {
         return Verdict::Differs(e);
@@ -91,7 +91,7 @@ fn judge(capture: &[u8], expected: &[u8]) -> Verdict
     }
     let s = f.state;
     let mut last = [0u8; 84];
-    let k = capture::write(order::end(s), &mut last);
+    let k = replay_capture::write(replay_order::end(s), &mut last);
     let m = agree(&last[..k], &expected[e..]);
     if m < k {
         return Verdict::Differs(std::num::wrapping_add_usize(e, m));

@@ -1,10 +1,10 @@
 // Runs the decoder and the extension over the lists in data/ and counts the lines on which they give something else.
 // A line is an input and the expected answer, each of 16 hex digits; docs/VECTORS.md says what they mean.
 ghost use Prim.Native.Nat.{_<_, _≤_};
-use decoder::Decoded;
-use decoder::Trapped;
+use isa_decoder::Decoded;
+use isa_decoder::Trapped;
+use isa_types::Width;
 use libc::STDOUT_FILENO;
-use types::Width;
 
 // A list that never ends is cut here.
 const MOST_LINES: u64 = 100_000;
@@ -100,11 +100,11 @@ fn is_line_of(line: &[u8; 34], task: Task) -> bool {
 
 fn answered(task: Task, input: u64) -> u64 {
     match task {
-        Task::Decode => of_decoded(decoder::decode(input)),
-        Task::Fetched => of_trapped(decoder::from_fetched((input % 0x1_0000_0000) as u32)),
-        Task::Htinst => of_trapped(decoder::from_htinst(input)),
-        Task::Load(width, signed) => extension::extend(width, signed, input),
-        Task::Store(width) => extension::cut(width, input),
+        Task::Decode => of_decoded(isa_decoder::decode(input)),
+        Task::Fetched => of_trapped(isa_decoder::from_fetched((input % 0x1_0000_0000) as u32)),
+        Task::Htinst => of_trapped(isa_decoder::from_htinst(input)),
+        Task::Load(width, signed) => isa_extension::extend(width, signed, input),
+        Task::Store(width) => isa_extension::cut(width, input),
     }
 }
 
@@ -115,11 +115,11 @@ fn of_decoded(d: Decoded) -> u64
 {
     match d {
         Decoded::Load { width, signed, rd } => 0x1_0000
-            + codes::width_bytes(width) % 16 * 0x1000
+            + words_numbers::width_bytes(width) % 16 * 0x1000
             + sign(signed)
             + (rd % 256) as u64,
         Decoded::Store { width, rs2 } => 0x2_0000
-            + codes::width_bytes(width) % 16 * 0x1000
+            + words_numbers::width_bytes(width) % 16 * 0x1000
             + (rs2 % 256) as u64,
         Decoded::Neither => 0,
     }

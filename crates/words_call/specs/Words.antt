@@ -2,17 +2,16 @@
 use Prim.Native.Nat.{ℕ}
 use mathlib.Core.List.{List, [], _∷_}
 use lib.ListN.{getD}
-use Rattle.types.specs.Numbers.{askNumber, errorNumber, exitNumber}
-use Rattle.types.specs.Values.{askValues, exitValues}
-use Rattle.types.specs.declared.Reply.{Reply}
-use Rattle.types.specs.declared.Reply.the-variants as reply
-use Rattle.regs.specs.declared.Outcome.{Outcome}
-use Rattle.calls.specs.declared.HostCall.{HostCall}
-use Rattle.call_words.specs.declared.After.{After}
-use Rattle.call_words.specs.declared.CallWords.{CallWords}
-use Rattle.call_words.specs.declared.ReplyWords.{ReplyWords}
-use Rattle.words.specs.Words.{packOf}
-use Rattle.calls.specs.Kinds.{callBy}
+use Rattle.scope.specs.Trap.{askNumber, exitNumber, askValues, exitValues}
+use Rattle.scope.specs.Refusals.{errorNumber}
+use Rattle.scope.specs.declared.traps.Reply.{Reply}
+use Rattle.scope.specs.declared.traps.Reply.the-variants as reply
+use Rattle.scope.specs.declared.machine.Outcome.{Outcome}
+use Rattle.scope.specs.declared.hosts.HostCall.{HostCall}
+use Rattle.words_call.specs.declared.After.{After}
+use Rattle.words_call.specs.declared.CallWords.{CallWords}
+use Rattle.words_call.specs.declared.ReplyWords.{ReplyWords}
+use Rattle.scope.specs.Words.{packOf, callBy}
 
 -- the call that words stand for
 unfoldable pub callOf : CallWords → HostCall

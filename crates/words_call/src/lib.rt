@@ -1,13 +1,13 @@
 // A call, and what comes of it, as words. specs/Words.antt says what each word means.
 ghost use mathlib.Core.Path.{_≡_};
-ghost use Rattle.calls.specs.Kinds.{answerBy, callBy};
-ghost use Rattle.call_words.specs.Words.{callOf, replyKind, replyNumber, replyValues};
-use calls::HostCall;
-use types::Answer;
-use types::GuestPhysAddr;
-use types::Reply;
-use types::Trap;
-use words::Record;
+ghost use Rattle.scope.specs.Words.{answerBy, callBy};
+ghost use Rattle.words_call.specs.Words.{callOf, replyKind, replyNumber, replyValues};
+use isa_types::GuestPhysAddr;
+use scope::Answer;
+use scope::HostCall;
+use scope::Record;
+use scope::Reply;
+use scope::Trap;
 
 // A call in words.
 #[repr(C)]
@@ -60,12 +60,12 @@ fn call_by(kind: u64, a: u64, b: u64, d: u64, e: u64, f: u64) -> HostCall
         },
         7 => HostCall::SetPending {
             vector: a,
-            level: words::test(b),
+            level: words_record::test(b),
         },
         8 => HostCall::LatchHvip { bits: a },
         9 => HostCall::CompleteIpi {
-            abi: words::abi_of(a),
-            completion: words::completion_of(b),
+            abi: words_record::abi_of(a),
+            completion: words_record::completion_of(b),
         },
         10 => HostCall::Start(Trap {
             scause: a,
@@ -85,7 +85,7 @@ pub fn answer_of(ask: u64, a: u64, b: u64) -> HostCall
     ensures { λ r. ⌜ r ≡ answerBy ask a b ⌝ }
 {
     match ask {
-        1 => HostCall::Answer(Answer::Fetched(words::fetch_of(a, b))),
+        1 => HostCall::Answer(Answer::Fetched(words_record::fetch_of(a, b))),
         2 => HostCall::Answer(Answer::MaskCopied { count: a, bytes: b }),
         3 => HostCall::Answer(Answer::CopiedIn { count: a }),
         4 => HostCall::Answer(Answer::Printed { error: a, value: b }),
@@ -116,11 +116,11 @@ pub fn reply_number(p: Reply) -> u64
     ensures { λ r. ⌜ r ≡ replyNumber p ⌝ }
 {
     match p {
-        Reply::Exit(e) => numbers::exit_number(e),
-        Reply::Ask(a) => numbers::ask_number(a),
+        Reply::Exit(e) => words_numbers::exit_number(e),
+        Reply::Ask(a) => words_numbers::ask_number(a),
         Reply::Done => 0,
         Reply::Value(_) => 0,
-        Reply::Error(e) => numbers::error_number(e),
+        Reply::Error(e) => words_numbers::error_number(e),
     }
 }
 
@@ -130,10 +130,10 @@ pub fn reply_values(p: Reply) -> [u64; 8]
 {
     match p {
         Reply::Exit(e) => {
-            let n = values::exit_values(e);
+            let n = words_numbers::exit_values(e);
             [n[0], n[1], n[2], 0, 0, 0, 0, 0]
         }
-        Reply::Ask(a) => values::ask_values(a),
+        Reply::Ask(a) => words_numbers::ask_values(a),
         Reply::Done => [0, 0, 0, 0, 0, 0, 0, 0],
         Reply::Value(n) => [n, 0, 0, 0, 0, 0, 0, 0],
         Reply::Error(_) => [0, 0, 0, 0, 0, 0, 0, 0],

@@ -1,13 +1,13 @@
 -- The exported call leaves a waiting kind that is known; and only one outcome fits the promise.
 use mathlib.Core.Path.{_≡_, ap, sym, _∙_}
-use Rattle.calls.specs.Entry.{calledOf}
-use Rattle.call_words.specs.declared.CallWords.{CallWords}
-use Rattle.words.specs.declared.Record.{Record}
-use Rattle.call_words.specs.declared.ReplyWords.{ReplyWords}
-use Rattle.words.specs.Words.{packOf, unpackOf, waitingOf, waitingWords}
-use Rattle.words.specs.Laws.{waiting-back}
-use Rattle.call_words.specs.Words.{afterOf, callOf}
-use Rattle.abi.specs.Words.{Exported, exportedOf}
+use Rattle.scope.specs.Calls.{calledOf}
+use Rattle.words_call.specs.declared.CallWords.{CallWords}
+use Rattle.scope.specs.declared.machine.Record.{Record}
+use Rattle.words_call.specs.declared.ReplyWords.{ReplyWords}
+use Rattle.scope.specs.Words.{packOf, unpackOf, waitingOf, waitingWords}
+use Rattle.scope.specs.WordsLaws.{waiting-back}
+use Rattle.words_call.specs.Words.{afterOf, callOf}
+use Rattle.words_entry.specs.Words.{Exported, exportedOf}
 
 -- the waiting part that the exported call leaves is the words of some waiting part: its kind is known
 pub kind-known : (r : Record) (c : CallWords) → waitingWords (waitingOf (exportedOf r c .rec .waiting)) ≡ exportedOf r c .rec .waiting

@@ -1,12 +1,12 @@
 -- What the exported entry does.
 use mathlib.Core.Path.{_≡_}
-use Rattle.calls.specs.Entry.{calledOf}
-use Rattle.call_words.specs.declared.After.{After}
-use Rattle.call_words.specs.declared.CallWords.{CallWords}
-use Rattle.call_words.specs.declared.ReplyWords.{ReplyWords}
-use Rattle.words.specs.declared.Record.{Record}
-use Rattle.words.specs.Words.{unpackOf}
-use Rattle.call_words.specs.Words.{afterOf, callOf}
+use Rattle.scope.specs.Calls.{calledOf}
+use Rattle.words_call.specs.declared.After.{After}
+use Rattle.words_call.specs.declared.CallWords.{CallWords}
+use Rattle.words_call.specs.declared.ReplyWords.{ReplyWords}
+use Rattle.scope.specs.declared.machine.Record.{Record}
+use Rattle.scope.specs.Words.{unpackOf}
+use Rattle.words_call.specs.Words.{afterOf, callOf}
 
 -- what the exported call does: the entry's outcome on what the words stand for
 unfoldable pub exportedOf : Record → CallWords → After

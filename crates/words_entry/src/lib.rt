@@ -1,11 +1,11 @@
 // The entry as the host's compiler sees it: one exported function over words. Crate words has the record, and call_words a
 // call and what it gives back.
 ghost use mathlib.Core.Path.{_≡_};
-ghost use Rattle.abi.specs.Words.{Exported, exportedOf};
-use call_words::After;
-use call_words::CallWords;
-use call_words::ReplyWords;
-use words::Record;
+ghost use Rattle.words_entry.specs.Words.{Exported, exportedOf};
+use scope::Record;
+use words_call::After;
+use words_call::CallWords;
+use words_call::ReplyWords;
 
 // Makes a call on the host's record where it lies.
 #[no_mangle]
@@ -21,16 +21,16 @@ pub extern "C" fn vcpu_call(v: &mut Record, c: CallWords) -> ReplyWords
 pub fn step(r: Record, c: CallWords) -> After
     ensures { λ a. ⌜ a ≡ exportedOf r c ⌝ }
 {
-    let o = entry::call(words::unpack(r), call_words::call_of(c));
+    let o = by_value_entry::call(words_record::unpack(r), words_call::call_of(c));
     let v = o.vcpu;
     let args = o.args;
     let p = o.reply;
     After {
-        rec: words::pack(v),
+        rec: words_record::pack(v),
         reply: ReplyWords {
-            kind: call_words::reply_kind(p),
-            number: call_words::reply_number(p),
-            values: call_words::reply_values(p),
+            kind: words_call::reply_kind(p),
+            number: words_call::reply_number(p),
+            values: words_call::reply_values(p),
             args,
         },
     }

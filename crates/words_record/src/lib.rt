@@ -1,29 +1,21 @@
 // The vCPU record in words, and the numbers of what a call is given, as the host's compiler sees them.
 ghost use mathlib.Core.Path.{_≡_};
-ghost use Rattle.types.specs.Numbers.{flagOf};
-ghost use Rattle.words.specs.Words.{abiOf, accessOf, completionOf, csrsOf, csrsWords, fetchOf, packOf, tested, unpackOf, waitingBy, waitingOf, waitingWords, widthOf};
-use regs::Csrs;
-use regs::GuestCsrs;
-use regs::HsCsrs;
-use regs::Vcpu;
-use regs::VsCsrs;
-use regs::Waiting;
-use sbi_ipi::IpiCompletion;
-use types::Access;
-use types::Fetch;
-use types::GuestPhysAddr;
-use types::GuestVirtAddr;
-use types::IpiAbi;
-use types::Width;
-
-// The record in words: the waiting part is a kind and three numbers.
-#[repr(C)]
-pub struct Record {
-    pub x: [u64; 32],
-    pub csrs: [u64; 13],
-    pub counts: [u64; 9],
-    pub waiting: [u64; 4],
-}
+ghost use Rattle.scope.specs.Trap.{flagOf};
+ghost use Rattle.scope.specs.Words.{abiOf, accessOf, completionOf, csrsOf, csrsWords, fetchOf, packOf, tested, unpackOf, waitingBy, waitingOf, waitingWords, widthOf};
+use isa_types::GuestPhysAddr;
+use isa_types::GuestVirtAddr;
+use isa_types::Width;
+use scope::Access;
+use scope::Csrs;
+use scope::Fetch;
+use scope::GuestCsrs;
+use scope::HsCsrs;
+use scope::IpiAbi;
+use scope::IpiCompletion;
+use scope::Record;
+use scope::Vcpu;
+use scope::VsCsrs;
+use scope::Waiting;
 
 // The record that words stand for.
 pub fn unpack(r: Record) -> Vcpu
@@ -151,11 +143,11 @@ pub fn waiting_words(w: Waiting) -> [u64; 4]
         Waiting::Load { rd, width, signed } => [
             1,
             rd as u64,
-            codes::width_bytes(width),
+            words_numbers::width_bytes(width),
             flag(signed),
         ],
         Waiting::FetchCsr => [2, 0, 0, 0],
-        Waiting::FetchFault { at, access } => [3, at.0, codes::access_number(access), 0],
+        Waiting::FetchFault { at, access } => [3, at.0, words_numbers::access_number(access), 0],
         Waiting::CopyMask => [4, 0, 0, 0],
         Waiting::CopyIn { count } => [5, count, 0, 0],
         Waiting::Print { count } => [6, count, 0, 0],

@@ -47,7 +47,7 @@ pub fn wrong() -> Vec<&'static str> {
         ("irq::S_EXT_CODE", irq::S_EXT_CODE, 9),
         ("irq::S_EXT", irq::S_EXT, bit(63) + 9),
         ("irq::TIMER_IRQ_NUM", irq::TIMER_IRQ_NUM, bit(63) + 5),
-        // 01 has this mask among registers.rs's; the numbers are crates/registers'.
+        // 01 has this mask among registers.rs's; the numbers are crates/isa_registers'.
         ("delegated_exception_bits", delegated_exception_bits(), 0xB10D),
         ("delegated_interrupt_bits", delegated_interrupt_bits(), 0x444),
         ("RiscvAccessFlags::READ", RiscvAccessFlags::READ.bits(), 1),

@@ -21,6 +21,21 @@ pub const NOT_RUN: u64 = 0x301;
 /// An ask, where an ending was due.
 pub const ASK: u64 = 0x302;
 
+/// The exits by their numbers.
+pub const EXITS: [&str; 11] = [
+    "Nothing",
+    "ExternalInterrupt",
+    "SendIpi",
+    "CpuUp",
+    "CpuDown",
+    "Halt",
+    "Hypercall",
+    "SystemDown",
+    "NestedPageFault",
+    "MmioRead",
+    "MmioWrite",
+];
+
 pub const NESTED_PAGE_FAULT: u64 = 8;
 pub const MMIO_READ: u64 = 9;
 pub const MMIO_WRITE: u64 = 10;
@@ -78,7 +93,7 @@ impl std::fmt::Debug for Ending {
             PANIC => write!(f, "panic"),
             NOT_RUN => write!(f, "not run: allocates too much"),
             ASK => write!(f, "ask {}", self.data[0]),
-            0..=10 => write!(f, "{} {:x?}", crate::tally::EXITS[self.kind as usize], self.data),
+            0..=10 => write!(f, "{} {:x?}", EXITS[self.kind as usize], self.data),
             kind => write!(f, "error {}", kind - 0x100),
         }
     }

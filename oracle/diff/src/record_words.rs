@@ -1,5 +1,5 @@
 //! The record, the waiting part and the replies as the words of the proved
-//! library. crates/words/specs/Words.antt says what each word means.
+//! library. crates/scope/specs/Words.antt says what each word means.
 
 use model::*;
 

@@ -3,7 +3,7 @@
 use scripted::Request;
 
 use crate::generate::CLASSES;
-use crate::outcome::Outcome;
+use crate::outcome::{Outcome, EXITS};
 use crate::switches::{Board, SWITCHES};
 
 const ASKS: [&str; 9] = [
@@ -16,21 +16,6 @@ const ASKS: [&str; 9] = [
     "7 emit",
     "8 get character",
     "9 forward",
-];
-
-/// The exits by their numbers.
-pub const EXITS: [&str; 11] = [
-    "Nothing",
-    "ExternalInterrupt",
-    "SendIpi",
-    "CpuUp",
-    "CpuDown",
-    "Halt",
-    "Hypercall",
-    "SystemDown",
-    "NestedPageFault",
-    "MmioRead",
-    "MmioWrite",
 ];
 
 pub struct Tally {

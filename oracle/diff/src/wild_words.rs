@@ -1,6 +1,6 @@
 //! Calls of the proved library by words, sound and unsound: unknown kinds and
 //! numbers, and waiting parts that no call leaves. The model judges the
-//! meaning that crates/words and crates/calls give them.
+//! meaning that crates/words_record and crates/calls give them.
 
 use model::*;
 

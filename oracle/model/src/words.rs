@@ -1,7 +1,7 @@
 //! The record, what waits and the calls as words, for hosts that pass numbers
 //! alone. A record is 58 words: x0 to x31; the 13 CSRs in 01's order; 9
 //! counts; 4 words for what waits. Every pattern of words has a meaning,
-//! which crates/words and crates/calls/specs/Kinds.antt set down.
+//! which crates/words_record and crates/calls/specs/Kinds.antt set down.
 
 use crate::*;
 

@@ -1,8 +1,8 @@
--- `resume::answer` meets its contract.
-use Rattle.calls.specs.Resume.{answerEffect}
+-- `by_value_answer::answer` meets its contract.
+use Rattle.scope.specs.Resume.{answerEffect}
+use Rattle.by_value_answer.proofs.answer.Statement.{statement}
+use Rattle.by_value_answer.proofs.answer.Tie as tie
 use borrow.Author.Needs.{needs}
-use Rattle.resume.proofs.answer.Statement.{statement}
-use Rattle.resume.proofs.answer.Tie as tie
 
 ask-of-requires : tie.Need-ask-of-requires
 ask-of-requires c κs = search needs

@@ -1,8 +1,8 @@
--- `resume::continued` meets its contract.
-use Rattle.calls.specs.Resume.{continuedOf}
+-- `by_value_answer::continued` meets its contract.
+use Rattle.scope.specs.Resume.{continuedOf}
+use Rattle.by_value_answer.proofs.continued.Statement.{statement}
+use Rattle.by_value_answer.proofs.continued.Tie as tie
 use borrow.Author.Needs.{needs}
-use Rattle.resume.proofs.continued.Statement.{statement}
-use Rattle.resume.proofs.continued.Tie as tie
 
 enum-known-a : tie.Need-enum-known-a
 enum-known-a c = search needs

@@ -1,9 +1,9 @@
--- `resume::fetched` meets its contract.
-use Rattle.calls.specs.Resume.{fetchedOf}
-use Rattle.resume.proofs.Faults.{no-word}
+-- `by_value_answer::fetched` meets its contract.
+use Rattle.scope.specs.Resume.{fetchedOf}
+use Rattle.by_value_answer.proofs.Faults.{no-word}
+use Rattle.by_value_answer.proofs.fetched.Statement.{statement}
+use Rattle.by_value_answer.proofs.fetched.Tie as tie
 use borrow.Author.Needs.{needs}
-use Rattle.resume.proofs.fetched.Statement.{statement}
-use Rattle.resume.proofs.fetched.Tie as tie
 
 enum-known-f : tie.Need-enum-known-f
 enum-known-f c = search needs
@@ -11,12 +11,12 @@ enum-known-f c = search needs
 decide-requires : tie.Need-decide-requires
 decide-requires c κs = search needs
 
-effect-requires : tie.Need-effect-requires
-effect-requires c κs = search needs
+missed-requires : tie.Need-missed-requires
+missed-requires c κs = search needs
 
 returns : tie.Need-returns
 unfolding fetchedOf
-returns c = simp (c .effect .ensures, c .before .decide .ensures) (no-word _ _ _ _ (c .before .before .match .keys2))
+returns c = simp (c .missed .ensures, c .before .decide .ensures) (no-word _ _ _ _ (c .before .before .match .keys2))
 
 resumed-requires : tie.Need-resumed-requires
 resumed-requires c κs = search needs
@@ -28,4 +28,4 @@ returns-2 c = simp (c .resumed .ensures, c .before .before .f .given .1)
 pub fetched-spec : {M : Type 1} → statement M
 fetched-spec =
     tie.close
-    (tie.spec enum-known-f decide-requires effect-requires returns resumed-requires returns-2)
+    (tie.spec enum-known-f decide-requires missed-requires returns resumed-requires returns-2)

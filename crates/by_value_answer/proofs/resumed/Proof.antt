@@ -1,8 +1,8 @@
--- `resume::resumed` meets its contract.
-use Rattle.calls.specs.Resume.{resumedOf}
+-- `by_value_answer::resumed` meets its contract.
+use Rattle.scope.specs.Resume.{resumedOf}
+use Rattle.by_value_answer.proofs.resumed.Statement.{statement}
+use Rattle.by_value_answer.proofs.resumed.Tie as tie
 use borrow.Author.Needs.{needs}
-use Rattle.resume.proofs.resumed.Statement.{statement}
-use Rattle.resume.proofs.resumed.Tie as tie
 
 enum-told : tie.Need-enum-told
 enum-told c = search needs
@@ -28,8 +28,8 @@ register-requires c κs = search needs
 decide-requires : tie.Need-decide-requires
 decide-requires c κs = search needs
 
-effect-requires : tie.Need-effect-requires
-effect-requires c κs = search needs
+csr-requires : tie.Need-csr-requires
+csr-requires c κs = search needs
 
 enum-known-w : tie.Need-enum-known-w
 enum-known-w c = search needs
@@ -104,7 +104,7 @@ returns-2 c = simp (c .refused2 .ensures, c .before .enum-told2 .given .1)
 
 returns-3 : tie.Need-returns-3
 unfolding resumedOf
-returns-3 c = simp (c .effect .ensures, c .before .decide .ensures, c .before .before .register .ensures, c .before .before .before .rs1 .ensures, c .before .before .before .before .enum-told3 .given .1)
+returns-3 c = simp (c .csr .ensures, c .before .decide .ensures, c .before .before .register .ensures, c .before .before .before .rs1 .ensures, c .before .before .before .before .enum-told3 .given .1)
 
 returns-4 : tie.Need-returns-4
 unfolding resumedOf
@@ -158,7 +158,7 @@ resumed-spec =
     rs1-requires
     register-requires
     decide-requires
-    effect-requires
+    csr-requires
     enum-known-w
     from-fetched-requires
     mmio-requires

@@ -1,9 +1,8 @@
--- `apply::apply` meets its contract.
-use Rattle.regs.specs.Effects.{applied}
-use Rattle.regs.specs.Record.{listed}
+-- `by_value_apply::apply` meets its contract.
+use Rattle.scope.specs.Record.{applied, listed}
+use Rattle.by_value_apply.proofs.apply.Statement.{statement}
+use Rattle.by_value_apply.proofs.apply.Tie as tie
 use borrow.Author.Needs.{needs}
-use Rattle.apply.proofs.apply.Statement.{statement}
-use Rattle.apply.proofs.apply.Tie as tie
 
 store-requires : tie.Need-store-requires
 store-requires c κs = search needs

@@ -1,9 +1,9 @@
--- `apply::bump` meets its contract.
+-- `by_value_apply::bump` meets its contract.
 use borrow.Author.Tests.{eq-eqb, ne-eqb, lt-ltb, lt-leb, le-ltb, le-leb}
-use Rattle.regs.specs.Record.{bumped}
+use Rattle.scope.specs.Record.{bumped}
+use Rattle.by_value_apply.proofs.bump.Statement.{statement}
+use Rattle.by_value_apply.proofs.bump.Tie as tie
 use borrow.Author.Needs.{needs}
-use Rattle.apply.proofs.bump.Statement.{statement}
-use Rattle.apply.proofs.bump.Tie as tie
 
 returns : tie.Need-returns
 unfolding bumped

@@ -1,8 +1,8 @@
--- `apply::count` meets its contract.
-use Rattle.regs.specs.Record.{counted}
+-- `by_value_apply::count` meets its contract.
+use Rattle.scope.specs.Record.{counted}
+use Rattle.by_value_apply.proofs.count.Statement.{statement}
+use Rattle.by_value_apply.proofs.count.Tie as tie
 use borrow.Author.Needs.{needs}
-use Rattle.apply.proofs.count.Statement.{statement}
-use Rattle.apply.proofs.count.Tie as tie
 
 event-number-requires : tie.Need-event-number-requires
 event-number-requires c κs = search needs

@@ -1,8 +1,8 @@
--- `apply::event_number` meets its contract.
-use Rattle.regs.specs.Record.{eventNumber}
+-- `by_value_apply::event_number` meets its contract.
+use Rattle.scope.specs.Record.{eventNumber}
+use Rattle.by_value_apply.proofs.event_number.Statement.{statement}
+use Rattle.by_value_apply.proofs.event_number.Tie as tie
 use borrow.Author.Needs.{needs}
-use Rattle.apply.proofs.event_number.Statement.{statement}
-use Rattle.apply.proofs.event_number.Tie as tie
 
 enum-told : tie.Need-enum-told
 enum-told c = search needs

@@ -1,9 +1,9 @@
--- `apply::store` meets its contract.
+-- `by_value_apply::store` meets its contract.
 use borrow.Author.Tests.{eq-eqb, ne-eqb, lt-ltb, lt-leb, le-ltb, le-leb}
-use Rattle.regs.specs.Record.{stored}
+use Rattle.scope.specs.Record.{stored}
+use Rattle.by_value_apply.proofs.store.Statement.{statement}
+use Rattle.by_value_apply.proofs.store.Tie as tie
 use borrow.Author.Needs.{needs}
-use Rattle.apply.proofs.store.Statement.{statement}
-use Rattle.apply.proofs.store.Tie as tie
 
 enum-told : tie.Need-enum-told
 enum-told c = search needs

@@ -1,8 +1,8 @@
--- `apply::unless_asking` meets its contract.
-use Rattle.regs.specs.Effects.{unlessAsking}
+-- `by_value_apply::unless_asking` meets its contract.
+use Rattle.scope.specs.Refusals.{unlessAsking}
+use Rattle.by_value_apply.proofs.unless_asking.Statement.{statement}
+use Rattle.by_value_apply.proofs.unless_asking.Tie as tie
 use borrow.Author.Needs.{needs}
-use Rattle.apply.proofs.unless_asking.Statement.{statement}
-use Rattle.apply.proofs.unless_asking.Tie as tie
 
 ask-of-requires : tie.Need-ask-of-requires
 ask-of-requires c κs = search needs

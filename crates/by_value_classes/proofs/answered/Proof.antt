@@ -1,8 +1,8 @@
--- `answers_effect::effect` meets its contract.
-use Rattle.answers.specs.Answers.{answeredEffect}
+-- `by_value_classes::answered` meets its contract.
+use Rattle.scope.specs.Ecalls.{answeredEffect}
+use Rattle.by_value_classes.proofs.answered.Statement.{statement}
+use Rattle.by_value_classes.proofs.answered.Tie as tie
 use borrow.Author.Needs.{needs}
-use Rattle.answers_effect.proofs.effect.Statement.{statement}
-use Rattle.answers_effect.proofs.effect.Tie as tie
 
 enum-told : tie.Need-enum-told
 enum-told c = search needs
@@ -86,8 +86,8 @@ returns-7 : tie.Need-returns-7
 unfolding answeredEffect
 returns-7 c = simp (c .asking2 .ensures, c .before .before .d5 .given .1)
 
-pub effect-spec : {M : Type 1} → statement M
-effect-spec =
+pub answered-spec : {M : Type 1} → statement M
+answered-spec =
     tie.close
     (tie.spec
     enum-told

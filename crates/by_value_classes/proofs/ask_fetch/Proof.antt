@@ -1,8 +1,8 @@
--- `fetch::ask` meets its contract.
-use Rattle.fetch.specs.Faults.{askFetchOf}
+-- `by_value_classes::ask_fetch` meets its contract.
+use Rattle.scope.specs.FetchFaults.{askFetchOf}
+use Rattle.by_value_classes.proofs.ask_fetch.Statement.{statement}
+use Rattle.by_value_classes.proofs.ask_fetch.Tie as tie
 use borrow.Author.Needs.{needs}
-use Rattle.fetch.proofs.ask.Statement.{statement}
-use Rattle.fetch.proofs.ask.Tie as tie
 
 spvp-requires : tie.Need-spvp-requires
 spvp-requires c κs = search needs
@@ -14,5 +14,5 @@ returns : tie.Need-returns
 unfolding askFetchOf
 returns c = simp (c .asking .ensures, c .before .spvp .ensures)
 
-pub ask-spec : {M : Type 1} → statement M
-ask-spec = tie.close (tie.spec spvp-requires asking-requires returns)
+pub ask-fetch-spec : {M : Type 1} → statement M
+ask-fetch-spec = tie.close (tie.spec spvp-requires asking-requires returns)

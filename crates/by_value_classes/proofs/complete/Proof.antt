@@ -1,8 +1,8 @@
--- `answers_effect::complete` meets its contract.
-use Rattle.answers.specs.Answers.{completedOf}
+-- `by_value_classes::complete` meets its contract.
+use Rattle.scope.specs.GuestPageFault.{completedOf}
+use Rattle.by_value_classes.proofs.complete.Statement.{statement}
+use Rattle.by_value_classes.proofs.complete.Tie as tie
 use borrow.Author.Needs.{needs}
-use Rattle.answers_effect.proofs.complete.Statement.{statement}
-use Rattle.answers_effect.proofs.complete.Tie as tie
 
 enum-told : tie.Need-enum-told
 enum-told c = search needs

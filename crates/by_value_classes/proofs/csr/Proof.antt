@@ -1,8 +1,8 @@
--- `virtual_inst::effect` meets its contract.
-use Rattle.virtual_inst.specs.Stimecmp.{csrEffect}
+-- `by_value_classes::csr` meets its contract.
+use Rattle.scope.specs.VirtualInstruction.{csrEffect}
+use Rattle.by_value_classes.proofs.csr.Statement.{statement}
+use Rattle.by_value_classes.proofs.csr.Tie as tie
 use borrow.Author.Needs.{needs}
-use Rattle.virtual_inst.proofs.effect.Statement.{statement}
-use Rattle.virtual_inst.proofs.effect.Tie as tie
 
 enum-told : tie.Need-enum-told
 enum-told c = search needs
@@ -13,8 +13,8 @@ failed-requires c κs = search needs
 enum-told-2 : tie.Need-enum-told-2
 enum-told-2 c = search needs
 
-ask-requires : tie.Need-ask-requires
-ask-requires c κs = search needs
+ask-fetch-requires : tie.Need-ask-fetch-requires
+ask-fetch-requires c κs = search needs
 
 enum-known-d : tie.Need-enum-known-d
 enum-known-d c = search needs
@@ -34,20 +34,20 @@ returns c = simp (c .failed .ensures, c .before .enum-told .given .1)
 
 returns-2 : tie.Need-returns-2
 unfolding csrEffect
-returns-2 c = simp (c .ask .ensures, c .before .enum-told2 .given .1)
+returns-2 c = simp (c .ask-fetch .ensures, c .before .enum-told2 .given .1)
 
 returns-3 : tie.Need-returns-3
 unfolding csrEffect
 returns-3 c = simp (c .finished .ensures, c .before .advance .ensures, c .before .before .with-timer .ensures, c .before .before .before .before .d .given .1)
 
-pub effect-spec : {M : Type 1} → statement M
-effect-spec =
+pub csr-spec : {M : Type 1} → statement M
+csr-spec =
     tie.close
     (tie.spec
     enum-told
     failed-requires
     enum-told-2
-    ask-requires
+    ask-fetch-requires
     enum-known-d
     with-timer-requires
     advance-requires

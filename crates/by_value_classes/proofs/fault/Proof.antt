@@ -1,14 +1,14 @@
--- `page_fault::effect` meets its contract.
-use Rattle.page_fault.specs.Mmio.{faultEffect}
+-- `by_value_classes::fault` meets its contract.
+use Rattle.scope.specs.GuestPageFault.{faultEffect}
+use Rattle.by_value_classes.proofs.fault.Statement.{statement}
+use Rattle.by_value_classes.proofs.fault.Tie as tie
 use borrow.Author.Needs.{needs}
-use Rattle.page_fault.proofs.effect.Statement.{statement}
-use Rattle.page_fault.proofs.effect.Tie as tie
 
 enum-told : tie.Need-enum-told
 enum-told c = search needs
 
-ask-requires : tie.Need-ask-requires
-ask-requires c κs = search needs
+ask-fetch-requires : tie.Need-ask-fetch-requires
+ask-fetch-requires c κs = search needs
 
 enum-told-2 : tie.Need-enum-told-2
 enum-told-2 c = search needs
@@ -48,7 +48,7 @@ finished-requires-2 c κs = search needs
 
 returns : tie.Need-returns
 unfolding faultEffect
-returns c = simp (c .ask .ensures, c .before .enum-told .given .1)
+returns c = simp (c .ask-fetch .ensures, c .before .enum-told .given .1)
 
 returns-2 : tie.Need-returns-2
 unfolding faultEffect
@@ -70,12 +70,12 @@ returns-6 : tie.Need-returns-6
 unfolding faultEffect
 returns-6 c = simp (c .finished2 .ensures, c .before .advance2 .ensures, c .before .before .before .d2 .given .1)
 
-pub effect-spec : {M : Type 1} → statement M
-effect-spec =
+pub fault-spec : {M : Type 1} → statement M
+fault-spec =
     tie.close
     (tie.spec
     enum-told
-    ask-requires
+    ask-fetch-requires
     enum-told-2
     failed-requires
     enum-told-3

@@ -1,8 +1,8 @@
--- `fetch::effect` meets its contract.
-use Rattle.fetch.specs.Faults.{missedEffect}
+-- `by_value_classes::missed` meets its contract.
+use Rattle.scope.specs.FetchFaults.{missedEffect}
+use Rattle.by_value_classes.proofs.missed.Statement.{statement}
+use Rattle.by_value_classes.proofs.missed.Tie as tie
 use borrow.Author.Needs.{needs}
-use Rattle.fetch.proofs.effect.Statement.{statement}
-use Rattle.fetch.proofs.effect.Tie as tie
 
 enum-known-m : tie.Need-enum-known-m
 enum-known-m c = search needs
@@ -37,8 +37,8 @@ returns-3 : tie.Need-returns-3
 unfolding missedEffect
 returns-3 c = simp (c .failed .ensures, c .before .enum-told .given .1)
 
-pub effect-spec : {M : Type 1} → statement M
-effect-spec =
+pub missed-spec : {M : Type 1} → statement M
+missed-spec =
     tie.close
     (tie.spec
     enum-known-m

@@ -1,8 +1,8 @@
--- `deeds::asks` meets its contract.
-use Rattle.deeds.specs.Deeds.{asksOf}
+-- `by_value_ecall::asks` meets its contract.
+use Rattle.scope.specs.Ecalls.{asksOf}
+use Rattle.by_value_ecall.proofs.asks.Statement.{statement}
+use Rattle.by_value_ecall.proofs.asks.Tie as tie
 use borrow.Author.Needs.{needs}
-use Rattle.deeds.proofs.asks.Statement.{statement}
-use Rattle.deeds.proofs.asks.Tie as tie
 
 asking-requires : tie.Need-asking-requires
 asking-requires c κs = search needs

@@ -1,8 +1,8 @@
--- `ecall_effect::effect` meets its contract.
-use Rattle.ecall_effect.specs.Doing.{callEffect}
+-- `by_value_ecall::effect` meets its contract.
+use Rattle.scope.specs.Decided.{callEffect}
+use Rattle.by_value_ecall.proofs.effect.Statement.{statement}
+use Rattle.by_value_ecall.proofs.effect.Tie as tie
 use borrow.Author.Needs.{needs}
-use Rattle.ecall_effect.proofs.effect.Statement.{statement}
-use Rattle.ecall_effect.proofs.effect.Tie as tie
 
 enum-known-call : tie.Need-enum-known-call
 enum-known-call c = search needs

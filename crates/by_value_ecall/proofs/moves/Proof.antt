@@ -1,8 +1,8 @@
--- `deeds::moves` meets its contract.
-use Rattle.deeds.specs.Deeds.{movesOf}
+-- `by_value_ecall::moves` meets its contract.
+use Rattle.scope.specs.Ecalls.{movesOf}
+use Rattle.by_value_ecall.proofs.moves.Statement.{statement}
+use Rattle.by_value_ecall.proofs.moves.Tie as tie
 use borrow.Author.Needs.{needs}
-use Rattle.deeds.proofs.moves.Statement.{statement}
-use Rattle.deeds.proofs.moves.Tie as tie
 
 advance-requires : tie.Need-advance-requires
 advance-requires c κs = search needs

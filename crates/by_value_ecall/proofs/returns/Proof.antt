@@ -1,8 +1,8 @@
--- `deeds::returns` meets its contract.
-use Rattle.deeds.specs.Deeds.{returnsOf}
+-- `by_value_ecall::returns` meets its contract.
+use Rattle.scope.specs.Ecalls.{returnsOf}
+use Rattle.by_value_ecall.proofs.returns.Statement.{statement}
+use Rattle.by_value_ecall.proofs.returns.Tie as tie
 use borrow.Author.Needs.{needs}
-use Rattle.deeds.proofs.returns.Statement.{statement}
-use Rattle.deeds.proofs.returns.Tie as tie
 
 advance-requires : tie.Need-advance-requires
 advance-requires c κs = search needs

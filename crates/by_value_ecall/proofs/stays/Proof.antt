@@ -1,8 +1,8 @@
--- `deeds::stays` meets its contract.
-use Rattle.deeds.specs.Deeds.{staysOf}
+-- `by_value_ecall::stays` meets its contract.
+use Rattle.scope.specs.Ecalls.{staysOf}
+use Rattle.by_value_ecall.proofs.stays.Statement.{statement}
+use Rattle.by_value_ecall.proofs.stays.Tie as tie
 use borrow.Author.Needs.{needs}
-use Rattle.deeds.proofs.stays.Statement.{statement}
-use Rattle.deeds.proofs.stays.Tie as tie
 
 finished-requires : tie.Need-finished-requires
 finished-requires c κs = search needs

@@ -1,8 +1,8 @@
--- `entry::call` meets its contract.
-use Rattle.calls.specs.Entry.{calledOf}
+-- `by_value_entry::call` meets its contract.
+use Rattle.scope.specs.Calls.{calledOf}
+use Rattle.by_value_entry.proofs.call.Statement.{statement}
+use Rattle.by_value_entry.proofs.call.Tie as tie
 use borrow.Author.Needs.{needs}
-use Rattle.entry.proofs.call.Statement.{statement}
-use Rattle.entry.proofs.call.Tie as tie
 
 enum-told : tie.Need-enum-told
 enum-told c = search needs

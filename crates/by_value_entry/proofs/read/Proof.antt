@@ -1,8 +1,8 @@
--- `entry::read` meets its contract.
-use Rattle.calls.specs.Entry.{readOf}
+-- `by_value_entry::read` meets its contract.
+use Rattle.scope.specs.Calls.{readOf}
+use Rattle.by_value_entry.proofs.read.Statement.{statement}
+use Rattle.by_value_entry.proofs.read.Tie as tie
 use borrow.Author.Needs.{needs}
-use Rattle.entry.proofs.read.Statement.{statement}
-use Rattle.entry.proofs.read.Tie as tie
 
 get-gpr-requires : tie.Need-get-gpr-requires
 get-gpr-requires c κs = search needs

@@ -1,9 +1,9 @@
--- `gprs::get_gpr` meets its contract.
+-- `by_value_gprs::get_gpr` meets its contract.
 use borrow.Author.Tests.{lt-ltb, lt-leb, le-ltb, le-leb}
-use Rattle.calls.specs.Calls.{getGprOf}
+use Rattle.scope.specs.Calls.{getGprOf}
+use Rattle.by_value_gprs.proofs.get_gpr.Statement.{statement}
+use Rattle.by_value_gprs.proofs.get_gpr.Tie as tie
 use borrow.Author.Needs.{needs}
-use Rattle.gprs.proofs.get_gpr.Statement.{statement}
-use Rattle.gprs.proofs.get_gpr.Tie as tie
 
 register-requires : tie.Need-register-requires
 register-requires c κs = search needs

@@ -1,8 +1,8 @@
--- `gprs::set_gpr` meets its contract.
-use Rattle.calls.specs.Calls.{setGprOf}
+-- `by_value_gprs::set_gpr` meets its contract.
+use Rattle.scope.specs.Calls.{setGprOf}
+use Rattle.by_value_gprs.proofs.set_gpr.Statement.{statement}
+use Rattle.by_value_gprs.proofs.set_gpr.Tie as tie
 use borrow.Author.Needs.{needs}
-use Rattle.gprs.proofs.set_gpr.Statement.{statement}
-use Rattle.gprs.proofs.set_gpr.Tie as tie
 
 write-effect-requires : tie.Need-write-effect-requires
 write-effect-requires c κs = search needs

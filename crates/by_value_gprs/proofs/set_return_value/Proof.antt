@@ -1,8 +1,8 @@
--- `gprs::set_return_value` meets its contract.
-use Rattle.calls.specs.Calls.{setReturnOf}
+-- `by_value_gprs::set_return_value` meets its contract.
+use Rattle.scope.specs.Calls.{setReturnOf}
+use Rattle.by_value_gprs.proofs.set_return_value.Statement.{statement}
+use Rattle.by_value_gprs.proofs.set_return_value.Tie as tie
 use borrow.Author.Needs.{needs}
-use Rattle.gprs.proofs.set_return_value.Statement.{statement}
-use Rattle.gprs.proofs.set_return_value.Tie as tie
 
 done-requires : tie.Need-done-requires
 done-requires c κs = search needs

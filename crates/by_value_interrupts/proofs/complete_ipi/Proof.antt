@@ -1,8 +1,8 @@
--- `interrupts::complete_ipi` meets its contract.
-use Rattle.calls.specs.Calls.{completeIpiOf}
+-- `by_value_interrupts::complete_ipi` meets its contract.
+use Rattle.scope.specs.Calls.{completeIpiOf}
+use Rattle.by_value_interrupts.proofs.complete_ipi.Statement.{statement}
+use Rattle.by_value_interrupts.proofs.complete_ipi.Tie as tie
 use borrow.Author.Needs.{needs}
-use Rattle.interrupts.proofs.complete_ipi.Statement.{statement}
-use Rattle.interrupts.proofs.complete_ipi.Tie as tie
 
 completion-number-requires : tie.Need-completion-number-requires
 completion-number-requires c κs = search needs

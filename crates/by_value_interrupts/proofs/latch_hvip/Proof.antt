@@ -1,8 +1,8 @@
--- `interrupts::latch_hvip` meets its contract.
-use Rattle.calls.specs.Calls.{latchOf}
+-- `by_value_interrupts::latch_hvip` meets its contract.
+use Rattle.scope.specs.Calls.{latchOf}
+use Rattle.by_value_interrupts.proofs.latch_hvip.Statement.{statement}
+use Rattle.by_value_interrupts.proofs.latch_hvip.Tie as tie
 use borrow.Author.Needs.{needs}
-use Rattle.interrupts.proofs.latch_hvip.Statement.{statement}
-use Rattle.interrupts.proofs.latch_hvip.Tie as tie
 
 with-hvip-requires : tie.Need-with-hvip-requires
 with-hvip-requires c κs = search needs

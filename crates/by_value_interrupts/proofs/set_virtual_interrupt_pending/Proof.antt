@@ -1,8 +1,8 @@
--- `interrupts::set_virtual_interrupt_pending` meets its contract.
-use Rattle.calls.specs.Calls.{pendingOf}
+-- `by_value_interrupts::set_virtual_interrupt_pending` meets its contract.
+use Rattle.scope.specs.Calls.{pendingOf}
+use Rattle.by_value_interrupts.proofs.set_virtual_interrupt_pending.Statement.{statement}
+use Rattle.by_value_interrupts.proofs.set_virtual_interrupt_pending.Tie as tie
 use borrow.Author.Needs.{needs}
-use Rattle.interrupts.proofs.set_virtual_interrupt_pending.Statement.{statement}
-use Rattle.interrupts.proofs.set_virtual_interrupt_pending.Tie as tie
 
 pending-effect-requires : tie.Need-pending-effect-requires
 pending-effect-requires c κs = search needs

@@ -1,4 +1,4 @@
--- `thin::call_in_place` meets its contract: a walk of its MIR, by hand. The borrow is opened and the record copied out;
+-- `by_value_lent::call_in_place` meets its contract: a walk of its MIR, by hand. The borrow is opened and the record copied out;
 -- `call` is called, of which only its contract is known; the outcome's record is stored, and the borrow closed at it.
 -- Every machine value stays `LL.val` of its record: no field is written out, so the walk is the same for any fields.
 use mathlib.Core.Path.{_≡_, refl, ap, sym, subst, _∙_}
@@ -43,27 +43,27 @@ use denote.Triple.Table.{entered, cited}
 use denote.Triple.Walked.{says, Stays, stay-ref, stay-none, walkOf, AllGo, goes-none, goes-ref, Walks, ends-at, walked, walk-meets}
 use denote.Triple.Clauses.{ensured, lasts}
 use denote.Exit.{yes}
-use Rattle.calls.specs.Entry.{calledOf}
-use Rattle.thin.specs.Thin.{restOf}
-use Rattle.regs.specs.declared.Vcpu.{Vcpu}
-use Rattle.calls.specs.declared.HostCall.{HostCall}
-use Rattle.regs.specs.declared.Outcome.{Outcome}
-use Rattle.thin.specs.declared.Given.{Given as Gave}
-use Rattle.thin.proofs.call_in_place.Key.{name as #in-place}
-use Rattle.regs.proofs.Vcpu as Vc
-use Rattle.regs.proofs.Vcpu.Laws as Vc′
-use Rattle.calls.proofs.HostCall as D
-use Rattle.calls.proofs.HostCall.Laws as D′
-use Rattle.regs.proofs.Outcome as O
-use Rattle.regs.proofs.Outcome.Laws as O′
-use Rattle.thin.proofs.Given as R
-use Rattle.thin.proofs.Given.Laws as R′
-use Rattle.entry.proofs.call as call
-use Rattle.entry.proofs.call.Symbol as call-def
-use Rattle.entry.proofs.call.Met as call-thm
-use Rattle.thin.proofs.call_in_place as here
-use Rattle.thin.proofs.call_in_place.Statement as stated
-use Rattle.thin.proofs.call_in_place.Code as code
+use Rattle.scope.specs.Calls.{calledOf}
+use Rattle.by_value_lent.specs.Thin.{restOf}
+use Rattle.scope.specs.declared.machine.Vcpu.{Vcpu}
+use Rattle.scope.specs.declared.hosts.HostCall.{HostCall}
+use Rattle.scope.specs.declared.machine.Outcome.{Outcome}
+use Rattle.by_value_lent.specs.declared.Given.{Given as Gave}
+use Rattle.by_value_lent.proofs.call_in_place.Key.{name as #in-place}
+use Rattle.scope.proofs.machine.Vcpu as Vc
+use Rattle.scope.proofs.machine.Vcpu.Laws as Vc′
+use Rattle.scope.proofs.hosts.HostCall as D
+use Rattle.scope.proofs.hosts.HostCall.Laws as D′
+use Rattle.scope.proofs.machine.Outcome as O
+use Rattle.scope.proofs.machine.Outcome.Laws as O′
+use Rattle.by_value_lent.proofs.Given as R
+use Rattle.by_value_lent.proofs.Given.Laws as R′
+use Rattle.by_value_entry.proofs.call as call
+use Rattle.by_value_entry.proofs.call.Symbol as call-def
+use Rattle.by_value_entry.proofs.call.Met as call-thm
+use Rattle.by_value_lent.proofs.call_in_place as here
+use Rattle.by_value_lent.proofs.call_in_place.Statement as stated
+use Rattle.by_value_lent.proofs.call_in_place.Code as code
 
 abbrev Arg : Type 0
 Arg = RefT Vcpu × (HostCall × Unit {0})
@@ -73,16 +73,16 @@ stayed = (stay-ref (0 ∷ []) tt (plain (λ _. Vc.the-row)), (stay-none (λ _. D
 
 -- the types as the code spells them, and that each is its row's
 abbrev vcpu-ty : Ty
-vcpu-ty = spell code.Mir.table (tyNamed (114 ∷ 101 ∷ 103 ∷ 115 ∷ 58 ∷ 58 ∷ 86 ∷ 99 ∷ 112 ∷ 117 ∷ [], []))
+vcpu-ty = spell code.Mir.table (tyNamed (115 ∷ 99 ∷ 111 ∷ 112 ∷ 101 ∷ 58 ∷ 58 ∷ 109 ∷ 97 ∷ 99 ∷ 104 ∷ 105 ∷ 110 ∷ 101 ∷ 58 ∷ 58 ∷ 86 ∷ 99 ∷ 112 ∷ 117 ∷ [], []))
 
 abbrev call-ty : Ty
-call-ty = spell code.Mir.table (tyNamed (99 ∷ 97 ∷ 108 ∷ 108 ∷ 115 ∷ 58 ∷ 58 ∷ 72 ∷ 111 ∷ 115 ∷ 116 ∷ 67 ∷ 97 ∷ 108 ∷ 108 ∷ [], []))
+call-ty = spell code.Mir.table (tyNamed (115 ∷ 99 ∷ 111 ∷ 112 ∷ 101 ∷ 58 ∷ 58 ∷ 104 ∷ 111 ∷ 115 ∷ 116 ∷ 115 ∷ 58 ∷ 58 ∷ 72 ∷ 111 ∷ 115 ∷ 116 ∷ 67 ∷ 97 ∷ 108 ∷ 108 ∷ [], []))
 
 abbrev outcome-ty : Ty
-outcome-ty = spell code.Mir.table (tyNamed (114 ∷ 101 ∷ 103 ∷ 115 ∷ 58 ∷ 58 ∷ 79 ∷ 117 ∷ 116 ∷ 99 ∷ 111 ∷ 109 ∷ 101 ∷ [], []))
+outcome-ty = spell code.Mir.table (tyNamed (115 ∷ 99 ∷ 111 ∷ 112 ∷ 101 ∷ 58 ∷ 58 ∷ 109 ∷ 97 ∷ 99 ∷ 104 ∷ 105 ∷ 110 ∷ 101 ∷ 58 ∷ 58 ∷ 79 ∷ 117 ∷ 116 ∷ 99 ∷ 111 ∷ 109 ∷ 101 ∷ [], []))
 
 abbrev given-ty : Ty
-given-ty = spell code.Mir.table (tyNamed (116 ∷ 104 ∷ 105 ∷ 110 ∷ 58 ∷ 58 ∷ 71 ∷ 105 ∷ 118 ∷ 101 ∷ 110 ∷ [], []))
+given-ty = spell code.Mir.table (tyNamed (98 ∷ 121 ∷ 95 ∷ 118 ∷ 97 ∷ 108 ∷ 117 ∷ 101 ∷ 95 ∷ 108 ∷ 101 ∷ 110 ∷ 116 ∷ 58 ∷ 58 ∷ 71 ∷ 105 ∷ 118 ∷ 101 ∷ 110 ∷ [], []))
 
 vcpu-spelt : Vc.the-row .mir ≡ vcpu-ty ∷ []
 vcpu-spelt = refl
@@ -97,13 +97,13 @@ given-spelt : R.the-row .mir ≡ given-ty ∷ []
 given-spelt = refl
 
 abbrev reply-ty : Ty
-reply-ty = spell code.Mir.table (tyNamed (116 ∷ 121 ∷ 112 ∷ 101 ∷ 115 ∷ 58 ∷ 58 ∷ 82 ∷ 101 ∷ 112 ∷ 108 ∷ 121 ∷ [], []))
+reply-ty = spell code.Mir.table (tyNamed (115 ∷ 99 ∷ 111 ∷ 112 ∷ 101 ∷ 58 ∷ 58 ∷ 116 ∷ 114 ∷ 97 ∷ 112 ∷ 115 ∷ 58 ∷ 58 ∷ 82 ∷ 101 ∷ 112 ∷ 108 ∷ 121 ∷ [], []))
 
 -- the outcome's fields, and where each lies
 abbrev outcome-tys : Tys
 outcome-tys = tcons vcpu-ty (tcons reply-ty (tcons (tyArray (tyInt w64) 6) tnil))
 
-outcome-struct : outcome-ty ≡ tyStruct (114 ∷ 101 ∷ 103 ∷ 115 ∷ 58 ∷ 58 ∷ 79 ∷ 117 ∷ 116 ∷ 99 ∷ 111 ∷ 109 ∷ 101 ∷ []) outcome-tys
+outcome-struct : outcome-ty ≡ tyStruct (115 ∷ 99 ∷ 111 ∷ 112 ∷ 101 ∷ 58 ∷ 58 ∷ 109 ∷ 97 ∷ 99 ∷ 104 ∷ 105 ∷ 110 ∷ 101 ∷ 58 ∷ 58 ∷ 79 ∷ 117 ∷ 116 ∷ 99 ∷ 111 ∷ 109 ∷ 101 ∷ []) outcome-tys
 outcome-struct = refl
 
 field-0 : fieldAt zero outcome-tys 0 ≡ some (vcpu-ty, 0)
@@ -252,4 +252,4 @@ call-in-place-spec 𝓤 H 𝓜 𝓖 𝓡 =
     entered 𝓤 H (tripleOf 𝓤 H (𝓖 .A) here.signature (here.spec 𝓤 H (𝓖 .A) (𝓜 .mem) (𝓡 .run)))
     (tables 𝓤 H 𝓜 𝓡 code.env .C) (tables 𝓤 H 𝓜 𝓡 code.env .Λ) #in-place code.function (code.unfolded 𝓤 H 𝓜 𝓡)
     (meets 𝓤 H (𝓖 .A) (givenOf 𝓤 H 𝓜 𝓖) (𝓜 .mem) (𝓡 .run) (tablesOf 𝓤 H 𝓜 (tables 𝓤 H 𝓜 𝓡 code.env))
-    (cited 𝓤 H (Called 𝓤 H (𝓖 .A) (𝓜 .mem) (𝓡 .run)) 𝓜 𝓡 code.env call-def.name call-def.routine code.calls-entry·call (call-thm.met 𝓤 H 𝓜 𝓖 𝓡)))
+    (cited 𝓤 H (Called 𝓤 H (𝓖 .A) (𝓜 .mem) (𝓡 .run)) 𝓜 𝓡 code.env call-def.name call-def.routine code.calls-by-value-entry·call (call-thm.met 𝓤 H 𝓜 𝓖 𝓡)))

@@ -1,11 +1,11 @@
--- `printing::first` meets its contract.
+-- `by_value_printing::first` meets its contract.
 use borrow.Author.Tests.{lt-ltb, lt-leb, le-ltb, le-leb}
-use Rattle.calls.specs.Calls.{firstOf}
+use Rattle.scope.specs.Calls.{firstOf}
+use Rattle.by_value_printing.proofs.first.Statement.{statement}
+use Rattle.by_value_printing.proofs.first.Tie as tie
 use mathlib.Core.Path.{sym}
 use lib.Seq.{length-take-le}
 use borrow.Author.Needs.{needs}
-use Rattle.printing.proofs.first.Statement.{statement}
-use Rattle.printing.proofs.first.Tie as tie
 
 slice-aggregate-result : tie.Need-slice-aggregate-result
 unfolding firstOf

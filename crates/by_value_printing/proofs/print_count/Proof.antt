@@ -1,8 +1,8 @@
--- `printing::print_count` meets its contract.
-use Rattle.calls.specs.Calls.{printCount}
+-- `by_value_printing::print_count` meets its contract.
+use Rattle.scope.specs.Calls.{printCount}
+use Rattle.by_value_printing.proofs.print_count.Statement.{statement}
+use Rattle.by_value_printing.proofs.print_count.Tie as tie
 use borrow.Author.Needs.{needs}
-use Rattle.printing.proofs.print_count.Statement.{statement}
-use Rattle.printing.proofs.print_count.Tie as tie
 
 enum-told : tie.Need-enum-told
 enum-told c = search needs

@@ -1,8 +1,8 @@
--- `printing::to_print` meets its contract.
-use Rattle.calls.specs.Calls.{printedOf}
+-- `by_value_printing::to_print` meets its contract.
+use Rattle.scope.specs.Calls.{printedOf}
+use Rattle.by_value_printing.proofs.to_print.Statement.{statement}
+use Rattle.by_value_printing.proofs.to_print.Tie as tie
 use borrow.Author.Needs.{needs}
-use Rattle.printing.proofs.to_print.Statement.{statement}
-use Rattle.printing.proofs.to_print.Tie as tie
 
 print-count-requires : tie.Need-print-count-requires
 print-count-requires c κs = search needs

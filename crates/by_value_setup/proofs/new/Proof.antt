@@ -1,9 +1,9 @@
--- `setup::new` meets its contract.
+-- `by_value_setup::new` meets its contract.
 use mathlib.Core.Path.{refl}
-use Rattle.calls.specs.Calls.{newOf}
+use Rattle.scope.specs.Calls.{newOf}
+use Rattle.by_value_setup.proofs.new.Statement.{statement}
+use Rattle.by_value_setup.proofs.new.Tie as tie
 use borrow.Author.Needs.{needs}
-use Rattle.setup.proofs.new.Statement.{statement}
-use Rattle.setup.proofs.new.Tie as tie
 
 array-write-x : tie.Need-array-write-x
 array-write-x c = search needs

@@ -1,8 +1,8 @@
--- `setup::set_entry` meets its contract.
-use Rattle.calls.specs.Calls.{setEntryOf}
+-- `by_value_setup::set_entry` meets its contract.
+use Rattle.scope.specs.Calls.{setEntryOf}
+use Rattle.by_value_setup.proofs.set_entry.Statement.{statement}
+use Rattle.by_value_setup.proofs.set_entry.Tie as tie
 use borrow.Author.Needs.{needs}
-use Rattle.setup.proofs.set_entry.Statement.{statement}
-use Rattle.setup.proofs.set_entry.Tie as tie
 
 entry-csrs-requires : tie.Need-entry-csrs-requires
 entry-csrs-requires c κs = search needs

@@ -1,8 +1,8 @@
--- `setup::set_nested_page_table` meets its contract.
-use Rattle.calls.specs.Calls.{pagingOf}
+-- `by_value_setup::set_nested_page_table` meets its contract.
+use Rattle.scope.specs.Calls.{pagingOf}
+use Rattle.by_value_setup.proofs.set_nested_page_table.Statement.{statement}
+use Rattle.by_value_setup.proofs.set_nested_page_table.Tie as tie
 use borrow.Author.Needs.{needs}
-use Rattle.setup.proofs.set_nested_page_table.Statement.{statement}
-use Rattle.setup.proofs.set_nested_page_table.Tie as tie
 
 paging-effect-requires : tie.Need-paging-effect-requires
 paging-effect-requires c κs = search needs

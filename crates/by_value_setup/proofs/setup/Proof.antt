@@ -1,8 +1,8 @@
--- `setup::setup` meets its contract.
-use Rattle.calls.specs.Calls.{setupOf}
+-- `by_value_setup::setup` meets its contract.
+use Rattle.scope.specs.Calls.{setupOf}
+use Rattle.by_value_setup.proofs.setup.Statement.{statement}
+use Rattle.by_value_setup.proofs.setup.Tie as tie
 use borrow.Author.Needs.{needs}
-use Rattle.setup.proofs.setup.Statement.{statement}
-use Rattle.setup.proofs.setup.Tie as tie
 
 setup-csrs-requires : tie.Need-setup-csrs-requires
 setup-csrs-requires c κs = search needs

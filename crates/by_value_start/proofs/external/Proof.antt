@@ -1,8 +1,8 @@
--- `trap::external` meets its contract.
-use Rattle.calls.specs.Traps.{externalOf}
+-- `by_value_start::external` meets its contract.
+use Rattle.scope.specs.Classes.{externalOf}
+use Rattle.by_value_start.proofs.external.Statement.{statement}
+use Rattle.by_value_start.proofs.external.Tie as tie
 use borrow.Author.Needs.{needs}
-use Rattle.trap.proofs.external.Statement.{statement}
-use Rattle.trap.proofs.external.Tie as tie
 
 finished-requires : tie.Need-finished-requires
 finished-requires c κs = search needs

@@ -1,8 +1,8 @@
--- `trap::mmio` meets its contract.
-use Rattle.calls.specs.Traps.{mmioOf}
+-- `by_value_start::mmio` meets its contract.
+use Rattle.scope.specs.Classes.{mmioOf}
+use Rattle.by_value_start.proofs.mmio.Statement.{statement}
+use Rattle.by_value_start.proofs.mmio.Tie as tie
 use borrow.Author.Needs.{needs}
-use Rattle.trap.proofs.mmio.Statement.{statement}
-use Rattle.trap.proofs.mmio.Tie as tie
 
 store-source-requires : tie.Need-store-source-requires
 store-source-requires c κs = search needs
@@ -13,14 +13,14 @@ register-requires c κs = search needs
 decide-requires : tie.Need-decide-requires
 decide-requires c κs = search needs
 
-effect-requires : tie.Need-effect-requires
-effect-requires c κs = search needs
+fault-requires : tie.Need-fault-requires
+fault-requires c κs = search needs
 
 returns : tie.Need-returns
 unfolding mmioOf
-returns c = simp (c .effect .ensures, c .before .decide .ensures, c .before .before .register .ensures, c .before .before .before .store-source .ensures)
+returns c = simp (c .fault .ensures, c .before .decide .ensures, c .before .before .register .ensures, c .before .before .before .store-source .ensures)
 
 pub mmio-spec : {M : Type 1} → statement M
 mmio-spec =
     tie.close
-    (tie.spec store-source-requires register-requires decide-requires effect-requires returns)
+    (tie.spec store-source-requires register-requires decide-requires fault-requires returns)

@@ -1,8 +1,8 @@
--- `trap::other` meets its contract.
-use Rattle.calls.specs.Traps.{otherOf}
+-- `by_value_start::other` meets its contract.
+use Rattle.scope.specs.Classes.{otherOf}
+use Rattle.by_value_start.proofs.other.Statement.{statement}
+use Rattle.by_value_start.proofs.other.Tie as tie
 use borrow.Author.Needs.{needs}
-use Rattle.trap.proofs.other.Statement.{statement}
-use Rattle.trap.proofs.other.Tie as tie
 
 failed-requires : tie.Need-failed-requires
 failed-requires c κs = search needs

@@ -1,8 +1,8 @@
--- `trap::page_fault_trap` meets its contract.
-use Rattle.calls.specs.Traps.{pageFaultOf}
+-- `by_value_start::page_fault_trap` meets its contract.
+use Rattle.scope.specs.Classes.{pageFaultOf}
+use Rattle.by_value_start.proofs.page_fault_trap.Statement.{statement}
+use Rattle.by_value_start.proofs.page_fault_trap.Tie as tie
 use borrow.Author.Needs.{needs}
-use Rattle.trap.proofs.page_fault_trap.Statement.{statement}
-use Rattle.trap.proofs.page_fault_trap.Tie as tie
 
 guest-page-fault-addr-requires : tie.Need-guest-page-fault-addr-requires
 guest-page-fault-addr-requires c κs = search needs

@@ -1,8 +1,8 @@
--- `trap::sbi` meets its contract.
-use Rattle.calls.specs.Traps.{sbiOf}
+-- `by_value_start::sbi` meets its contract.
+use Rattle.scope.specs.Classes.{sbiOf}
+use Rattle.by_value_start.proofs.sbi.Statement.{statement}
+use Rattle.by_value_start.proofs.sbi.Tie as tie
 use borrow.Author.Needs.{needs}
-use Rattle.trap.proofs.sbi.Statement.{statement}
-use Rattle.trap.proofs.sbi.Tie as tie
 
 decide-requires : tie.Need-decide-requires
 decide-requires c κs = search needs

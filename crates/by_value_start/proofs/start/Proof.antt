@@ -1,8 +1,8 @@
--- `trap::start` meets its contract.
-use Rattle.calls.specs.Traps.{startEffect}
+-- `by_value_start::start` meets its contract.
+use Rattle.scope.specs.Classes.{startEffect}
+use Rattle.by_value_start.proofs.start.Statement.{statement}
+use Rattle.by_value_start.proofs.start.Tie as tie
 use borrow.Author.Needs.{needs}
-use Rattle.trap.proofs.start.Statement.{statement}
-use Rattle.trap.proofs.start.Tie as tie
 
 is-idle-requires : tie.Need-is-idle-requires
 is-idle-requires c κs = search needs

@@ -1,21 +1,18 @@
--- `trap::started` meets its contract.
-use Rattle.calls.specs.Traps.{startedOf}
+-- `by_value_start::started` meets its contract.
+use Rattle.by_value_start.proofs.started.Statement.{statement}
+use Rattle.by_value_start.proofs.started.Tie as tie
 use borrow.Author.Needs.{needs}
-use Rattle.trap.proofs.started.Statement.{statement}
-use Rattle.trap.proofs.started.Tie as tie
 
 trap-requires : tie.Need-trap-requires
 trap-requires c κs = search needs
 
 returns : tie.Need-returns
-unfolding startedOf
 returns c = simp (c .trap .ensures, c .before .if1 .taken)
 
 refused-requires : tie.Need-refused-requires
 refused-requires c κs = search needs
 
 returns-2 : tie.Need-returns-2
-unfolding startedOf
 returns-2 c = simp (c .refused .ensures, c .before .if1 .left)
 
 pub started-spec : {M : Type 1} → statement M

@@ -1,9 +1,9 @@
--- `trap::trap` meets its contract.
+-- `by_value_start::trap` meets its contract.
 use borrow.Author.Tests.{ne-eqb}
-use Rattle.calls.specs.Traps.{trapOf, causeOf}
+use Rattle.scope.specs.Classes.{trapOf}
+use Rattle.by_value_start.proofs.trap.Statement.{statement}
+use Rattle.by_value_start.proofs.trap.Tie as tie
 use borrow.Author.Needs.{needs}
-use Rattle.trap.proofs.trap.Statement.{statement}
-use Rattle.trap.proofs.trap.Tie as tie
 
 array-read-sbi : tie.Need-array-read-sbi
 array-read-sbi c = search needs
@@ -48,35 +48,35 @@ other-requires : tie.Need-other-requires
 other-requires c κs = search needs
 
 returns : tie.Need-returns
-unfolding trapOf causeOf
+unfolding trapOf
 returns c = simp (c .sbi .ensures, c .before .arguments .ensures, c .before .before .match .keys1)
 
 returns-2 : tie.Need-returns-2
-unfolding trapOf causeOf
+unfolding trapOf
 returns-2 c = simp (c .stimecmp .ensures, c .before .register .ensures, c .before .before .rs1 .ensures, c .before .before .before .before .match .keys2)
 
 returns-3 : tie.Need-returns-3
-unfolding trapOf causeOf
+unfolding trapOf
 returns-3 c = simp (c .page-fault-trap .ensures, c .before .match .keys3)
 
 returns-4 : tie.Need-returns-4
-unfolding trapOf causeOf
+unfolding trapOf
 returns-4 c = simp (c .page-fault-trap2 .ensures, c .before .match .keys4)
 
 returns-5 : tie.Need-returns-5
-unfolding trapOf causeOf
+unfolding trapOf
 returns-5 c = simp (c .external .ensures, c .before .match .keys5)
 
 returns-6 : tie.Need-returns-6
-unfolding trapOf causeOf
+unfolding trapOf
 returns-6 c = simp (c .external2 .ensures, c .before .match .keys6)
 
 returns-7 : tie.Need-returns-7
-unfolding trapOf causeOf
+unfolding trapOf
 returns-7 c = simp (c .external3 .ensures, c .before .match .keys7)
 
 returns-8 : tie.Need-returns-8
-unfolding trapOf causeOf
+unfolding trapOf
 returns-8 c = simp (c .other .ensures, c .before .is-known-cause .ensures, ne-eqb _ _ (c .before .before .match .rest .1), ne-eqb _ _ (c .before .before .match .rest .0 .1), ne-eqb _ _ (c .before .before .match .rest .0 .0 .1), ne-eqb _ _ (c .before .before .match .rest .0 .0 .0 .1), ne-eqb _ _ (c .before .before .match .rest .0 .0 .0 .0 .1), ne-eqb _ _ (c .before .before .match .rest .0 .0 .0 .0 .0 .1), ne-eqb _ _ (c .before .before .match .rest .0 .0 .0 .0 .0 .0 .1))
 
 pub trap-spec : {M : Type 1} → statement M

@@ -1,8 +1,8 @@
--- `vcpu::answer` meets its contract.
-use Rattle.calls.specs.Calls.{answerOf}
+-- `by_value_vcpu::answer` meets its contract.
+use Rattle.scope.specs.Calls.{answerOf}
+use Rattle.by_value_vcpu.proofs.answer.Statement.{statement}
+use Rattle.by_value_vcpu.proofs.answer.Tie as tie
 use borrow.Author.Needs.{needs}
-use Rattle.vcpu.proofs.answer.Statement.{statement}
-use Rattle.vcpu.proofs.answer.Tie as tie
 
 answer-requires : tie.Need-answer-requires
 answer-requires c κs = search needs

@@ -1,8 +1,8 @@
--- `vcpu::complete_load` meets its contract.
-use Rattle.calls.specs.Calls.{completeLoadOf}
+-- `by_value_vcpu::complete_load` meets its contract.
+use Rattle.scope.specs.Calls.{completeLoadOf}
+use Rattle.by_value_vcpu.proofs.complete_load.Statement.{statement}
+use Rattle.by_value_vcpu.proofs.complete_load.Tie as tie
 use borrow.Author.Needs.{needs}
-use Rattle.vcpu.proofs.complete_load.Statement.{statement}
-use Rattle.vcpu.proofs.complete_load.Tie as tie
 
 complete-requires : tie.Need-complete-requires
 complete-requires c κs = search needs

@@ -1,8 +1,8 @@
--- `vcpu::start` meets its contract.
-use Rattle.calls.specs.Calls.{startOf}
+-- `by_value_vcpu::start` meets its contract.
+use Rattle.scope.specs.Calls.{startOf}
+use Rattle.by_value_vcpu.proofs.start.Statement.{statement}
+use Rattle.by_value_vcpu.proofs.start.Tie as tie
 use borrow.Author.Needs.{needs}
-use Rattle.vcpu.proofs.start.Statement.{statement}
-use Rattle.vcpu.proofs.start.Tie as tie
 
 start-requires : tie.Need-start-requires
 start-requires c κs = search needs

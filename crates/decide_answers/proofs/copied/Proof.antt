@@ -1,8 +1,8 @@
--- `answers::copied` meets its contract.
+-- `decide_answers::copied` meets its contract.
 use borrow.Author.Tests.{eq-eqb, ne-eqb}
-use Rattle.answers.specs.Answers.{copiedOf}
-use Rattle.answers.proofs.copied.Statement.{statement}
-use Rattle.answers.proofs.copied.Tie as tie
+use Rattle.scope.specs.Ecalls.{copiedOf}
+use Rattle.decide_answers.proofs.copied.Statement.{statement}
+use Rattle.decide_answers.proofs.copied.Tie as tie
 
 returns : tie.Need-returns
 unfolding copiedOf

@@ -1,8 +1,8 @@
--- `answers::copied_out` meets its contract.
+-- `decide_answers::copied_out` meets its contract.
 use borrow.Author.Tests.{eq-eqb, ne-eqb}
-use Rattle.answers.specs.Answers.{copiedOutOf}
-use Rattle.answers.proofs.copied_out.Statement.{statement}
-use Rattle.answers.proofs.copied_out.Tie as tie
+use Rattle.scope.specs.Ecalls.{copiedOutOf}
+use Rattle.decide_answers.proofs.copied_out.Statement.{statement}
+use Rattle.decide_answers.proofs.copied_out.Tie as tie
 
 returns : tie.Need-returns
 unfolding copiedOutOf

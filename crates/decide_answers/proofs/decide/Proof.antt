@@ -1,8 +1,8 @@
--- `answers::decide` meets its contract.
-use Rattle.answers.specs.Answers.{answeredOf}
+-- `decide_answers::decide` meets its contract.
+use Rattle.scope.specs.Ecalls.{answeredOf}
+use Rattle.decide_answers.proofs.decide.Statement.{statement}
+use Rattle.decide_answers.proofs.decide.Tie as tie
 use borrow.Author.Needs.{needs}
-use Rattle.answers.proofs.decide.Statement.{statement}
-use Rattle.answers.proofs.decide.Tie as tie
 
 enum-told : tie.Need-enum-told
 enum-told c = search needs

@@ -1,8 +1,8 @@
--- `answers::mask` meets its contract.
-use Rattle.answers.specs.Answers.{maskOf}
+-- `decide_answers::mask` meets its contract.
+use Rattle.scope.specs.Ecalls.{maskOf}
+use Rattle.decide_answers.proofs.mask.Statement.{statement}
+use Rattle.decide_answers.proofs.mask.Tie as tie
 use borrow.Author.Needs.{needs}
-use Rattle.answers.proofs.mask.Statement.{statement}
-use Rattle.answers.proofs.mask.Tie as tie
 
 enum-known-r : tie.Need-enum-known-r
 enum-known-r c = search needs

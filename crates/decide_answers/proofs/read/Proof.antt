@@ -1,8 +1,8 @@
--- `answers::read` meets its contract.
+-- `decide_answers::read` meets its contract.
 use borrow.Author.Tests.{eq-eqb, ne-eqb, lt-ltb, lt-leb, le-ltb, le-leb}
-use Rattle.answers.specs.Answers.{readOf}
-use Rattle.answers.proofs.read.Statement.{statement}
-use Rattle.answers.proofs.read.Tie as tie
+use Rattle.scope.specs.Ecalls.{readOf}
+use Rattle.decide_answers.proofs.read.Statement.{statement}
+use Rattle.decide_answers.proofs.read.Tie as tie
 
 returns : tie.Need-returns
 unfolding readOf

@@ -1,8 +1,8 @@
--- `dbcn::lesser` meets its contract.
+-- `decide_ecall_console::lesser` meets its contract.
 use borrow.Author.Tests.{lt-ltb, lt-leb, le-ltb, le-leb}
-use Rattle.sbi.specs.Calls.{lesserOf}
-use Rattle.dbcn.proofs.lesser.Statement.{statement}
-use Rattle.dbcn.proofs.lesser.Tie as tie
+use Rattle.scope.specs.Ecalls.{lesserOf}
+use Rattle.decide_ecall_console.proofs.lesser.Statement.{statement}
+use Rattle.decide_ecall_console.proofs.lesser.Tie as tie
 
 returns : tie.Need-returns
 unfolding lesserOf

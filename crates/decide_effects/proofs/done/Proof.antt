@@ -1,8 +1,8 @@
--- `effects::done` meets its contract.
-use Rattle.regs.specs.Effects.{doneOf}
+-- `decide_effects::done` meets its contract.
+use Rattle.scope.specs.Refusals.{doneOf}
+use Rattle.decide_effects.proofs.done.Statement.{statement}
+use Rattle.decide_effects.proofs.done.Tie as tie
 use borrow.Author.Needs.{needs}
-use Rattle.effects.proofs.done.Statement.{statement}
-use Rattle.effects.proofs.done.Tie as tie
 
 no-args-requires : tie.Need-no-args-requires
 no-args-requires c κs = search needs

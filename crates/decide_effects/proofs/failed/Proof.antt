@@ -1,8 +1,8 @@
--- `effects::failed` meets its contract.
-use Rattle.regs.specs.Effects.{failedOf}
+-- `decide_effects::failed` meets its contract.
+use Rattle.scope.specs.Refusals.{failedOf}
+use Rattle.decide_effects.proofs.failed.Statement.{statement}
+use Rattle.decide_effects.proofs.failed.Tie as tie
 use borrow.Author.Needs.{needs}
-use Rattle.effects.proofs.failed.Statement.{statement}
-use Rattle.effects.proofs.failed.Tie as tie
 
 no-args-requires : tie.Need-no-args-requires
 no-args-requires c κs = search needs

@@ -1,8 +1,8 @@
--- `effects::finished` meets its contract.
-use Rattle.regs.specs.Effects.{finishedOf}
+-- `decide_effects::finished` meets its contract.
+use Rattle.scope.specs.Refusals.{finishedOf}
+use Rattle.decide_effects.proofs.finished.Statement.{statement}
+use Rattle.decide_effects.proofs.finished.Tie as tie
 use borrow.Author.Needs.{needs}
-use Rattle.effects.proofs.finished.Statement.{statement}
-use Rattle.effects.proofs.finished.Tie as tie
 
 no-args-requires : tie.Need-no-args-requires
 no-args-requires c κs = search needs

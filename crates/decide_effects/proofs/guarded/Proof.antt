@@ -1,9 +1,9 @@
--- `effects::guarded` meets its contract.
+-- `decide_effects::guarded` meets its contract.
 use borrow.Author.Tests.{eq-eqb, ne-eqb}
-use Rattle.regs.specs.Effects.{guardedOf}
+use Rattle.scope.specs.Refusals.{guardedOf}
+use Rattle.decide_effects.proofs.guarded.Statement.{statement}
+use Rattle.decide_effects.proofs.guarded.Tie as tie
 use borrow.Author.Needs.{needs}
-use Rattle.effects.proofs.guarded.Statement.{statement}
-use Rattle.effects.proofs.guarded.Tie as tie
 
 returns : tie.Need-returns
 unfolding guardedOf

@@ -1,8 +1,8 @@
--- `effects::no_args` meets its contract.
+-- `decide_effects::no_args` meets its contract.
 use mathlib.Core.Path.{refl}
-use Rattle.regs.specs.Effects.{noArgs}
-use Rattle.effects.proofs.no_args.Statement.{statement}
-use Rattle.effects.proofs.no_args.Tie as tie
+use Rattle.scope.specs.Record.{noArgs}
+use Rattle.decide_effects.proofs.no_args.Statement.{statement}
+use Rattle.decide_effects.proofs.no_args.Tie as tie
 
 returns : tie.Need-returns
 unfolding noArgs

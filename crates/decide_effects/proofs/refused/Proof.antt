@@ -1,8 +1,8 @@
--- `effects::refused` meets its contract.
-use Rattle.regs.specs.Effects.{refusedOf}
+-- `decide_effects::refused` meets its contract.
+use Rattle.scope.specs.Refusals.{refusedOf}
+use Rattle.decide_effects.proofs.refused.Statement.{statement}
+use Rattle.decide_effects.proofs.refused.Tie as tie
 use borrow.Author.Needs.{needs}
-use Rattle.effects.proofs.refused.Statement.{statement}
-use Rattle.effects.proofs.refused.Tie as tie
 
 no-args-requires : tie.Need-no-args-requires
 no-args-requires c κs = search needs

@@ -1,8 +1,8 @@
--- `fetch::decide` meets its contract.
-use Rattle.fetch.specs.Faults.{missedOf}
+-- `decide_fetch::decide` meets its contract.
+use Rattle.scope.specs.FetchFaults.{missedOf}
+use Rattle.decide_fetch.proofs.decide.Statement.{statement}
+use Rattle.decide_fetch.proofs.decide.Tie as tie
 use borrow.Author.Needs.{needs}
-use Rattle.fetch.proofs.decide.Statement.{statement}
-use Rattle.fetch.proofs.decide.Tie as tie
 
 enum-told : tie.Need-enum-told
 enum-told c = search needs

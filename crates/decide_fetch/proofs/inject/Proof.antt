@@ -1,8 +1,8 @@
--- `fetch::inject` meets its contract.
-use Rattle.fetch.specs.Faults.{injectedOf}
+-- `decide_fetch::inject` meets its contract.
+use Rattle.scope.specs.FetchFaults.{injectedOf}
+use Rattle.decide_fetch.proofs.inject.Statement.{statement}
+use Rattle.decide_fetch.proofs.inject.Tie as tie
 use borrow.Author.Needs.{needs}
-use Rattle.fetch.proofs.inject.Statement.{statement}
-use Rattle.fetch.proofs.inject.Tie as tie
 
 trap-status-requires : tie.Need-trap-status-requires
 trap-status-requires c κs = search needs

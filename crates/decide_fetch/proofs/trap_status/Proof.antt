@@ -1,8 +1,8 @@
--- `fetch::trap_status` meets its contract.
-use Rattle.fetch.specs.Faults.{trapStatusOf}
+-- `decide_fetch::trap_status` meets its contract.
+use Rattle.scope.specs.FetchFaults.{trapStatusOf}
+use Rattle.decide_fetch.proofs.trap_status.Statement.{statement}
+use Rattle.decide_fetch.proofs.trap_status.Tie as tie
 use borrow.Author.Needs.{needs}
-use Rattle.fetch.proofs.trap_status.Statement.{statement}
-use Rattle.fetch.proofs.trap_status.Tie as tie
 
 sie-requires : tie.Need-sie-requires
 sie-requires c κs = search needs

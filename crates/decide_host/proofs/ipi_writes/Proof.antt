@@ -1,8 +1,8 @@
--- `host_calls::ipi_writes` meets its contract.
-use Rattle.host_calls.specs.HostCalls.{ipiWrites}
+-- `decide_host::ipi_writes` meets its contract.
+use Rattle.scope.specs.Host.{ipiWrites}
+use Rattle.decide_host.proofs.ipi_writes.Statement.{statement}
+use Rattle.decide_host.proofs.ipi_writes.Tie as tie
 use borrow.Author.Needs.{needs}
-use Rattle.host_calls.proofs.ipi_writes.Statement.{statement}
-use Rattle.host_calls.proofs.ipi_writes.Tie as tie
 
 enum-told : tie.Need-enum-told
 enum-told c = search needs

@@ -1,9 +1,9 @@
--- `host_calls::paging_by` meets its contract.
+-- `decide_host::paging_by` meets its contract.
 use borrow.Author.Tests.{eq-eqb, ne-eqb}
-use Rattle.host_calls.specs.HostCalls.{pagingBy}
+use Rattle.scope.specs.Host.{pagingBy}
+use Rattle.decide_host.proofs.paging_by.Statement.{statement}
+use Rattle.decide_host.proofs.paging_by.Tie as tie
 use borrow.Author.Needs.{needs}
-use Rattle.host_calls.proofs.paging_by.Statement.{statement}
-use Rattle.host_calls.proofs.paging_by.Tie as tie
 
 table-csrs-requires : tie.Need-table-csrs-requires
 table-csrs-requires c κs = search needs

@@ -1,9 +1,9 @@
--- `host_calls::paging_effect` meets its contract.
+-- `decide_host::paging_effect` meets its contract.
 use borrow.Author.Tests.{ne-eqb}
-use Rattle.host_calls.specs.HostCalls.{pagingEffect}
+use Rattle.scope.specs.Host.{pagingEffect}
+use Rattle.decide_host.proofs.paging_effect.Statement.{statement}
+use Rattle.decide_host.proofs.paging_effect.Tie as tie
 use borrow.Author.Needs.{needs}
-use Rattle.host_calls.proofs.paging_effect.Statement.{statement}
-use Rattle.host_calls.proofs.paging_effect.Tie as tie
 
 paging-by-requires : tie.Need-paging-by-requires
 paging-by-requires c κs = search needs

@@ -1,9 +1,9 @@
--- `host_calls::pending_by` meets its contract.
+-- `decide_host::pending_by` meets its contract.
 use borrow.Author.Tests.{eq-eqb, ne-eqb}
-use Rattle.host_calls.specs.HostCalls.{pendingBy}
+use Rattle.scope.specs.Host.{pendingBy}
+use Rattle.decide_host.proofs.pending_by.Statement.{statement}
+use Rattle.decide_host.proofs.pending_by.Tie as tie
 use borrow.Author.Needs.{needs}
-use Rattle.host_calls.proofs.pending_by.Statement.{statement}
-use Rattle.host_calls.proofs.pending_by.Tie as tie
 
 with-bits-requires : tie.Need-with-bits-requires
 with-bits-requires c κs = search needs

@@ -1,8 +1,8 @@
--- `host_calls::setup_csrs` meets its contract.
-use Rattle.host_calls.specs.HostCalls.{setupCsrs}
+-- `decide_host::setup_csrs` meets its contract.
+use Rattle.scope.specs.Host.{setupCsrs}
+use Rattle.decide_host.proofs.setup_csrs.Statement.{statement}
+use Rattle.decide_host.proofs.setup_csrs.Tie as tie
 use borrow.Author.Needs.{needs}
-use Rattle.host_calls.proofs.setup_csrs.Statement.{statement}
-use Rattle.host_calls.proofs.setup_csrs.Tie as tie
 
 with-timer-requires : tie.Need-with-timer-requires
 with-timer-requires c κs = search needs

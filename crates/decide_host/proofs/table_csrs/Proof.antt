@@ -1,8 +1,8 @@
--- `host_calls::table_csrs` meets its contract.
-use Rattle.host_calls.specs.HostCalls.{tableCsrs}
+-- `decide_host::table_csrs` meets its contract.
+use Rattle.scope.specs.Host.{tableCsrs}
+use Rattle.decide_host.proofs.table_csrs.Statement.{statement}
+use Rattle.decide_host.proofs.table_csrs.Tie as tie
 use borrow.Author.Needs.{needs}
-use Rattle.host_calls.proofs.table_csrs.Statement.{statement}
-use Rattle.host_calls.proofs.table_csrs.Tie as tie
 
 hgatp-value-requires : tie.Need-hgatp-value-requires
 hgatp-value-requires c κs = search needs

@@ -1,9 +1,9 @@
--- `host_calls::write_effect` meets its contract.
+-- `decide_host::write_effect` meets its contract.
 use borrow.Author.Tests.{lt-ltb, lt-leb, le-ltb, le-leb}
-use Rattle.host_calls.specs.HostCalls.{writeEffect}
+use Rattle.scope.specs.Host.{writeEffect}
+use Rattle.decide_host.proofs.write_effect.Statement.{statement}
+use Rattle.decide_host.proofs.write_effect.Tie as tie
 use borrow.Author.Needs.{needs}
-use Rattle.host_calls.proofs.write_effect.Statement.{statement}
-use Rattle.host_calls.proofs.write_effect.Tie as tie
 
 done-requires : tie.Need-done-requires
 done-requires c κs = search needs

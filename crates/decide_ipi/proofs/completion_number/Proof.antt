@@ -1,8 +1,8 @@
--- `sbi_ipi::completion_number` meets its contract.
-use Rattle.sbi_ipi.specs.Ipi.{completionNumber}
+-- `decide_ipi::completion_number` meets its contract.
+use Rattle.scope.specs.Ecalls.{completionNumber}
+use Rattle.decide_ipi.proofs.completion_number.Statement.{statement}
+use Rattle.decide_ipi.proofs.completion_number.Tie as tie
 use borrow.Author.Needs.{needs}
-use Rattle.sbi_ipi.proofs.completion_number.Statement.{statement}
-use Rattle.sbi_ipi.proofs.completion_number.Tie as tie
 
 enum-told : tie.Need-enum-told
 enum-told c = search needs

@@ -1,8 +1,8 @@
--- `sbi_ipi::legacy_request` meets its contract.
+-- `decide_ipi::legacy_request` meets its contract.
 use borrow.Author.Tests.{eq-eqb, ne-eqb}
-use Rattle.sbi_ipi.specs.Ipi.{legacyRequest}
-use Rattle.sbi_ipi.proofs.legacy_request.Statement.{statement}
-use Rattle.sbi_ipi.proofs.legacy_request.Tie as tie
+use Rattle.scope.specs.Ecalls.{legacyRequest}
+use Rattle.decide_ipi.proofs.legacy_request.Statement.{statement}
+use Rattle.decide_ipi.proofs.legacy_request.Tie as tie
 
 returns : tie.Need-returns
 unfolding legacyRequest

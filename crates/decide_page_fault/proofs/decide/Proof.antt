@@ -1,8 +1,8 @@
--- `page_fault::decide` meets its contract.
-use Rattle.page_fault.specs.Mmio.{faultOf}
+-- `decide_page_fault::decide` meets its contract.
+use Rattle.scope.specs.GuestPageFault.{faultOf}
+use Rattle.decide_page_fault.proofs.decide.Statement.{statement}
+use Rattle.decide_page_fault.proofs.decide.Tie as tie
 use borrow.Author.Needs.{needs}
-use Rattle.page_fault.proofs.decide.Statement.{statement}
-use Rattle.page_fault.proofs.decide.Tie as tie
 
 enum-told : tie.Need-enum-told
 enum-told c = search needs

@@ -1,8 +1,8 @@
--- `page_fault::load` meets its contract.
-use Rattle.page_fault.specs.Mmio.{loadOf}
+-- `decide_page_fault::load` meets its contract.
+use Rattle.scope.specs.GuestPageFault.{loadOf}
+use Rattle.decide_page_fault.proofs.load.Statement.{statement}
+use Rattle.decide_page_fault.proofs.load.Tie as tie
 use borrow.Author.Needs.{needs}
-use Rattle.page_fault.proofs.load.Statement.{statement}
-use Rattle.page_fault.proofs.load.Tie as tie
 
 enum-told : tie.Need-enum-told
 enum-told c = search needs

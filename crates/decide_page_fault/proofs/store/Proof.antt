@@ -1,8 +1,8 @@
--- `page_fault::store` meets its contract.
-use Rattle.page_fault.specs.Mmio.{storeOf}
+-- `decide_page_fault::store` meets its contract.
+use Rattle.scope.specs.GuestPageFault.{storeOf}
+use Rattle.decide_page_fault.proofs.store.Statement.{statement}
+use Rattle.decide_page_fault.proofs.store.Tie as tie
 use borrow.Author.Needs.{needs}
-use Rattle.page_fault.proofs.store.Statement.{statement}
-use Rattle.page_fault.proofs.store.Tie as tie
 
 enum-told : tie.Need-enum-told
 enum-told c = search needs

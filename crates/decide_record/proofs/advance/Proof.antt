@@ -1,8 +1,8 @@
--- `regs::advance` meets its contract.
-use Rattle.regs.specs.Record.{moved}
+-- `decide_record::advance` meets its contract.
+use Rattle.scope.specs.Record.{moved}
+use Rattle.decide_record.proofs.advance.Statement.{statement}
+use Rattle.decide_record.proofs.advance.Tie as tie
 use borrow.Author.Needs.{needs}
-use Rattle.regs.proofs.advance.Statement.{statement}
-use Rattle.regs.proofs.advance.Tie as tie
 
 plus-requires : tie.Need-plus-requires
 plus-requires c κs = search needs

@@ -1,8 +1,8 @@
--- `regs::ask_of` meets its contract.
-use Rattle.regs.specs.Record.{waitingAsk}
+-- `decide_record::ask_of` meets its contract.
+use Rattle.scope.specs.Record.{waitingAsk}
+use Rattle.decide_record.proofs.ask_of.Statement.{statement}
+use Rattle.decide_record.proofs.ask_of.Tie as tie
 use borrow.Author.Needs.{needs}
-use Rattle.regs.proofs.ask_of.Statement.{statement}
-use Rattle.regs.proofs.ask_of.Tie as tie
 
 enum-told : tie.Need-enum-told
 enum-told c = search needs

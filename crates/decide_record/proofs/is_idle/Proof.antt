@@ -1,8 +1,8 @@
--- `regs::is_idle` meets its contract.
-use Rattle.regs.specs.Record.{isIdle}
+-- `decide_record::is_idle` meets its contract.
+use Rattle.scope.specs.Record.{isIdle}
+use Rattle.decide_record.proofs.is_idle.Statement.{statement}
+use Rattle.decide_record.proofs.is_idle.Tie as tie
 use borrow.Author.Needs.{needs}
-use Rattle.regs.proofs.is_idle.Statement.{statement}
-use Rattle.regs.proofs.is_idle.Tie as tie
 
 enum-told : tie.Need-enum-told
 enum-told c = search needs

@@ -1,9 +1,9 @@
--- `regs::register` meets its contract.
+-- `decide_record::register` meets its contract.
 use borrow.Author.Tests.{eq-eqb, ne-eqb, lt-ltb, lt-leb, le-ltb, le-leb}
-use Rattle.regs.specs.Record.{valueOf}
+use Rattle.scope.specs.Record.{valueOf}
+use Rattle.decide_record.proofs.register.Statement.{statement}
+use Rattle.decide_record.proofs.register.Tie as tie
 use borrow.Author.Needs.{needs}
-use Rattle.regs.proofs.register.Statement.{statement}
-use Rattle.regs.proofs.register.Tie as tie
 
 returns : tie.Need-returns
 unfolding valueOf

@@ -1,8 +1,8 @@
--- `regs::with_hvip` meets its contract.
+-- `decide_record::with_hvip` meets its contract.
 use mathlib.Core.Path.{refl}
-use Rattle.regs.specs.Record.{pended}
-use Rattle.regs.proofs.with_hvip.Statement.{statement}
-use Rattle.regs.proofs.with_hvip.Tie as tie
+use Rattle.scope.specs.Record.{pended}
+use Rattle.decide_record.proofs.with_hvip.Statement.{statement}
+use Rattle.decide_record.proofs.with_hvip.Tie as tie
 
 returns : tie.Need-returns
 unfolding pended

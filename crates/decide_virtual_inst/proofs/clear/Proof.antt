@@ -1,9 +1,9 @@
--- `virtual_inst::clear` meets its contract.
+-- `decide_virtual_inst::clear` meets its contract.
 use borrow.Author.Tests.{eq-eqb, ne-eqb}
-use Rattle.virtual_inst.specs.Stimecmp.{clearedOf}
+use Rattle.scope.specs.VirtualInstruction.{clearedOf}
+use Rattle.decide_virtual_inst.proofs.clear.Statement.{statement}
+use Rattle.decide_virtual_inst.proofs.clear.Tie as tie
 use borrow.Author.Needs.{needs}
-use Rattle.virtual_inst.proofs.clear.Statement.{statement}
-use Rattle.virtual_inst.proofs.clear.Tie as tie
 
 returns : tie.Need-returns
 unfolding clearedOf

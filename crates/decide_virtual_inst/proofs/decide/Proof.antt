@@ -1,8 +1,8 @@
--- `virtual_inst::decide` meets its contract.
-use Rattle.virtual_inst.specs.Stimecmp.{csrOf}
+-- `decide_virtual_inst::decide` meets its contract.
+use Rattle.scope.specs.VirtualInstruction.{csrOf}
+use Rattle.decide_virtual_inst.proofs.decide.Statement.{statement}
+use Rattle.decide_virtual_inst.proofs.decide.Tie as tie
 use borrow.Author.Needs.{needs}
-use Rattle.virtual_inst.proofs.decide.Statement.{statement}
-use Rattle.virtual_inst.proofs.decide.Tie as tie
 
 opcode-requires : tie.Need-opcode-requires
 opcode-requires c κs = search needs

@@ -1,9 +1,9 @@
--- `virtual_inst::decide_by` meets its contract.
+-- `decide_virtual_inst::decide_by` meets its contract.
 use borrow.Author.Tests.{eq-eqb, ne-eqb}
-use Rattle.virtual_inst.specs.Stimecmp.{csrBy}
+use Rattle.scope.specs.VirtualInstruction.{csrBy}
+use Rattle.decide_virtual_inst.proofs.decide_by.Statement.{statement}
+use Rattle.decide_virtual_inst.proofs.decide_by.Tie as tie
 use borrow.Author.Needs.{needs}
-use Rattle.virtual_inst.proofs.decide_by.Statement.{statement}
-use Rattle.virtual_inst.proofs.decide_by.Tie as tie
 
 funct3-requires : tie.Need-funct3-requires
 funct3-requires c κs = search needs

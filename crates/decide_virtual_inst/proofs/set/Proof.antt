@@ -1,9 +1,9 @@
--- `virtual_inst::set` meets its contract.
+-- `decide_virtual_inst::set` meets its contract.
 use borrow.Author.Tests.{eq-eqb, ne-eqb}
-use Rattle.virtual_inst.specs.Stimecmp.{setOf}
+use Rattle.scope.specs.VirtualInstruction.{setOf}
+use Rattle.decide_virtual_inst.proofs.set.Statement.{statement}
+use Rattle.decide_virtual_inst.proofs.set.Tie as tie
 use borrow.Author.Needs.{needs}
-use Rattle.virtual_inst.proofs.set.Statement.{statement}
-use Rattle.virtual_inst.proofs.set.Tie as tie
 
 returns : tie.Need-returns
 unfolding setOf

@@ -1,8 +1,8 @@
--- `virtual_inst::start` meets its contract.
-use Rattle.virtual_inst.specs.Stimecmp.{startOf}
+-- `decide_virtual_inst::start` meets its contract.
+use Rattle.scope.specs.VirtualInstruction.{startOf}
+use Rattle.decide_virtual_inst.proofs.start.Statement.{statement}
+use Rattle.decide_virtual_inst.proofs.start.Tie as tie
 use borrow.Author.Needs.{needs}
-use Rattle.virtual_inst.proofs.start.Statement.{statement}
-use Rattle.virtual_inst.proofs.start.Tie as tie
 
 opcode-requires : tie.Need-opcode-requires
 opcode-requires c κs = search needs

@@ -1,9 +1,9 @@
--- `virtual_inst::start_by` meets its contract.
+-- `decide_virtual_inst::start_by` meets its contract.
 use borrow.Author.Tests.{eq-eqb, ne-eqb}
-use Rattle.virtual_inst.specs.Stimecmp.{startBy}
+use Rattle.scope.specs.VirtualInstruction.{startBy}
+use Rattle.decide_virtual_inst.proofs.start_by.Statement.{statement}
+use Rattle.decide_virtual_inst.proofs.start_by.Tie as tie
 use borrow.Author.Needs.{needs}
-use Rattle.virtual_inst.proofs.start_by.Statement.{statement}
-use Rattle.virtual_inst.proofs.start_by.Tie as tie
 
 decide-requires : tie.Need-decide-requires
 decide-requires c κs = search needs

@@ -1,9 +1,9 @@
--- `virtual_inst::stimecmp` meets its contract.
+-- `decide_virtual_inst::stimecmp` meets its contract.
 use borrow.Author.Tests.{ne-eqb}
-use Rattle.virtual_inst.specs.Stimecmp.{stimecmpOf}
+use Rattle.scope.specs.VirtualInstruction.{stimecmpOf}
+use Rattle.decide_virtual_inst.proofs.stimecmp.Statement.{statement}
+use Rattle.decide_virtual_inst.proofs.stimecmp.Tie as tie
 use borrow.Author.Needs.{needs}
-use Rattle.virtual_inst.proofs.stimecmp.Statement.{statement}
-use Rattle.virtual_inst.proofs.stimecmp.Tie as tie
 
 set-requires : tie.Need-set-requires
 set-requires c κs = search needs

@@ -1,7 +1,7 @@
--- `place_answer::answer` meets its contract.
+-- `in_place_answer::answer` meets its contract.
 use borrow.Author.Needs.{needs}
-use Rattle.place_answer.proofs.answer.Statement.{statement}
-use Rattle.place_answer.proofs.answer.Tie as tie
+use Rattle.in_place_answer.proofs.answer.Statement.{statement}
+use Rattle.in_place_answer.proofs.answer.Tie as tie
 
 waiting-requires : tie.Need-waiting-requires
 waiting-requires c κs = search needs

@@ -1,9 +1,9 @@
--- `place_answer::answer_words` meets its contract.
+-- `in_place_answer::answer_words` meets its contract.
 use mathlib.Core.Path.{refl}
-use Rattle.place_answer.specs.Words.{answerWords}
+use Rattle.in_place_answer.specs.Words.{answerWords}
 use borrow.Author.Needs.{needs}
-use Rattle.place_answer.proofs.answer_words.Statement.{statement}
-use Rattle.place_answer.proofs.answer_words.Tie as tie
+use Rattle.in_place_answer.proofs.answer_words.Statement.{statement}
+use Rattle.in_place_answer.proofs.answer_words.Tie as tie
 
 element-copy-out-t4 : tie.Need-element-copy-out-t4
 element-copy-out-t4 c = search needs

@@ -1,11 +1,11 @@
--- `place_answer::complete_load` meets its contract.
+-- `in_place_answer::complete_load` meets its contract.
 use borrow.Author.Needs.{needs}
 use mathlib.Core.Path.{refl}
-use Rattle.calls.specs.Calls.{completeLoadOf}
-use Rattle.place.specs.Laws.{complete-done}
-use Rattle.place_answer.specs.Laws.{done-by}
-use Rattle.place_answer.proofs.complete_load.Statement.{statement}
-use Rattle.place_answer.proofs.complete_load.Tie as tie
+use Rattle.scope.specs.Calls.{completeLoadOf}
+use Rattle.in_place_record.specs.Laws.{complete-done}
+use Rattle.in_place_answer.specs.Laws.{done-by}
+use Rattle.in_place_answer.proofs.complete_load.Statement.{statement}
+use Rattle.in_place_answer.proofs.complete_load.Tie as tie
 
 sized-requires : tie.Need-sized-requires
 sized-requires c κs = search needs

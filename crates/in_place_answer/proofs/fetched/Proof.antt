@@ -1,10 +1,10 @@
--- `place_answer::fetched` meets its contract.
+-- `in_place_answer::fetched` meets its contract.
 use borrow.Author.Needs.{needs}
 use borrow.Author.Tests.{ne-eqb}
-use Rattle.place.specs.View.{viewOf}
-use Rattle.place_answer.specs.Laws.{missed-answer, word-answer}
-use Rattle.place_answer.proofs.fetched.Statement.{statement}
-use Rattle.place_answer.proofs.fetched.Tie as tie
+use Rattle.in_place_record.specs.View.{viewOf}
+use Rattle.in_place_answer.specs.Laws.{missed-answer, word-answer}
+use Rattle.in_place_answer.proofs.fetched.Statement.{statement}
+use Rattle.in_place_answer.proofs.fetched.Tie as tie
 
 sized-requires : tie.Need-sized-requires
 sized-requires c κs = search needs

@@ -1,11 +1,11 @@
--- `place_answer::matched` meets its contract.
+-- `in_place_answer::matched` meets its contract.
 use borrow.Author.Needs.{needs}
 use borrow.Author.Tests.{ne-eqb}
-use Rattle.place.specs.View.{viewOf}
-use Rattle.place_answer.specs.Laws.{fetch-made, plain-made, mismatch-made, beyond-made, zero-made}
+use Rattle.in_place_record.specs.View.{viewOf}
+use Rattle.in_place_answer.specs.Laws.{fetch-made, plain-made, mismatch-made, beyond-made, zero-made}
 use native.Mathlib.Omega.{arith}
-use Rattle.place_answer.proofs.matched.Statement.{statement}
-use Rattle.place_answer.proofs.matched.Tie as tie
+use Rattle.in_place_answer.proofs.matched.Statement.{statement}
+use Rattle.in_place_answer.proofs.matched.Tie as tie
 
 sized-requires : tie.Need-sized-requires
 sized-requires c κs = search needs

@@ -1,9 +1,9 @@
--- `place_answer::mmio_word` meets its contract.
-use Rattle.place.specs.Laws.{made-by}
-use Rattle.place_answer.specs.Laws.{mmio-made}
+-- `in_place_answer::mmio_word` meets its contract.
+use Rattle.in_place_record.specs.Laws.{made-by}
+use Rattle.in_place_answer.specs.Laws.{mmio-made}
 use borrow.Author.Needs.{needs}
-use Rattle.place_answer.proofs.mmio_word.Statement.{statement}
-use Rattle.place_answer.proofs.mmio_word.Tie as tie
+use Rattle.in_place_answer.proofs.mmio_word.Statement.{statement}
+use Rattle.in_place_answer.proofs.mmio_word.Tie as tie
 
 sized-requires : tie.Need-sized-requires
 sized-requires c κs = search needs

@@ -1,11 +1,11 @@
--- `place_answer::resumed` meets its contract.
-use Rattle.place.specs.View.{viewOf}
-use Rattle.calls.specs.Resume.{resumedOf}
-use Rattle.place_answer.specs.Laws.{refused-made}
+-- `in_place_answer::resumed` meets its contract.
+use Rattle.in_place_record.specs.View.{viewOf}
+use Rattle.scope.specs.Resume.{resumedOf}
+use Rattle.in_place_answer.specs.Laws.{refused-made}
+use Rattle.in_place_answer.proofs.resumed.Statement.{statement}
+use Rattle.in_place_answer.proofs.resumed.Tie as tie
 use mathlib.Core.Path.{sym, _∙_}
 use borrow.Author.Needs.{needs}
-use Rattle.place_answer.proofs.resumed.Statement.{statement}
-use Rattle.place_answer.proofs.resumed.Tie as tie
 
 enum-told : tie.Need-enum-told
 enum-told c = search needs

@@ -1,9 +1,9 @@
--- `place_deed::do_answered` meets its contract.
+-- `in_place_classes::do_answered` meets its contract.
 use mathlib.Core.Path.{refl}
-use Rattle.place.specs.Deeds.{answeredLeft}
+use Rattle.in_place_record.specs.Deeds.{answeredLeft}
 use borrow.Author.Needs.{needs}
-use Rattle.place_deed.proofs.do_answered.Statement.{statement}
-use Rattle.place_deed.proofs.do_answered.Tie as tie
+use Rattle.in_place_classes.proofs.do_answered.Statement.{statement}
+use Rattle.in_place_classes.proofs.do_answered.Tie as tie
 
 enum-told : tie.Need-enum-told
 enum-told c = search needs

@@ -1,9 +1,9 @@
--- `place_deed::do_csr` meets its contract.
+-- `in_place_classes::do_csr` meets its contract.
 use mathlib.Core.Path.{refl}
-use Rattle.place.specs.Deeds.{csrLeft}
+use Rattle.in_place_record.specs.Deeds.{csrLeft}
 use borrow.Author.Needs.{needs}
-use Rattle.place_deed.proofs.do_csr.Statement.{statement}
-use Rattle.place_deed.proofs.do_csr.Tie as tie
+use Rattle.in_place_classes.proofs.do_csr.Statement.{statement}
+use Rattle.in_place_classes.proofs.do_csr.Tie as tie
 
 enum-told : tie.Need-enum-told
 enum-told c = search needs

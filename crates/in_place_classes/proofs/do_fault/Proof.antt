@@ -1,9 +1,9 @@
--- `place_deed::do_fault` meets its contract.
+-- `in_place_classes::do_fault` meets its contract.
 use mathlib.Core.Path.{refl}
-use Rattle.place.specs.Deeds.{faultLeft}
+use Rattle.in_place_record.specs.Deeds.{faultLeft}
 use borrow.Author.Needs.{needs}
-use Rattle.place_deed.proofs.do_fault.Statement.{statement}
-use Rattle.place_deed.proofs.do_fault.Tie as tie
+use Rattle.in_place_classes.proofs.do_fault.Statement.{statement}
+use Rattle.in_place_classes.proofs.do_fault.Tie as tie
 
 enum-told : tie.Need-enum-told
 enum-told c = search needs

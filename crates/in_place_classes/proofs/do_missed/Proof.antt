@@ -1,10 +1,10 @@
--- `place_deed::do_missed` meets its contract.
+-- `in_place_classes::do_missed` meets its contract.
 use mathlib.Core.Path.{refl}
-use Rattle.place.specs.Deeds.{missedLeft}
+use Rattle.in_place_record.specs.Deeds.{missedLeft}
 use borrow.Author.Needs.{needs}
-use Rattle.place_deed.proofs.do_missed.Statement.{statement}
-use Rattle.place_deed.proofs.do_missed.Tie as tie
-use Rattle.place_change.proofs.inject.Reads as inject-reads′
+use Rattle.in_place_classes.proofs.do_missed.Statement.{statement}
+use Rattle.in_place_classes.proofs.do_missed.Tie as tie
+use Rattle.in_place_write.proofs.inject.Reads as inject-reads′
 
 enum-known-d : tie.Need-enum-known-d
 enum-known-d c = search needs

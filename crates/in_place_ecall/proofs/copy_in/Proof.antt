@@ -1,9 +1,9 @@
--- `place_call::copy_in` meets its contract.
+-- `in_place_ecall::copy_in` meets its contract.
 use mathlib.Core.Path.{refl}
-use Rattle.place.specs.Deeds.{callLeft}
+use Rattle.in_place_record.specs.Deeds.{callLeft}
 use borrow.Author.Needs.{needs}
-use Rattle.place_call.proofs.copy_in.Statement.{statement}
-use Rattle.place_call.proofs.copy_in.Tie as tie
+use Rattle.in_place_ecall.proofs.copy_in.Statement.{statement}
+use Rattle.in_place_ecall.proofs.copy_in.Tie as tie
 
 element-write-out : tie.Need-element-write-out
 element-write-out c = search needs

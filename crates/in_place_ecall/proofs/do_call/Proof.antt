@@ -1,9 +1,9 @@
--- `place_call::do_call` meets its contract.
+-- `in_place_ecall::do_call` meets its contract.
 use mathlib.Core.Path.{refl}
-use Rattle.place.specs.Deeds.{callLeft}
+use Rattle.in_place_record.specs.Deeds.{callLeft}
 use borrow.Author.Needs.{needs}
-use Rattle.place_call.proofs.do_call.Statement.{statement}
-use Rattle.place_call.proofs.do_call.Tie as tie
+use Rattle.in_place_ecall.proofs.do_call.Statement.{statement}
+use Rattle.in_place_ecall.proofs.do_call.Tie as tie
 
 enum-known-d : tie.Need-enum-known-d
 enum-known-d c = search needs

@@ -1,9 +1,9 @@
--- `place_call::read_console` meets its contract.
+-- `in_place_ecall::read_console` meets its contract.
 use mathlib.Core.Path.{refl}
-use Rattle.place.specs.Deeds.{callLeft}
+use Rattle.in_place_record.specs.Deeds.{callLeft}
 use borrow.Author.Needs.{needs}
-use Rattle.place_call.proofs.read_console.Statement.{statement}
-use Rattle.place_call.proofs.read_console.Tie as tie
+use Rattle.in_place_ecall.proofs.read_console.Statement.{statement}
+use Rattle.in_place_ecall.proofs.read_console.Tie as tie
 
 element-write-out : tie.Need-element-write-out
 element-write-out c = search needs

@@ -1,9 +1,9 @@
--- `in_place_gprs::vcpu_set_return_value` meets its contract.
-use Rattle.calls.specs.Entry.{calledOf}
-use Rattle.calls.specs.Kinds.{callBy}
+-- `in_place_entry_gprs::vcpu_set_return_value` meets its contract.
+use Rattle.scope.specs.Calls.{calledOf}
+use Rattle.scope.specs.Words.{callBy}
+use Rattle.in_place_entry_gprs.proofs.vcpu_set_return_value.Statement.{statement}
+use Rattle.in_place_entry_gprs.proofs.vcpu_set_return_value.Tie as tie
 use borrow.Author.Needs.{needs}
-use Rattle.in_place_gprs.proofs.vcpu_set_return_value.Statement.{statement}
-use Rattle.in_place_gprs.proofs.vcpu_set_return_value.Tie as tie
 
 set-return-value-requires : tie.Need-set-return-value-requires
 set-return-value-requires c κs = search needs

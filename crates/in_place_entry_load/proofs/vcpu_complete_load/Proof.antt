@@ -1,9 +1,9 @@
--- `in_place_load::vcpu_complete_load` meets its contract.
-use Rattle.calls.specs.Entry.{calledOf}
-use Rattle.calls.specs.Kinds.{callBy}
+-- `in_place_entry_load::vcpu_complete_load` meets its contract.
+use Rattle.scope.specs.Calls.{calledOf}
+use Rattle.scope.specs.Words.{callBy}
+use Rattle.in_place_entry_load.proofs.vcpu_complete_load.Statement.{statement}
+use Rattle.in_place_entry_load.proofs.vcpu_complete_load.Tie as tie
 use borrow.Author.Needs.{needs}
-use Rattle.in_place_load.proofs.vcpu_complete_load.Statement.{statement}
-use Rattle.in_place_load.proofs.vcpu_complete_load.Tie as tie
 
 complete-load-requires : tie.Need-complete-load-requires
 complete-load-requires c κs = search needs

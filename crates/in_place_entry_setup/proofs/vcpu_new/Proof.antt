@@ -1,8 +1,8 @@
--- `in_place_setup::vcpu_new` meets its contract.
+-- `in_place_entry_setup::vcpu_new` meets its contract.
 use mathlib.Core.Path.{refl}
 use borrow.Author.Needs.{needs}
-use Rattle.in_place_setup.proofs.vcpu_new.Statement.{statement}
-use Rattle.in_place_setup.proofs.vcpu_new.Tie as tie
+use Rattle.in_place_entry_setup.proofs.vcpu_new.Statement.{statement}
+use Rattle.in_place_entry_setup.proofs.vcpu_new.Tie as tie
 
 new-requires : tie.Need-new-requires
 new-requires c κs = search needs

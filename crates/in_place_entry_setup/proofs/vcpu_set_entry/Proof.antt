@@ -1,9 +1,9 @@
--- `in_place_setup::vcpu_set_entry` meets its contract.
-use Rattle.calls.specs.Entry.{calledOf}
-use Rattle.calls.specs.Kinds.{callBy}
+-- `in_place_entry_setup::vcpu_set_entry` meets its contract.
+use Rattle.scope.specs.Calls.{calledOf}
+use Rattle.scope.specs.Words.{callBy}
+use Rattle.in_place_entry_setup.proofs.vcpu_set_entry.Statement.{statement}
+use Rattle.in_place_entry_setup.proofs.vcpu_set_entry.Tie as tie
 use borrow.Author.Needs.{needs}
-use Rattle.in_place_setup.proofs.vcpu_set_entry.Statement.{statement}
-use Rattle.in_place_setup.proofs.vcpu_set_entry.Tie as tie
 
 set-entry-requires : tie.Need-set-entry-requires
 set-entry-requires c κs = search needs

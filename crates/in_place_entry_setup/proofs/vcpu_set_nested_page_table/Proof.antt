@@ -1,9 +1,9 @@
--- `in_place_setup::vcpu_set_nested_page_table` meets its contract.
-use Rattle.calls.specs.Entry.{calledOf}
-use Rattle.calls.specs.Kinds.{callBy}
+-- `in_place_entry_setup::vcpu_set_nested_page_table` meets its contract.
+use Rattle.scope.specs.Calls.{calledOf}
+use Rattle.scope.specs.Words.{callBy}
+use Rattle.in_place_entry_setup.proofs.vcpu_set_nested_page_table.Statement.{statement}
+use Rattle.in_place_entry_setup.proofs.vcpu_set_nested_page_table.Tie as tie
 use borrow.Author.Needs.{needs}
-use Rattle.in_place_setup.proofs.vcpu_set_nested_page_table.Statement.{statement}
-use Rattle.in_place_setup.proofs.vcpu_set_nested_page_table.Tie as tie
 
 set-nested-page-table-requires : tie.Need-set-nested-page-table-requires
 set-nested-page-table-requires c κs = search needs

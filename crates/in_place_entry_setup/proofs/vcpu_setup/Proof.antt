@@ -1,9 +1,9 @@
--- `in_place_setup::vcpu_setup` meets its contract.
-use Rattle.calls.specs.Entry.{calledOf}
-use Rattle.calls.specs.Kinds.{callBy}
+-- `in_place_entry_setup::vcpu_setup` meets its contract.
+use Rattle.scope.specs.Calls.{calledOf}
+use Rattle.scope.specs.Words.{callBy}
+use Rattle.in_place_entry_setup.proofs.vcpu_setup.Statement.{statement}
+use Rattle.in_place_entry_setup.proofs.vcpu_setup.Tie as tie
 use borrow.Author.Needs.{needs}
-use Rattle.in_place_setup.proofs.vcpu_setup.Statement.{statement}
-use Rattle.in_place_setup.proofs.vcpu_setup.Tie as tie
 
 setup-requires : tie.Need-setup-requires
 setup-requires c κs = search needs

@@ -1,8 +1,8 @@
--- `in_place_trap::vcpu_answer` meets its contract.
-use Rattle.in_place_trap.specs.Calls.{answerCall}
+-- `in_place_entry_trap::vcpu_answer` meets its contract.
+use Rattle.in_place_entry_trap.specs.Calls.{answerCall}
 use borrow.Author.Needs.{needs}
-use Rattle.in_place_trap.proofs.vcpu_answer.Statement.{statement}
-use Rattle.in_place_trap.proofs.vcpu_answer.Tie as tie
+use Rattle.in_place_entry_trap.proofs.vcpu_answer.Statement.{statement}
+use Rattle.in_place_entry_trap.proofs.vcpu_answer.Tie as tie
 
 answer-words-requires : tie.Need-answer-words-requires
 answer-words-requires c κs = search needs

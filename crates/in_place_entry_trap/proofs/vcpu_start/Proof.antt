@@ -1,9 +1,9 @@
--- `in_place_trap::vcpu_start` meets its contract.
-use Rattle.calls.specs.Entry.{calledOf}
-use Rattle.in_place_trap.specs.Calls.{startCall}
+-- `in_place_entry_trap::vcpu_start` meets its contract.
+use Rattle.scope.specs.Calls.{calledOf}
+use Rattle.in_place_entry_trap.specs.Calls.{startCall}
+use Rattle.in_place_entry_trap.proofs.vcpu_start.Statement.{statement}
+use Rattle.in_place_entry_trap.proofs.vcpu_start.Tie as tie
 use borrow.Author.Needs.{needs}
-use Rattle.in_place_trap.proofs.vcpu_start.Statement.{statement}
-use Rattle.in_place_trap.proofs.vcpu_start.Tie as tie
 
 trap-of-requires : tie.Need-trap-of-requires
 trap-of-requires c κs = search needs

@@ -1,8 +1,8 @@
--- `place_host::ask_word` meets its contract.
+-- `in_place_host::ask_word` meets its contract.
 use borrow.Author.Needs.{needs}
-use Rattle.types.specs.Numbers.{askNumber}
-use Rattle.place_host.proofs.ask_word.Statement.{statement}
-use Rattle.place_host.proofs.ask_word.Tie as tie
+use Rattle.scope.specs.Trap.{askNumber}
+use Rattle.in_place_host.proofs.ask_word.Statement.{statement}
+use Rattle.in_place_host.proofs.ask_word.Tie as tie
 
 enum-told : tie.Need-enum-told
 enum-told c = search needs

@@ -1,8 +1,8 @@
--- `place_host::error_word` meets its contract.
+-- `in_place_host::error_word` meets its contract.
 use borrow.Author.Needs.{needs}
-use Rattle.types.specs.Numbers.{errorNumber}
-use Rattle.place_host.proofs.error_word.Statement.{statement}
-use Rattle.place_host.proofs.error_word.Tie as tie
+use Rattle.scope.specs.Refusals.{errorNumber}
+use Rattle.in_place_host.proofs.error_word.Statement.{statement}
+use Rattle.in_place_host.proofs.error_word.Tie as tie
 
 enum-told : tie.Need-enum-told
 enum-told c = search needs

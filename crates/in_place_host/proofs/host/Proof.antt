@@ -1,10 +1,10 @@
--- `place_host::host` meets its contract.
+-- `in_place_host::host` meets its contract.
 use borrow.Author.Needs.{needs}
 use mathlib.Core.Path.{refl}
-use Rattle.place_host.specs.Host.{hostWords}
-use Rattle.words.specs.Words.{csrsWords}
-use Rattle.place_host.proofs.host.Statement.{statement}
-use Rattle.place_host.proofs.host.Tie as tie
+use Rattle.in_place_host.specs.Host.{hostWords}
+use Rattle.scope.specs.Words.{csrsWords}
+use Rattle.in_place_host.proofs.host.Statement.{statement}
+use Rattle.in_place_host.proofs.host.Tie as tie
 
 element-write-r : tie.Need-element-write-r
 element-write-r c = search needs

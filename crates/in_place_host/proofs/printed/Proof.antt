@@ -1,8 +1,8 @@
--- `place_host::printed` meets its contract.
+-- `in_place_host::printed` meets its contract.
 use borrow.Author.Tests.{eq-eqb, ne-eqb}
-use Rattle.place_host.specs.Host.{printedBy}
-use Rattle.place_host.proofs.printed.Statement.{statement}
-use Rattle.place_host.proofs.printed.Tie as tie
+use Rattle.in_place_host.specs.Host.{printedBy}
+use Rattle.in_place_host.proofs.printed.Statement.{statement}
+use Rattle.in_place_host.proofs.printed.Tie as tie
 
 returns : tie.Need-returns
 unfolding printedBy

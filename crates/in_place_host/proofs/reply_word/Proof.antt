@@ -1,8 +1,8 @@
--- `place_host::reply_word` meets its contract.
-use Rattle.place.specs.View.{replyWord}
+-- `in_place_host::reply_word` meets its contract.
+use Rattle.in_place_record.specs.View.{replyWord}
 use borrow.Author.Needs.{needs}
-use Rattle.place_host.proofs.reply_word.Statement.{statement}
-use Rattle.place_host.proofs.reply_word.Tie as tie
+use Rattle.in_place_host.proofs.reply_word.Statement.{statement}
+use Rattle.in_place_host.proofs.reply_word.Tie as tie
 
 enum-known-p : tie.Need-enum-known-p
 enum-known-p c = search needs

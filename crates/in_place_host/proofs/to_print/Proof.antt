@@ -1,8 +1,8 @@
--- `place_host::to_print` meets its contract.
+-- `in_place_host::to_print` meets its contract.
 use borrow.Author.Needs.{needs}
-use Rattle.place_host.specs.Laws.{print-words}
-use Rattle.place_host.proofs.to_print.Statement.{statement}
-use Rattle.place_host.proofs.to_print.Tie as tie
+use Rattle.in_place_host.specs.Laws.{print-words}
+use Rattle.in_place_host.proofs.to_print.Statement.{statement}
+use Rattle.in_place_host.proofs.to_print.Tie as tie
 
 sized-requires : tie.Need-sized-requires
 sized-requires c κs = search needs

@@ -1,9 +1,9 @@
--- `place_host::unless_asking` meets its contract.
+-- `in_place_host::unless_asking` meets its contract.
 use borrow.Author.Tests.{eq-eqb, ne-eqb}
-use Rattle.place_host.specs.Laws.{free-made, busy-made}
+use Rattle.in_place_host.specs.Laws.{free-made, busy-made}
 use borrow.Author.Needs.{needs}
-use Rattle.place_host.proofs.unless_asking.Statement.{statement}
-use Rattle.place_host.proofs.unless_asking.Tie as tie
+use Rattle.in_place_host.proofs.unless_asking.Statement.{statement}
+use Rattle.in_place_host.proofs.unless_asking.Tie as tie
 
 sized-requires : tie.Need-sized-requires
 sized-requires c κs = search needs

@@ -1,8 +1,8 @@
--- `place_host::write` meets its contract.
-use Rattle.place_host.specs.Host.{writeWords}
+-- `in_place_host::write` meets its contract.
+use Rattle.in_place_host.specs.Host.{writeWords}
 use borrow.Author.Needs.{needs}
-use Rattle.place_host.proofs.write.Statement.{statement}
-use Rattle.place_host.proofs.write.Tie as tie
+use Rattle.in_place_host.proofs.write.Statement.{statement}
+use Rattle.in_place_host.proofs.write.Tie as tie
 
 enum-told : tie.Need-enum-told
 enum-told c = search needs

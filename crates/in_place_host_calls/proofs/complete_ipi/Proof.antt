@@ -1,9 +1,9 @@
--- `place_interrupts::complete_ipi` meets its contract.
-use Rattle.calls.specs.Calls.{completeIpiOf}
-use Rattle.place_host.specs.Laws.{done-keeps}
+-- `in_place_host_calls::complete_ipi` meets its contract.
+use Rattle.scope.specs.Calls.{completeIpiOf}
+use Rattle.in_place_host.specs.Laws.{done-keeps}
+use Rattle.in_place_host_calls.proofs.complete_ipi.Statement.{statement}
+use Rattle.in_place_host_calls.proofs.complete_ipi.Tie as tie
 use borrow.Author.Needs.{needs}
-use Rattle.place_interrupts.proofs.complete_ipi.Statement.{statement}
-use Rattle.place_interrupts.proofs.complete_ipi.Tie as tie
 
 csrs-requires : tie.Need-csrs-requires
 csrs-requires c κs = search needs

@@ -1,9 +1,9 @@
--- `place_gprs::get_gpr` meets its contract.
+-- `in_place_host_calls::get_gpr` meets its contract.
 use borrow.Author.Needs.{needs}
 use borrow.Author.Tests.{lt-ltb, le-ltb}
-use Rattle.place_gprs.specs.Laws.{get-made, get-refused}
-use Rattle.place_gprs.proofs.get_gpr.Statement.{statement}
-use Rattle.place_gprs.proofs.get_gpr.Tie as tie
+use Rattle.in_place_host_calls.specs.GprsLaws.{get-made, get-refused}
+use Rattle.in_place_host_calls.proofs.get_gpr.Statement.{statement}
+use Rattle.in_place_host_calls.proofs.get_gpr.Tie as tie
 
 read-requires : tie.Need-read-requires
 read-requires c κs = search needs

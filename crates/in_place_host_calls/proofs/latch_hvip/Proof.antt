@@ -1,9 +1,9 @@
--- `place_interrupts::latch_hvip` meets its contract.
-use Rattle.calls.specs.Calls.{latchOf}
-use Rattle.place_host.specs.Laws.{done-keeps}
+-- `in_place_host_calls::latch_hvip` meets its contract.
+use Rattle.scope.specs.Calls.{latchOf}
+use Rattle.in_place_host.specs.Laws.{done-keeps}
+use Rattle.in_place_host_calls.proofs.latch_hvip.Statement.{statement}
+use Rattle.in_place_host_calls.proofs.latch_hvip.Tie as tie
 use borrow.Author.Needs.{needs}
-use Rattle.place_interrupts.proofs.latch_hvip.Statement.{statement}
-use Rattle.place_interrupts.proofs.latch_hvip.Tie as tie
 
 csrs-requires : tie.Need-csrs-requires
 csrs-requires c κs = search needs

@@ -1,8 +1,8 @@
--- `place_setup::new` meets its contract.
+-- `in_place_host_calls::new` meets its contract.
 use borrow.Author.Needs.{needs}
-use Rattle.place_setup.specs.Laws.{new-shows}
-use Rattle.place_setup.proofs.new.Statement.{statement}
-use Rattle.place_setup.proofs.new.Tie as tie
+use Rattle.in_place_host_calls.specs.SetupLaws.{new-shows}
+use Rattle.in_place_host_calls.proofs.new.Statement.{statement}
+use Rattle.in_place_host_calls.proofs.new.Tie as tie
 
 element-write-r : tie.Need-element-write-r
 element-write-r c = search needs

@@ -1,9 +1,9 @@
--- `place_setup::set_entry` meets its contract.
-use Rattle.calls.specs.Calls.{setEntryOf}
-use Rattle.place_host.specs.Laws.{done-keeps}
+-- `in_place_host_calls::set_entry` meets its contract.
+use Rattle.scope.specs.Calls.{setEntryOf}
+use Rattle.in_place_host.specs.Laws.{done-keeps}
+use Rattle.in_place_host_calls.proofs.set_entry.Statement.{statement}
+use Rattle.in_place_host_calls.proofs.set_entry.Tie as tie
 use borrow.Author.Needs.{needs}
-use Rattle.place_setup.proofs.set_entry.Statement.{statement}
-use Rattle.place_setup.proofs.set_entry.Tie as tie
 
 csrs-requires : tie.Need-csrs-requires
 csrs-requires c κs = search needs

@@ -1,9 +1,9 @@
--- `place_gprs::set_gpr` meets its contract.
-use Rattle.calls.specs.Calls.{setGprOf}
-use Rattle.place_gprs.specs.Laws.{write-keeps}
+-- `in_place_host_calls::set_gpr` meets its contract.
+use Rattle.scope.specs.Calls.{setGprOf}
+use Rattle.in_place_host_calls.specs.GprsLaws.{write-keeps}
+use Rattle.in_place_host_calls.proofs.set_gpr.Statement.{statement}
+use Rattle.in_place_host_calls.proofs.set_gpr.Tie as tie
 use borrow.Author.Needs.{needs}
-use Rattle.place_gprs.proofs.set_gpr.Statement.{statement}
-use Rattle.place_gprs.proofs.set_gpr.Tie as tie
 
 csrs-requires : tie.Need-csrs-requires
 csrs-requires c κs = search needs

@@ -1,9 +1,9 @@
--- `place_setup::set_nested_page_table` meets its contract.
-use Rattle.calls.specs.Calls.{pagingOf}
-use Rattle.place_setup.specs.Laws.{paging-keeps}
+-- `in_place_host_calls::set_nested_page_table` meets its contract.
+use Rattle.scope.specs.Calls.{pagingOf}
+use Rattle.in_place_host_calls.specs.SetupLaws.{paging-keeps}
+use Rattle.in_place_host_calls.proofs.set_nested_page_table.Statement.{statement}
+use Rattle.in_place_host_calls.proofs.set_nested_page_table.Tie as tie
 use borrow.Author.Needs.{needs}
-use Rattle.place_setup.proofs.set_nested_page_table.Statement.{statement}
-use Rattle.place_setup.proofs.set_nested_page_table.Tie as tie
 
 csrs-requires : tie.Need-csrs-requires
 csrs-requires c κs = search needs

@@ -1,9 +1,9 @@
--- `place_interrupts::set_pending` meets its contract.
-use Rattle.calls.specs.Calls.{pendingOf}
-use Rattle.place_interrupts.specs.Laws.{pending-keeps}
+-- `in_place_host_calls::set_pending` meets its contract.
+use Rattle.scope.specs.Calls.{pendingOf}
+use Rattle.in_place_host_calls.specs.InterruptsLaws.{pending-keeps}
+use Rattle.in_place_host_calls.proofs.set_pending.Statement.{statement}
+use Rattle.in_place_host_calls.proofs.set_pending.Tie as tie
 use borrow.Author.Needs.{needs}
-use Rattle.place_interrupts.proofs.set_pending.Statement.{statement}
-use Rattle.place_interrupts.proofs.set_pending.Tie as tie
 
 csrs-requires : tie.Need-csrs-requires
 csrs-requires c κs = search needs

@@ -1,9 +1,9 @@
--- `place_gprs::set_return_value` meets its contract.
-use Rattle.calls.specs.Calls.{setReturnOf}
-use Rattle.place_host.specs.Laws.{done-keeps}
+-- `in_place_host_calls::set_return_value` meets its contract.
+use Rattle.scope.specs.Calls.{setReturnOf}
+use Rattle.in_place_host.specs.Laws.{done-keeps}
+use Rattle.in_place_host_calls.proofs.set_return_value.Statement.{statement}
+use Rattle.in_place_host_calls.proofs.set_return_value.Tie as tie
 use borrow.Author.Needs.{needs}
-use Rattle.place_gprs.proofs.set_return_value.Statement.{statement}
-use Rattle.place_gprs.proofs.set_return_value.Tie as tie
 
 csrs-requires : tie.Need-csrs-requires
 csrs-requires c κs = search needs

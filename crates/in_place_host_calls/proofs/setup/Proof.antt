@@ -1,9 +1,9 @@
--- `place_setup::setup` meets its contract.
-use Rattle.calls.specs.Calls.{setupOf}
-use Rattle.place_host.specs.Laws.{done-keeps}
+-- `in_place_host_calls::setup` meets its contract.
+use Rattle.scope.specs.Calls.{setupOf}
+use Rattle.in_place_host.specs.Laws.{done-keeps}
+use Rattle.in_place_host_calls.proofs.setup.Statement.{statement}
+use Rattle.in_place_host_calls.proofs.setup.Tie as tie
 use borrow.Author.Needs.{needs}
-use Rattle.place_setup.proofs.setup.Statement.{statement}
-use Rattle.place_setup.proofs.setup.Tie as tie
 
 csrs-requires : tie.Need-csrs-requires
 csrs-requires c κs = search needs

@@ -1,9 +1,9 @@
--- `place_read::args` meets its contract.
+-- `in_place_read::args` meets its contract.
 use mathlib.Core.Path.{refl}
-use Rattle.place.specs.Deeds.{argsWords}
+use Rattle.in_place_record.specs.Deeds.{argsWords}
 use borrow.Author.Needs.{needs}
-use Rattle.place_read.proofs.args.Statement.{statement}
-use Rattle.place_read.proofs.args.Tie as tie
+use Rattle.in_place_read.proofs.args.Statement.{statement}
+use Rattle.in_place_read.proofs.args.Tie as tie
 
 element-copy-out-t4 : tie.Need-element-copy-out-t4
 element-copy-out-t4 c = search needs

@@ -1,8 +1,8 @@
--- `place_read::ask_fetch` meets its contract.
-use Rattle.place.specs.Deeds.{fetchOut}
+-- `in_place_read::ask_fetch` meets its contract.
+use Rattle.in_place_record.specs.Deeds.{fetchOut}
 use borrow.Author.Needs.{needs}
-use Rattle.place_read.proofs.ask_fetch.Statement.{statement}
-use Rattle.place_read.proofs.ask_fetch.Tie as tie
+use Rattle.in_place_read.proofs.ask_fetch.Statement.{statement}
+use Rattle.in_place_read.proofs.ask_fetch.Tie as tie
 
 element-copy-out-out : tie.Need-element-copy-out-out
 element-copy-out-out c = search needs

@@ -1,8 +1,8 @@
--- `place_read::csrs` meets its contract.
-use Rattle.place.specs.Laws.{csrs-words}
+-- `in_place_read::csrs` meets its contract.
+use Rattle.in_place_record.specs.Laws.{csrs-words}
 use borrow.Author.Needs.{needs}
-use Rattle.place_read.proofs.csrs.Statement.{statement}
-use Rattle.place_read.proofs.csrs.Tie as tie
+use Rattle.in_place_read.proofs.csrs.Statement.{statement}
+use Rattle.in_place_read.proofs.csrs.Tie as tie
 
 sized-requires : tie.Need-sized-requires
 sized-requires c κs = search needs

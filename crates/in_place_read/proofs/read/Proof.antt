@@ -1,9 +1,9 @@
--- `place_read::read` meets its contract.
+-- `in_place_read::read` meets its contract.
 use borrow.Author.Tests.{eq-eqb, ne-eqb, lt-ltb, lt-leb, le-ltb, le-leb}
-use Rattle.place.specs.Deeds.{readWord}
+use Rattle.in_place_record.specs.Deeds.{readWord}
 use borrow.Author.Needs.{needs}
-use Rattle.place_read.proofs.read.Statement.{statement}
-use Rattle.place_read.proofs.read.Tie as tie
+use Rattle.in_place_read.proofs.read.Statement.{statement}
+use Rattle.in_place_read.proofs.read.Tie as tie
 
 returns : tie.Need-returns
 unfolding readWord

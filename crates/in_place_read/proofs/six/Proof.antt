@@ -1,9 +1,9 @@
--- `place_read::six` meets its contract.
+-- `in_place_read::six` meets its contract.
 use mathlib.Core.Path.{refl}
-use Rattle.place.specs.Deeds.{sixWords}
+use Rattle.in_place_record.specs.Deeds.{sixWords}
 use borrow.Author.Needs.{needs}
-use Rattle.place_read.proofs.six.Statement.{statement}
-use Rattle.place_read.proofs.six.Tie as tie
+use Rattle.in_place_read.proofs.six.Statement.{statement}
+use Rattle.in_place_read.proofs.six.Tie as tie
 
 element-copy-out-out : tie.Need-element-copy-out-out
 element-copy-out-out c = search needs

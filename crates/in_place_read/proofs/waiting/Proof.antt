@@ -1,8 +1,8 @@
--- `place_read::waiting` meets its contract.
-use Rattle.place.specs.Laws.{waiting-words}
+-- `in_place_read::waiting` meets its contract.
+use Rattle.in_place_record.specs.Laws.{waiting-words}
 use borrow.Author.Needs.{needs}
-use Rattle.place_read.proofs.waiting.Statement.{statement}
-use Rattle.place_read.proofs.waiting.Tie as tie
+use Rattle.in_place_read.proofs.waiting.Statement.{statement}
+use Rattle.in_place_read.proofs.waiting.Tie as tie
 
 sized-requires : tie.Need-sized-requires
 sized-requires c κs = search needs

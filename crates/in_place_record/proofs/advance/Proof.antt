@@ -1,8 +1,8 @@
--- `place::advance` meets its contract.
-use Rattle.place.specs.Deeds.{movedWords}
+-- `in_place_record::advance` meets its contract.
+use Rattle.in_place_record.specs.Deeds.{movedWords}
 use borrow.Author.Needs.{needs}
-use Rattle.place.proofs.advance.Statement.{statement}
-use Rattle.place.proofs.advance.Tie as tie
+use Rattle.in_place_record.proofs.advance.Statement.{statement}
+use Rattle.in_place_record.proofs.advance.Tie as tie
 
 element-copy-out-plus : tie.Need-element-copy-out-plus
 element-copy-out-plus c = search needs

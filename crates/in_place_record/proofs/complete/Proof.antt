@@ -1,9 +1,9 @@
--- `place::complete` meets its contract.
+-- `in_place_record::complete` meets its contract.
 use mathlib.Core.Path.{refl}
-use Rattle.place.specs.Deeds.{completeWords, completeWord}
+use Rattle.in_place_record.specs.Deeds.{completeWords, completeWord}
 use borrow.Author.Needs.{needs}
-use Rattle.place.proofs.complete.Statement.{statement}
-use Rattle.place.proofs.complete.Tie as tie
+use Rattle.in_place_record.proofs.complete.Statement.{statement}
+use Rattle.in_place_record.proofs.complete.Tie as tie
 
 enum-told : tie.Need-enum-told
 enum-told c = search needs

@@ -1,8 +1,8 @@
--- `place::give` meets its contract.
-use Rattle.place.specs.Deeds.{giveWords}
+-- `in_place_record::give` meets its contract.
+use Rattle.in_place_record.specs.Deeds.{giveWords}
 use borrow.Author.Needs.{needs}
-use Rattle.place.proofs.give.Statement.{statement}
-use Rattle.place.proofs.give.Tie as tie
+use Rattle.in_place_record.proofs.give.Statement.{statement}
+use Rattle.in_place_record.proofs.give.Tie as tie
 
 element-write-r : tie.Need-element-write-r
 element-write-r c = search needs

@@ -1,9 +1,9 @@
--- `place::put` meets its contract.
+-- `in_place_record::put` meets its contract.
 use borrow.Author.Tests.{eq-eqb, ne-eqb, lt-ltb, lt-leb, le-ltb, le-leb}
-use Rattle.place.specs.Deeds.{putWord}
+use Rattle.in_place_record.specs.Deeds.{putWord}
 use borrow.Author.Needs.{needs}
-use Rattle.place.proofs.put.Statement.{statement}
-use Rattle.place.proofs.put.Tie as tie
+use Rattle.in_place_record.proofs.put.Statement.{statement}
+use Rattle.in_place_record.proofs.put.Tie as tie
 
 returns : tie.Need-returns
 unfolding putWord

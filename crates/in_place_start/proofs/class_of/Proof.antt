@@ -1,9 +1,9 @@
--- `place_trap::class_of` meets its contract.
+-- `in_place_start::class_of` meets its contract.
 use borrow.Author.Tests.{ne-eqb}
-use Rattle.place_trap.specs.Classes.{classOf}
+use Rattle.in_place_start.specs.Classes.{classOf}
 use borrow.Author.Needs.{needs}
-use Rattle.place_trap.proofs.class_of.Statement.{statement}
-use Rattle.place_trap.proofs.class_of.Tie as tie
+use Rattle.in_place_start.proofs.class_of.Statement.{statement}
+use Rattle.in_place_start.proofs.class_of.Tie as tie
 
 is-known-cause-requires : tie.Need-is-known-cause-requires
 is-known-cause-requires c κs = search needs

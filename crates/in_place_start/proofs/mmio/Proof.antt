@@ -1,9 +1,9 @@
--- `place_trap::mmio` meets its contract.
+-- `in_place_start::mmio` meets its contract.
 use borrow.Author.Needs.{needs}
-use Rattle.place.specs.Laws.{made-by}
-use Rattle.place_trap.specs.Laws.{mmio-made}
-use Rattle.place_trap.proofs.mmio.Statement.{statement}
-use Rattle.place_trap.proofs.mmio.Tie as tie
+use Rattle.in_place_record.specs.Laws.{made-by}
+use Rattle.in_place_start.specs.Laws.{mmio-made}
+use Rattle.in_place_start.proofs.mmio.Statement.{statement}
+use Rattle.in_place_start.proofs.mmio.Tie as tie
 
 sized-requires : tie.Need-sized-requires
 sized-requires c κs = search needs

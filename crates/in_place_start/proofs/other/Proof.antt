@@ -1,7 +1,7 @@
--- `place_trap::other` meets its contract.
-use Rattle.place_trap.specs.Classes.{otherClass}
-use Rattle.place_trap.proofs.other.Statement.{statement}
-use Rattle.place_trap.proofs.other.Tie as tie
+-- `in_place_start::other` meets its contract.
+use Rattle.in_place_start.specs.Classes.{otherClass}
+use Rattle.in_place_start.proofs.other.Statement.{statement}
+use Rattle.in_place_start.proofs.other.Tie as tie
 
 returns : tie.Need-returns
 unfolding otherClass

@@ -1,8 +1,8 @@
--- `place_trap::page_fault_trap` meets its contract.
+-- `in_place_start::page_fault_trap` meets its contract.
 use borrow.Author.Needs.{needs}
-use Rattle.calls.specs.Traps.{pageFaultOf}
-use Rattle.place_trap.proofs.page_fault_trap.Statement.{statement}
-use Rattle.place_trap.proofs.page_fault_trap.Tie as tie
+use Rattle.scope.specs.Classes.{pageFaultOf}
+use Rattle.in_place_start.proofs.page_fault_trap.Statement.{statement}
+use Rattle.in_place_start.proofs.page_fault_trap.Tie as tie
 
 guest-page-fault-addr-requires : tie.Need-guest-page-fault-addr-requires
 guest-page-fault-addr-requires c κs = search needs

@@ -1,9 +1,9 @@
--- `place_trap::sbi` meets its contract.
+-- `in_place_start::sbi` meets its contract.
 use borrow.Author.Needs.{needs}
-use Rattle.place.specs.Laws.{made-by}
-use Rattle.place_trap.specs.Laws.{sbi-made}
-use Rattle.place_trap.proofs.sbi.Statement.{statement}
-use Rattle.place_trap.proofs.sbi.Tie as tie
+use Rattle.in_place_record.specs.Laws.{made-by}
+use Rattle.in_place_start.specs.Laws.{sbi-made}
+use Rattle.in_place_start.proofs.sbi.Statement.{statement}
+use Rattle.in_place_start.proofs.sbi.Tie as tie
 
 sized-requires : tie.Need-sized-requires
 sized-requires c κs = search needs
@@ -24,7 +24,7 @@ do-call-requires : tie.Need-do-call-requires
 do-call-requires c κs = search needs
 
 returns : tie.Need-returns
-returns c = made-by (sbi-made _ _ (c .before .before .before .before .before .before .before .before .sized .ensures) _) (simp (c .before .before .before .decide .ensures, c .before .before .before .before .before .before .args2 .ensures) at (c .do-call .ensures))
+returns c = made-by (sbi-made _ _ (c .before .before .before .before .before .before .before .before .sized .ensures) _ _ (simp (c .before .before .before .before .before .before .args2 .ensures) at (c .before .before .before .decide .ensures))) (c .do-call .ensures)
 
 pub sbi-spec : {M : Type 1} → statement M
 sbi-spec =

@@ -1,9 +1,9 @@
--- `place_trap::start` meets its contract.
+-- `in_place_start::start` meets its contract.
 use borrow.Author.Needs.{needs}
-use Rattle.calls.specs.Calls.{startOf}
-use Rattle.calls.specs.Traps.{startEffect}
-use Rattle.place_trap.proofs.start.Statement.{statement}
-use Rattle.place_trap.proofs.start.Tie as tie
+use Rattle.scope.specs.Calls.{startOf}
+use Rattle.scope.specs.Classes.{startEffect}
+use Rattle.in_place_start.proofs.start.Statement.{statement}
+use Rattle.in_place_start.proofs.start.Tie as tie
 
 waiting-requires : tie.Need-waiting-requires
 waiting-requires c κs = search needs

@@ -1,10 +1,9 @@
--- `place_trap::started` meets its contract.
+-- `in_place_start::started` meets its contract.
 use borrow.Author.Needs.{needs}
-use Rattle.calls.specs.Traps.{startedOf}
-use Rattle.place_trap.specs.Classes.{class-effect}
-use Rattle.place_trap.specs.Laws.{busy-made}
-use Rattle.place_trap.proofs.started.Statement.{statement}
-use Rattle.place_trap.proofs.started.Tie as tie
+use Rattle.in_place_start.specs.Classes.{class-effect}
+use Rattle.in_place_start.specs.Laws.{busy-made}
+use Rattle.in_place_start.proofs.started.Statement.{statement}
+use Rattle.in_place_start.proofs.started.Tie as tie
 
 class-of-requires : tie.Need-class-of-requires
 class-of-requires c κs = search needs
@@ -13,11 +12,9 @@ trapped-requires : tie.Need-trapped-requires
 trapped-requires c κs = search needs
 
 returns : tie.Need-returns
-unfolding startedOf
 returns c = rw (c .before .before .before .before .if1 .taken) (simp (c .before .before .before .class-of .ensures, class-effect) at (c .trapped .ensures))
 
 returns-2 : tie.Need-returns-2
-unfolding startedOf
 returns-2 c = rw (c .if1 .left) (busy-made _ _)
 
 pub started-spec : {M : Type 1} → statement M

@@ -1,9 +1,9 @@
--- `place_trap::trap_of` meets its contract.
+-- `in_place_start::trap_of` meets its contract.
 use mathlib.Core.Path.{refl}
-use Rattle.place_trap.specs.Words.{trapWords}
+use Rattle.in_place_start.specs.Words.{trapWords}
 use borrow.Author.Needs.{needs}
-use Rattle.place_trap.proofs.trap_of.Statement.{statement}
-use Rattle.place_trap.proofs.trap_of.Tie as tie
+use Rattle.in_place_start.proofs.trap_of.Statement.{statement}
+use Rattle.in_place_start.proofs.trap_of.Tie as tie
 
 element-copy-out-t4 : tie.Need-element-copy-out-t4
 element-copy-out-t4 c = search needs

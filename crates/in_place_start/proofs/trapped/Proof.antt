@@ -1,9 +1,9 @@
--- `place_trap::trapped` meets its contract.
+-- `in_place_start::trapped` meets its contract.
 use borrow.Author.Needs.{needs}
-use Rattle.place_trap.specs.Classes.{classEffect}
-use Rattle.place_trap.specs.Laws.{external-made, known-made, unknown-made}
-use Rattle.place_trap.proofs.trapped.Statement.{statement}
-use Rattle.place_trap.proofs.trapped.Tie as tie
+use Rattle.in_place_start.specs.Classes.{classEffect}
+use Rattle.in_place_start.specs.Laws.{external-made, known-made, unknown-made}
+use Rattle.in_place_start.proofs.trapped.Statement.{statement}
+use Rattle.in_place_start.proofs.trapped.Tie as tie
 
 sized-requires : tie.Need-sized-requires
 sized-requires c κs = search needs

@@ -1,9 +1,9 @@
--- `place_change::bump` meets its contract.
+-- `in_place_write::bump` meets its contract.
 use borrow.Author.Tests.{eq-eqb, ne-eqb, lt-ltb, lt-leb, le-ltb, le-leb}
-use Rattle.place.specs.Deeds.{bumpWords}
+use Rattle.in_place_record.specs.Deeds.{bumpWords}
 use borrow.Author.Needs.{needs}
-use Rattle.place_change.proofs.bump.Statement.{statement}
-use Rattle.place_change.proofs.bump.Tie as tie
+use Rattle.in_place_write.proofs.bump.Statement.{statement}
+use Rattle.in_place_write.proofs.bump.Tie as tie
 
 returns : tie.Need-returns
 unfolding bumpWords

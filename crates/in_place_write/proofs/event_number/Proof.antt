@@ -1,8 +1,8 @@
--- `place_change::event_number` meets its contract.
-use Rattle.regs.specs.Record.{eventNumber}
+-- `in_place_write::event_number` meets its contract.
+use Rattle.scope.specs.Record.{eventNumber}
+use Rattle.in_place_write.proofs.event_number.Statement.{statement}
+use Rattle.in_place_write.proofs.event_number.Tie as tie
 use borrow.Author.Needs.{needs}
-use Rattle.place_change.proofs.event_number.Statement.{statement}
-use Rattle.place_change.proofs.event_number.Tie as tie
 
 enum-told : tie.Need-enum-told
 enum-told c = search needs

@@ -1,9 +1,9 @@
--- `place_change::inject` meets its contract.
+-- `in_place_write::inject` meets its contract.
 use mathlib.Core.Path.{refl}
-use Rattle.place.specs.Deeds.{injectWords}
+use Rattle.in_place_record.specs.Deeds.{injectWords}
 use borrow.Author.Needs.{needs}
-use Rattle.place_change.proofs.inject.Statement.{statement}
-use Rattle.place_change.proofs.inject.Tie as tie
+use Rattle.in_place_write.proofs.inject.Statement.{statement}
+use Rattle.in_place_write.proofs.inject.Tie as tie
 
 element-write-r : tie.Need-element-write-r
 element-write-r c = search needs

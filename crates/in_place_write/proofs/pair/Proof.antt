@@ -1,8 +1,8 @@
--- `place_change::pair` meets its contract.
-use Rattle.place.specs.Deeds.{pairWords}
+-- `in_place_write::pair` meets its contract.
+use Rattle.in_place_record.specs.Deeds.{pairWords}
 use borrow.Author.Needs.{needs}
-use Rattle.place_change.proofs.pair.Statement.{statement}
-use Rattle.place_change.proofs.pair.Tie as tie
+use Rattle.in_place_write.proofs.pair.Statement.{statement}
+use Rattle.in_place_write.proofs.pair.Tie as tie
 
 element-write-r : tie.Need-element-write-r
 element-write-r c = search needs

@@ -1,8 +1,8 @@
--- `place_change::step` meets its contract.
-use Rattle.place.specs.Deeds.{stepWords}
+-- `in_place_write::step` meets its contract.
+use Rattle.in_place_record.specs.Deeds.{stepWords}
 use borrow.Author.Needs.{needs}
-use Rattle.place_change.proofs.step.Statement.{statement}
-use Rattle.place_change.proofs.step.Tie as tie
+use Rattle.in_place_write.proofs.step.Statement.{statement}
+use Rattle.in_place_write.proofs.step.Tie as tie
 
 element-write-r : tie.Need-element-write-r
 element-write-r c = search needs

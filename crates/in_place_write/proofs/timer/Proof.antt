@@ -1,8 +1,8 @@
--- `place_change::timer` meets its contract.
-use Rattle.place.specs.Deeds.{timerWords}
+-- `in_place_write::timer` meets its contract.
+use Rattle.in_place_record.specs.Deeds.{timerWords}
 use borrow.Author.Needs.{needs}
-use Rattle.place_change.proofs.timer.Statement.{statement}
-use Rattle.place_change.proofs.timer.Tie as tie
+use Rattle.in_place_write.proofs.timer.Statement.{statement}
+use Rattle.in_place_write.proofs.timer.Tie as tie
 
 element-write-r : tie.Need-element-write-r
 element-write-r c = search needs

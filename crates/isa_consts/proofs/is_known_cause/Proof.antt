@@ -1,9 +1,9 @@
--- `consts::is_known_cause` meets its contract.
+-- `isa_consts::is_known_cause` meets its contract.
 use borrow.Author.Tests.{lt-ltb, lt-leb, le-ltb, le-leb}
-use Rattle.consts.specs.Traps.{knownCause}
+use Rattle.isa_consts.specs.Traps.{knownCause}
 use borrow.Author.Needs.{needs}
-use Rattle.consts.proofs.is_known_cause.Statement.{statement}
-use Rattle.consts.proofs.is_known_cause.Tie as tie
+use Rattle.isa_consts.proofs.is_known_cause.Statement.{statement}
+use Rattle.isa_consts.proofs.is_known_cause.Tie as tie
 
 is-known-exception-requires : tie.Need-is-known-exception-requires
 is-known-exception-requires c κs = search needs

@@ -1,8 +1,8 @@
--- `consts::is_known_exception` meets its contract.
+-- `isa_consts::is_known_exception` meets its contract.
 use borrow.Author.Tests.{eq-eqb, ne-eqb, lt-ltb, lt-leb, le-ltb, le-leb}
-use Rattle.consts.specs.Traps.{knownException}
-use Rattle.consts.proofs.is_known_exception.Statement.{statement}
-use Rattle.consts.proofs.is_known_exception.Tie as tie
+use Rattle.isa_consts.specs.Traps.{knownException}
+use Rattle.isa_consts.proofs.is_known_exception.Statement.{statement}
+use Rattle.isa_consts.proofs.is_known_exception.Tie as tie
 
 returns : tie.Need-returns
 unfolding knownException

@@ -1,8 +1,8 @@
--- `consts::is_known_interrupt` meets its contract.
+-- `isa_consts::is_known_interrupt` meets its contract.
 use borrow.Author.Tests.{lt-ltb, lt-leb, le-ltb, le-leb}
-use Rattle.consts.specs.Traps.{knownInterrupt}
-use Rattle.consts.proofs.is_known_interrupt.Statement.{statement}
-use Rattle.consts.proofs.is_known_interrupt.Tie as tie
+use Rattle.isa_consts.specs.Traps.{knownInterrupt}
+use Rattle.isa_consts.proofs.is_known_interrupt.Statement.{statement}
+use Rattle.isa_consts.proofs.is_known_interrupt.Tie as tie
 
 returns : tie.Need-returns
 unfolding knownInterrupt

@@ -1,8 +1,8 @@
--- `consts::is_supervisor_external` meets its contract.
+-- `isa_consts::is_supervisor_external` meets its contract.
 use borrow.Author.Tests.{eq-eqb, ne-eqb}
-use Rattle.consts.specs.Traps.{supervisorExternal}
-use Rattle.consts.proofs.is_supervisor_external.Statement.{statement}
-use Rattle.consts.proofs.is_supervisor_external.Tie as tie
+use Rattle.isa_consts.specs.Traps.{supervisorExternal}
+use Rattle.isa_consts.proofs.is_supervisor_external.Statement.{statement}
+use Rattle.isa_consts.proofs.is_supervisor_external.Tie as tie
 
 returns : tie.Need-returns
 unfolding supervisorExternal

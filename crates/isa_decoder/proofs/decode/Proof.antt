@@ -1,8 +1,8 @@
--- `decoder::decode` meets its contract.
-use Rattle.decoder.specs.Decode.{decodeOf}
+-- `isa_decoder::decode` meets its contract.
+use Rattle.isa_decoder.specs.Decode.{decodeOf}
 use borrow.Author.Needs.{needs}
-use Rattle.decoder.proofs.decode.Statement.{statement}
-use Rattle.decoder.proofs.decode.Tie as tie
+use Rattle.isa_decoder.proofs.decode.Statement.{statement}
+use Rattle.isa_decoder.proofs.decode.Tie as tie
 
 opcode-requires : tie.Need-opcode-requires
 opcode-requires c κs = search needs

@@ -1,9 +1,9 @@
--- `decoder::decode_by` meets its contract.
+-- `isa_decoder::decode_by` meets its contract.
 use borrow.Author.Tests.{eq-eqb, ne-eqb}
-use Rattle.decoder.specs.Decode.{decodeBy}
+use Rattle.isa_decoder.specs.Decode.{decodeBy}
 use borrow.Author.Needs.{needs}
-use Rattle.decoder.proofs.decode_by.Statement.{statement}
-use Rattle.decoder.proofs.decode_by.Tie as tie
+use Rattle.isa_decoder.proofs.decode_by.Statement.{statement}
+use Rattle.isa_decoder.proofs.decode_by.Tie as tie
 
 funct3-requires : tie.Need-funct3-requires
 funct3-requires c κs = search needs

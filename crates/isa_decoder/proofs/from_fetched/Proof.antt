@@ -1,9 +1,9 @@
--- `decoder::from_fetched` meets its contract.
+-- `isa_decoder::from_fetched` meets its contract.
 use borrow.Author.Tests.{eq-eqb, ne-eqb}
-use Rattle.decoder.specs.Length.{fetchedOf}
+use Rattle.isa_decoder.specs.Length.{fetchedOf}
 use borrow.Author.Needs.{needs}
-use Rattle.decoder.proofs.from_fetched.Statement.{statement}
-use Rattle.decoder.proofs.from_fetched.Tie as tie
+use Rattle.isa_decoder.proofs.from_fetched.Statement.{statement}
+use Rattle.isa_decoder.proofs.from_fetched.Tie as tie
 
 returns : tie.Need-returns
 unfolding fetchedOf

@@ -1,9 +1,9 @@
--- `decoder::from_htinst` meets its contract.
+-- `isa_decoder::from_htinst` meets its contract.
 use borrow.Author.Tests.{eq-eqb, ne-eqb}
-use Rattle.decoder.specs.Length.{htinstOf}
+use Rattle.isa_decoder.specs.Length.{htinstOf}
 use borrow.Author.Needs.{needs}
-use Rattle.decoder.proofs.from_htinst.Statement.{statement}
-use Rattle.decoder.proofs.from_htinst.Tie as tie
+use Rattle.isa_decoder.proofs.from_htinst.Statement.{statement}
+use Rattle.isa_decoder.proofs.from_htinst.Tie as tie
 
 returns : tie.Need-returns
 unfolding htinstOf

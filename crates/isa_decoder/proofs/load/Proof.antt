@@ -1,8 +1,8 @@
--- `decoder::load` meets its contract.
+-- `isa_decoder::load` meets its contract.
 use borrow.Author.Tests.{ne-eqb}
-use Rattle.decoder.specs.Decode.{loadOf}
-use Rattle.decoder.proofs.load.Statement.{statement}
-use Rattle.decoder.proofs.load.Tie as tie
+use Rattle.isa_decoder.specs.Decode.{loadOf}
+use Rattle.isa_decoder.proofs.load.Statement.{statement}
+use Rattle.isa_decoder.proofs.load.Tie as tie
 
 returns : tie.Need-returns
 unfolding loadOf

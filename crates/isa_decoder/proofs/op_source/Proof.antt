@@ -1,8 +1,8 @@
--- `decoder::op_source` meets its contract.
-use Rattle.decoder.specs.Length.{opSource}
+-- `isa_decoder::op_source` meets its contract.
+use Rattle.isa_decoder.specs.Length.{opSource}
 use borrow.Author.Needs.{needs}
-use Rattle.decoder.proofs.op_source.Statement.{statement}
-use Rattle.decoder.proofs.op_source.Tie as tie
+use Rattle.isa_decoder.proofs.op_source.Statement.{statement}
+use Rattle.isa_decoder.proofs.op_source.Tie as tie
 
 enum-told : tie.Need-enum-told
 enum-told c = search needs

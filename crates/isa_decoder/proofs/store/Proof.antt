@@ -1,8 +1,8 @@
--- `decoder::store` meets its contract.
+-- `isa_decoder::store` meets its contract.
 use borrow.Author.Tests.{ne-eqb}
-use Rattle.decoder.specs.Decode.{storeOf}
-use Rattle.decoder.proofs.store.Statement.{statement}
-use Rattle.decoder.proofs.store.Tie as tie
+use Rattle.isa_decoder.specs.Decode.{storeOf}
+use Rattle.isa_decoder.proofs.store.Statement.{statement}
+use Rattle.isa_decoder.proofs.store.Tie as tie
 
 returns : tie.Need-returns
 unfolding storeOf

@@ -1,8 +1,8 @@
--- `decoder::store_source` meets its contract.
-use Rattle.decoder.specs.Length.{storeSource}
+-- `isa_decoder::store_source` meets its contract.
+use Rattle.isa_decoder.specs.Length.{storeSource}
 use borrow.Author.Needs.{needs}
-use Rattle.decoder.proofs.store_source.Statement.{statement}
-use Rattle.decoder.proofs.store_source.Tie as tie
+use Rattle.isa_decoder.proofs.store_source.Statement.{statement}
+use Rattle.isa_decoder.proofs.store_source.Tie as tie
 
 enum-told : tie.Need-enum-told
 enum-told c = search needs

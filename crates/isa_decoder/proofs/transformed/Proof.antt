@@ -1,9 +1,9 @@
--- `decoder::transformed` meets its contract.
+-- `isa_decoder::transformed` meets its contract.
 use borrow.Author.Tests.{eq-eqb, ne-eqb}
-use Rattle.decoder.specs.Length.{transformedOf}
+use Rattle.isa_decoder.specs.Length.{transformedOf}
 use borrow.Author.Needs.{needs}
-use Rattle.decoder.proofs.transformed.Statement.{statement}
-use Rattle.decoder.proofs.transformed.Tie as tie
+use Rattle.isa_decoder.proofs.transformed.Statement.{statement}
+use Rattle.isa_decoder.proofs.transformed.Tie as tie
 
 returns : tie.Need-returns
 unfolding transformedOf

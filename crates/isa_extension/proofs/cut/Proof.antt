@@ -1,9 +1,9 @@
--- `extension::cut` meets its contract.
-use Rattle.extension.specs.Extend.{cutOf, widthBits}
-use Rattle.extension.proofs.Whole.{cut-whole}
+-- `isa_extension::cut` meets its contract.
+use Rattle.isa_extension.specs.Extend.{cutOf, widthBits}
+use Rattle.isa_extension.proofs.Whole.{cut-whole}
 use borrow.Author.Needs.{needs}
-use Rattle.extension.proofs.cut.Statement.{statement}
-use Rattle.extension.proofs.cut.Tie as tie
+use Rattle.isa_extension.proofs.cut.Statement.{statement}
+use Rattle.isa_extension.proofs.cut.Tie as tie
 
 enum-told : tie.Need-enum-told
 enum-told c = search needs

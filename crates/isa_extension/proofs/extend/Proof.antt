@@ -1,9 +1,9 @@
--- `extension::extend` meets its contract.
-use Rattle.extension.specs.Extend.{extendOf, widthBits}
-use Rattle.extension.proofs.Whole.{extend-whole}
+-- `isa_extension::extend` meets its contract.
+use Rattle.isa_extension.specs.Extend.{extendOf, widthBits}
+use Rattle.isa_extension.proofs.Whole.{extend-whole}
 use borrow.Author.Needs.{needs}
-use Rattle.extension.proofs.extend.Statement.{statement}
-use Rattle.extension.proofs.extend.Tie as tie
+use Rattle.isa_extension.proofs.extend.Statement.{statement}
+use Rattle.isa_extension.proofs.extend.Tie as tie
 
 enum-told : tie.Need-enum-told
 enum-told c = search needs

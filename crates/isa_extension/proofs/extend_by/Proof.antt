@@ -1,10 +1,10 @@
--- `extension::extend_by` meets its contract.
-use Rattle.extension.specs.Extend.{extendBy}
+-- `isa_extension::extend_by` meets its contract.
+use Rattle.isa_extension.specs.Extend.{extendBy}
 use native.Mathlib.Omega.{arith}
 use native.Mathlib.Nat.{mod-lt}
 use borrow.Author.Needs.{needs}
-use Rattle.extension.proofs.extend_by.Statement.{statement}
-use Rattle.extension.proofs.extend_by.Tie as tie
+use Rattle.isa_extension.proofs.extend_by.Statement.{statement}
+use Rattle.isa_extension.proofs.extend_by.Tie as tie
 
 rem-low : tie.Need-rem-low
 rem-low c = search needs

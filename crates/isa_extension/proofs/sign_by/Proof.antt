@@ -1,9 +1,9 @@
--- `extension::sign_by` meets its contract.
+-- `isa_extension::sign_by` meets its contract.
 use borrow.Author.Tests.{lt-ltb, lt-leb, le-ltb, le-leb}
-use Rattle.extension.specs.Extend.{signedBy}
+use Rattle.isa_extension.specs.Extend.{signedBy}
 use borrow.Author.Needs.{needs}
-use Rattle.extension.proofs.sign_by.Statement.{statement}
-use Rattle.extension.proofs.sign_by.Tie as tie
+use Rattle.isa_extension.proofs.sign_by.Statement.{statement}
+use Rattle.isa_extension.proofs.sign_by.Tie as tie
 
 returns : tie.Need-returns
 unfolding signedBy

@@ -1,8 +1,8 @@
--- `fields::csr` meets its contract.
+-- `isa_fields::csr` meets its contract.
 use mathlib.Core.Path.{refl}
-use Rattle.fields.specs.Fields.{csrField}
-use Rattle.fields.proofs.csr.Statement.{statement}
-use Rattle.fields.proofs.csr.Tie as tie
+use Rattle.isa_fields.specs.Fields.{csrField}
+use Rattle.isa_fields.proofs.csr.Statement.{statement}
+use Rattle.isa_fields.proofs.csr.Tie as tie
 
 returns : tie.Need-returns
 unfolding csrField

@@ -1,8 +1,8 @@
--- `fields::rd` meets its contract.
+-- `isa_fields::rd` meets its contract.
 use mathlib.Core.Path.{refl}
-use Rattle.fields.specs.Fields.{rdField}
-use Rattle.fields.proofs.rd.Statement.{statement}
-use Rattle.fields.proofs.rd.Tie as tie
+use Rattle.isa_fields.specs.Fields.{rdField}
+use Rattle.isa_fields.proofs.rd.Statement.{statement}
+use Rattle.isa_fields.proofs.rd.Tie as tie
 
 returns : tie.Need-returns
 unfolding rdField

@@ -1,9 +1,9 @@
--- `registers::guest_page_fault_addr` meets its contract.
-use Rattle.registers.specs.Values.{guestPageFaultAddr}
-use Rattle.registers.proofs.Shift.{cut-first}
+-- `isa_registers::guest_page_fault_addr` meets its contract.
+use Rattle.isa_registers.specs.Values.{guestPageFaultAddr}
+use Rattle.isa_registers.proofs.Shift.{cut-first}
 use borrow.Author.Needs.{needs}
-use Rattle.registers.proofs.guest_page_fault_addr.Statement.{statement}
-use Rattle.registers.proofs.guest_page_fault_addr.Tie as tie
+use Rattle.isa_registers.proofs.guest_page_fault_addr.Statement.{statement}
+use Rattle.isa_registers.proofs.guest_page_fault_addr.Tie as tie
 
 mul-t4 : tie.Need-mul-t4
 mul-t4 c = search needs

@@ -1,9 +1,9 @@
--- `registers::hgatp_value` meets its contract.
+-- `isa_registers::hgatp_value` meets its contract.
 use mathlib.Core.Path.{refl}
-use Rattle.registers.specs.Values.{hgatpOf}
+use Rattle.isa_registers.specs.Values.{hgatpOf}
 use borrow.Author.Needs.{needs}
-use Rattle.registers.proofs.hgatp_value.Statement.{statement}
-use Rattle.registers.proofs.hgatp_value.Tie as tie
+use Rattle.isa_registers.proofs.hgatp_value.Statement.{statement}
+use Rattle.isa_registers.proofs.hgatp_value.Tie as tie
 
 mul-result : tie.Need-mul-result
 mul-result c = search needs

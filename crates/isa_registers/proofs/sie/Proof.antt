@@ -1,8 +1,8 @@
--- `registers::sie` meets its contract.
+-- `isa_registers::sie` meets its contract.
 use mathlib.Core.Path.{refl}
-use Rattle.registers.specs.Bits.{sieOf}
-use Rattle.registers.proofs.sie.Statement.{statement}
-use Rattle.registers.proofs.sie.Tie as tie
+use Rattle.isa_registers.specs.Bits.{sieOf}
+use Rattle.isa_registers.proofs.sie.Statement.{statement}
+use Rattle.isa_registers.proofs.sie.Tie as tie
 
 returns : tie.Need-returns
 unfolding sieOf

@@ -1,7 +1,7 @@
--- `registers::with_bits` meets its contract.
-use Rattle.registers.specs.Bits.{withBits}
-use Rattle.registers.proofs.with_bits.Statement.{statement}
-use Rattle.registers.proofs.with_bits.Tie as tie
+-- `isa_registers::with_bits` meets its contract.
+use Rattle.isa_registers.specs.Bits.{withBits}
+use Rattle.isa_registers.proofs.with_bits.Statement.{statement}
+use Rattle.isa_registers.proofs.with_bits.Tie as tie
 
 returns : tie.Need-returns
 unfolding withBits

@@ -1,8 +1,8 @@
--- `capture::feed` meets its contract.
-use Rattle.capture.specs.Laws.{read-feeds, over-feeds}
+-- `replay_capture::feed` meets its contract.
+use Rattle.replay_capture.specs.Laws.{read-feeds, over-feeds}
 use borrow.Author.Needs.{needs}
-use Rattle.capture.proofs.feed.Statement.{statement}
-use Rattle.capture.proofs.feed.Tie as tie
+use Rattle.replay_capture.proofs.feed.Statement.{statement}
+use Rattle.replay_capture.proofs.feed.Tie as tie
 
 returns : tie.Need-returns
 returns c = over-feeds _ _ (c .if1 .taken)

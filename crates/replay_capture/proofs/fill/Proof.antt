@@ -1,15 +1,15 @@
--- `capture::fill` meets its contract.
+-- `replay_capture::fill` meets its contract.
 use borrow.Author.Needs.{needs}
-use Rattle.lines.specs.Keys.{bytes}
-use Rattle.capture.specs.Laws.{part-fed, fed-high, fed-moves, filled-next, filled-led, written-same, written-end}
-use Rattle.capture.specs.Replay.{afterOf, outOf}
+use Rattle.replay_lines.specs.Keys.{bytes}
+use Rattle.replay_capture.specs.Laws.{part-fed, fed-high, fed-moves, filled-next, filled-led, written-same, written-end}
+use Rattle.replay_capture.specs.Replay.{afterOf, outOf}
 use Prim.Native.Nat.{_+_, _-_, _≤_, _<_}
 use native.Mathlib.Omega.{arith}
 use mathlib.Core.List.{_++_}
 use mathlib.Core.Path.{_≡_, _∙_}
 use lib.ListN.{drop, length, take}
-use Rattle.capture.proofs.fill.Statement.{statement}
-use Rattle.capture.proofs.fill.Tie as tie
+use Rattle.replay_capture.proofs.fill.Statement.{statement}
+use Rattle.replay_capture.proofs.fill.Tie as tie
 
 abbrev Inv-loop : tie.InvT-loop
 Inv-loop bytes out₀ t₀ i₀ e₀ out t i e = (i ≤ length bytes) × (length out ≡ length out₀) × (e ≤ length out) × (0 < e → 0 < i)

@@ -1,8 +1,8 @@
--- `capture::put` meets its contract.
-use Rattle.capture.specs.Laws.{nothing-put, trap-put, bad-put}
+-- `replay_capture::put` meets its contract.
+use Rattle.replay_capture.specs.Laws.{nothing-put, trap-put, bad-put}
 use borrow.Author.Needs.{needs}
-use Rattle.capture.proofs.put.Statement.{statement}
-use Rattle.capture.proofs.put.Tie as tie
+use Rattle.replay_capture.proofs.put.Statement.{statement}
+use Rattle.replay_capture.proofs.put.Tie as tie
 
 enum-told : tie.Need-enum-told
 enum-told c = search needs

@@ -1,8 +1,8 @@
--- `digits::digit` meets its contract.
-use Rattle.digits.specs.Hex.{digitOf}
+-- `replay_digits::digit` meets its contract.
+use Rattle.replay_digits.specs.Hex.{digitOf}
 use borrow.Author.Needs.{needs}
-use Rattle.digits.proofs.digit.Statement.{statement}
-use Rattle.digits.proofs.digit.Tie as tie
+use Rattle.replay_digits.proofs.digit.Statement.{statement}
+use Rattle.replay_digits.proofs.digit.Tie as tie
 
 enum-known-x : tie.Need-enum-known-x
 enum-known-x c = search needs

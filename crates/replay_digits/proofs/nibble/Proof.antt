@@ -1,9 +1,9 @@
--- `digits::nibble` meets its contract.
+-- `replay_digits::nibble` meets its contract.
 use borrow.Author.Tests.{lt-ltb, lt-leb, le-ltb, le-leb}
-use Rattle.digits.specs.Hex.{nibbleOf}
+use Rattle.replay_digits.specs.Hex.{nibbleOf}
 use borrow.Author.Needs.{needs}
-use Rattle.digits.proofs.nibble.Statement.{statement}
-use Rattle.digits.proofs.nibble.Tie as tie
+use Rattle.replay_digits.proofs.nibble.Statement.{statement}
+use Rattle.replay_digits.proofs.nibble.Tie as tie
 
 returns : tie.Need-returns
 unfolding nibbleOf

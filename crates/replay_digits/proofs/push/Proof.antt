@@ -1,9 +1,9 @@
--- `digits::push` meets its contract.
+-- `replay_digits::push` meets its contract.
 use mathlib.Core.Path.{refl}
-use Rattle.digits.specs.Hex.{pushOf}
+use Rattle.replay_digits.specs.Hex.{pushOf}
 use borrow.Author.Needs.{needs}
-use Rattle.digits.proofs.push.Statement.{statement}
-use Rattle.digits.proofs.push.Tie as tie
+use Rattle.replay_digits.proofs.push.Statement.{statement}
+use Rattle.replay_digits.proofs.push.Tie as tie
 
 mul-result : tie.Need-mul-result
 mul-result c = search needs

@@ -1,9 +1,9 @@
--- `digits::pushed` meets its contract.
+-- `replay_digits::pushed` meets its contract.
 use borrow.Author.Tests.{lt-ltb, lt-leb, le-ltb, le-leb}
-use Rattle.digits.specs.Hex.{pushedOf}
+use Rattle.replay_digits.specs.Hex.{pushedOf}
 use borrow.Author.Needs.{needs}
-use Rattle.digits.proofs.pushed.Statement.{statement}
-use Rattle.digits.proofs.pushed.Tie as tie
+use Rattle.replay_digits.proofs.pushed.Statement.{statement}
+use Rattle.replay_digits.proofs.pushed.Tie as tie
 
 push-requires : tie.Need-push-requires
 push-requires c κs = search needs

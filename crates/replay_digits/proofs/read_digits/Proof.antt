@@ -1,14 +1,14 @@
--- `digits::read_digits` meets its contract.
+-- `replay_digits::read_digits` meets its contract.
 use borrow.Author.Needs.{needs}
 use borrow.Author.Tests.{eq-eqb, ne-eqb}
-use Rattle.digits.specs.Hex.{readOf, digitOf}
+use Rattle.replay_digits.specs.Hex.{readOf, digitOf}
 use Prim.Native.Nat.{_-_, _≤_}
 use mathlib.Core.List.{foldl}
 use mathlib.Core.Path.{_≡_, _∙_}
 use lib.ListN.{length, take}
-use Rattle.digits.specs.Fold.{fold-next, fold-all}
-use Rattle.digits.proofs.read_digits.Statement.{statement}
-use Rattle.digits.proofs.read_digits.Tie as tie
+use Rattle.replay_digits.specs.Fold.{fold-next, fold-all}
+use Rattle.replay_digits.proofs.read_digits.Statement.{statement}
+use Rattle.replay_digits.proofs.read_digits.Tie as tie
 
 abbrev Inv-loop : tie.InvT-loop
 unfolding readOf

@@ -1,8 +1,8 @@
--- `lines::at_end` meets its contract.
+-- `replay_lines::at_end` meets its contract.
 use borrow.Author.Tests.{eq-eqb, ne-eqb}
-use Rattle.lines.specs.Lines.{atEndOf}
-use Rattle.lines.proofs.at_end.Statement.{statement}
-use Rattle.lines.proofs.at_end.Tie as tie
+use Rattle.replay_lines.specs.Lines.{atEndOf}
+use Rattle.replay_lines.proofs.at_end.Statement.{statement}
+use Rattle.replay_lines.proofs.at_end.Tie as tie
 
 returns : tie.Need-returns
 unfolding atEndOf

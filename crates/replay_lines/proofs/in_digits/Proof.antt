@@ -1,9 +1,9 @@
--- `lines::in_digits` meets its contract.
+-- `replay_lines::in_digits` meets its contract.
 use borrow.Author.Tests.{lt-ltb, lt-leb, le-ltb, le-leb}
-use Rattle.lines.specs.Lines.{inDigitsOf}
+use Rattle.replay_lines.specs.Lines.{inDigitsOf}
 use borrow.Author.Needs.{needs}
-use Rattle.lines.proofs.in_digits.Statement.{statement}
-use Rattle.lines.proofs.in_digits.Tie as tie
+use Rattle.replay_lines.proofs.in_digits.Statement.{statement}
+use Rattle.replay_lines.proofs.in_digits.Tie as tie
 
 push-requires : tie.Need-push-requires
 push-requires c κs = search needs

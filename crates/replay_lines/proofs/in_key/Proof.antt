@@ -1,8 +1,8 @@
--- `lines::in_key` meets its contract.
+-- `replay_lines::in_key` meets its contract.
 use borrow.Author.Tests.{eq-eqb, ne-eqb}
-use Rattle.lines.specs.Lines.{inKeyOf}
-use Rattle.lines.proofs.in_key.Statement.{statement}
-use Rattle.lines.proofs.in_key.Tie as tie
+use Rattle.replay_lines.specs.Lines.{inKeyOf}
+use Rattle.replay_lines.proofs.in_key.Statement.{statement}
+use Rattle.replay_lines.proofs.in_key.Tie as tie
 
 returns : tie.Need-returns
 unfolding inKeyOf

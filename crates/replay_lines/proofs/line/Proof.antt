@@ -1,9 +1,9 @@
--- `lines::line` meets its contract.
+-- `replay_lines::line` meets its contract.
 use borrow.Author.Tests.{lt-ltb, lt-leb, le-ltb, le-leb}
-use Rattle.lines.specs.Lines.{lineOf}
+use Rattle.replay_lines.specs.Lines.{lineOf}
 use borrow.Author.Needs.{needs}
-use Rattle.lines.proofs.line.Statement.{statement}
-use Rattle.lines.proofs.line.Tie as tie
+use Rattle.replay_lines.proofs.line.Statement.{statement}
+use Rattle.replay_lines.proofs.line.Tie as tie
 
 add-in-key : tie.Need-add-in-key
 add-in-key c = search needs

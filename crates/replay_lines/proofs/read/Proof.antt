@@ -1,11 +1,11 @@
--- `lines::read` meets its contract.
+-- `replay_lines::read` meets its contract.
 use borrow.Author.Tests.{ne-eqb}
-use Rattle.lines.specs.Keys.{keyOf, registerKeys}
-use Rattle.lines.specs.Laws.{two-up}
+use Rattle.replay_lines.specs.Keys.{keyOf, registerKeys}
+use Rattle.replay_lines.specs.Laws.{two-up}
 use native.Mathlib.Omega.{arith}
 use borrow.Author.Needs.{needs}
-use Rattle.lines.proofs.read.Statement.{statement}
-use Rattle.lines.proofs.read.Tie as tie
+use Rattle.replay_lines.proofs.read.Statement.{statement}
+use Rattle.replay_lines.proofs.read.Tie as tie
 
 slice-aggregate-scan : tie.Need-slice-aggregate-scan
 slice-aggregate-scan c = search needs

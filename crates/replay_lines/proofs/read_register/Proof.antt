@@ -1,8 +1,8 @@
--- `lines::read_register` meets its contract.
-use Rattle.lines.specs.Laws.{read-four, read-none}
+-- `replay_lines::read_register` meets its contract.
+use Rattle.replay_lines.specs.Laws.{read-four, read-none}
 use borrow.Author.Needs.{needs}
-use Rattle.lines.proofs.read_register.Statement.{statement}
-use Rattle.lines.proofs.read_register.Tie as tie
+use Rattle.replay_lines.proofs.read_register.Statement.{statement}
+use Rattle.replay_lines.proofs.read_register.Tie as tie
 
 mul-a : tie.Need-mul-a
 mul-a c = search needs

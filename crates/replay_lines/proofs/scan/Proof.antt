@@ -1,14 +1,14 @@
--- `lines::scan` meets its contract.
+-- `replay_lines::scan` meets its contract.
 use borrow.Author.Needs.{needs}
 use mathlib.Core.Path.{refl}
-use Rattle.lines.specs.Laws.{taken-next, taken-end}
-use Rattle.lines.specs.Lines.{takenOf}
+use Rattle.replay_lines.specs.Laws.{taken-next, taken-end}
+use Rattle.replay_lines.specs.Lines.{takenOf}
 use Prim.Native.Nat.{_-_, _≤_, _<_}
 use mathlib.Core.Path.{_≡_, sym, _∙_}
 use native.Mathlib.Omega.{arith}
 use lib.ListN.{drop, length}
-use Rattle.lines.proofs.scan.Statement.{statement}
-use Rattle.lines.proofs.scan.Tie as tie
+use Rattle.replay_lines.proofs.scan.Statement.{statement}
+use Rattle.replay_lines.proofs.scan.Tie as tie
 
 abbrev Inv-loop : tie.InvT-loop
 Inv-loop key at v s a₀ w₀ i₀ a w i = (i ≤ length s) × (takenOf key at v s ≡ takenOf key a w (drop i s))

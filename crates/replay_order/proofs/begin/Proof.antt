@@ -1,8 +1,8 @@
--- `order::begin` meets its contract.
-use Rattle.order.specs.Order.{begun}
+-- `replay_order::begin` meets its contract.
+use Rattle.replay_order.specs.Order.{begun}
 use borrow.Author.Needs.{needs}
-use Rattle.order.proofs.begin.Statement.{statement}
-use Rattle.order.proofs.begin.Tie as tie
+use Rattle.replay_order.proofs.begin.Statement.{statement}
+use Rattle.replay_order.proofs.begin.Tie as tie
 
 new-requires : tie.Need-new-requires
 new-requires c κs = search needs

@@ -1,8 +1,8 @@
--- `order::end` meets its contract.
+-- `replay_order::end` meets its contract.
 use borrow.Author.Tests.{eq-eqb, ne-eqb}
-use Rattle.order.specs.Order.{endOf}
-use Rattle.order.proofs.end.Statement.{statement}
-use Rattle.order.proofs.end.Tie as tie
+use Rattle.replay_order.specs.Order.{endOf}
+use Rattle.replay_order.proofs.end.Statement.{statement}
+use Rattle.replay_order.proofs.end.Tie as tie
 
 returns : tie.Need-returns
 unfolding endOf

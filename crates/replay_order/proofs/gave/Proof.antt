@@ -1,8 +1,8 @@
--- `order::gave` meets its contract.
-use Rattle.order.specs.Order.{gaveOf, withOf}
+-- `replay_order::gave` meets its contract.
+use Rattle.replay_order.specs.Order.{gaveOf, withOf}
 use borrow.Author.Needs.{needs}
-use Rattle.order.proofs.gave.Statement.{statement}
-use Rattle.order.proofs.gave.Tie as tie
+use Rattle.replay_order.proofs.gave.Statement.{statement}
+use Rattle.replay_order.proofs.gave.Tie as tie
 
 enum-known-g : tie.Need-enum-known-g
 enum-known-g c = search needs

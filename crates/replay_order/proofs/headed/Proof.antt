@@ -1,9 +1,9 @@
--- `order::headed` meets its contract.
+-- `replay_order::headed` meets its contract.
 use borrow.Author.Tests.{eq-eqb, ne-eqb}
-use Rattle.order.specs.Order.{headedOf}
+use Rattle.replay_order.specs.Order.{headedOf}
 use borrow.Author.Needs.{needs}
-use Rattle.order.proofs.headed.Statement.{statement}
-use Rattle.order.proofs.headed.Tie as tie
+use Rattle.replay_order.proofs.headed.Statement.{statement}
+use Rattle.replay_order.proofs.headed.Tie as tie
 
 set-entry-requires : tie.Need-set-entry-requires
 set-entry-requires c κs = search needs

@@ -1,9 +1,9 @@
--- `order::header` meets its contract.
-use Rattle.order.specs.Order.{headerOf}
-use Rattle.steps.specs.Steps.{nextOf}
+-- `replay_order::header` meets its contract.
+use Rattle.replay_order.specs.Order.{headerOf}
+use Rattle.replay_steps.specs.Steps.{nextOf}
 use borrow.Author.Needs.{needs}
-use Rattle.order.proofs.header.Statement.{statement}
-use Rattle.order.proofs.header.Tie as tie
+use Rattle.replay_order.proofs.header.Statement.{statement}
+use Rattle.replay_order.proofs.header.Tie as tie
 
 headed-requires : tie.Need-headed-requires
 headed-requires c κs = search needs

@@ -1,10 +1,10 @@
--- `order::took` meets its contract.
+-- `replay_order::took` meets its contract.
 use borrow.Author.Tests.{ne-eqb}
-use Rattle.order.specs.Order.{tookOf, keptOf}
-use Rattle.steps.specs.Steps.{nextOf}
+use Rattle.replay_order.specs.Order.{tookOf, keptOf}
+use Rattle.replay_steps.specs.Steps.{nextOf}
 use borrow.Author.Needs.{needs}
-use Rattle.order.proofs.took.Statement.{statement}
-use Rattle.order.proofs.took.Tie as tie
+use Rattle.replay_order.proofs.took.Statement.{statement}
+use Rattle.replay_order.proofs.took.Tie as tie
 
 next-requires : tie.Need-next-requires
 next-requires c κs = search needs

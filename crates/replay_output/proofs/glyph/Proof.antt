@@ -1,8 +1,8 @@
--- `put::glyph` meets its contract.
+-- `replay_output::glyph` meets its contract.
 use borrow.Author.Tests.{lt-ltb, lt-leb, le-ltb, le-leb}
 use borrow.Author.Needs.{needs}
-use Rattle.put.proofs.glyph.Statement.{statement}
-use Rattle.put.proofs.glyph.Tie as tie
+use Rattle.replay_output.proofs.glyph.Statement.{statement}
+use Rattle.replay_output.proofs.glyph.Tie as tie
 
 cast-result : tie.Need-cast-result
 cast-result c = search needs

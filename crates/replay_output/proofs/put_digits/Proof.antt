@@ -1,16 +1,16 @@
--- `put::put_digits` meets its contract.
+-- `replay_output::put_digits` meets its contract.
 use borrow.Author.Needs.{needs}
 use mathlib.Core.Path.{refl}
-use Rattle.digits.specs.Hex.{lastDigits}
-use Rattle.put.specs.PutLaws.{digit-put, digits-put}
+use Rattle.replay_digits.specs.Hex.{lastDigits}
+use Rattle.replay_output.specs.PutLaws.{digit-put, digits-put}
 use Prim.Native.Nat.{_+_, _-_, _≤_}
 use native.Mathlib.Omega.{arith}
 use mathlib.Core.List.{_++_}
 use mathlib.Core.Path.{_≡_, _∙_}
 use lib.ListN.{drop, length, take}
 use lib.Seq.{take-set-le}
-use Rattle.put.proofs.put_digits.Statement.{statement}
-use Rattle.put.proofs.put_digits.Tie as tie
+use Rattle.replay_output.proofs.put_digits.Statement.{statement}
+use Rattle.replay_output.proofs.put_digits.Tie as tie
 
 abbrev Inv-loop : tie.InvT-loop
 Inv-loop v out₀ at i₀ rest₀ out i rest = (i ≤ 16) × (length out ≡ length out₀) × (take at out ≡ take at out₀)

@@ -1,13 +1,13 @@
--- `put::put_key` meets its contract.
+-- `replay_output::put_key` meets its contract.
 use borrow.Author.Needs.{needs}
 use mathlib.Core.Path.{refl}
-use Rattle.put.specs.Put.{putAt}
-use Rattle.put.specs.PutLaws.{put-none, put-next, put-all}
+use Rattle.replay_output.specs.Put.{putAt}
+use Rattle.replay_output.specs.PutLaws.{put-none, put-next, put-all}
 use Prim.Native.Nat.{_-_, _≤_}
 use mathlib.Core.Path.{_≡_, _∙_}
 use lib.ListN.{length, take}
-use Rattle.put.proofs.put_key.Statement.{statement}
-use Rattle.put.proofs.put_key.Tie as tie
+use Rattle.replay_output.proofs.put_key.Statement.{statement}
+use Rattle.replay_output.proofs.put_key.Tie as tie
 
 abbrev Inv-loop : tie.InvT-loop
 Inv-loop key out₀ at i₀ out i = (i ≤ length key) × (length out ≡ length out₀) × (out ≡ putAt out₀ at (take i key))

@@ -1,8 +1,8 @@
--- `put::put_line` meets its contract.
-use Rattle.put.specs.PutLaws.{put-same, line-put, line-fits}
+-- `replay_output::put_line` meets its contract.
+use Rattle.replay_output.specs.PutLaws.{put-same, line-put, line-fits}
 use borrow.Author.Needs.{needs}
-use Rattle.put.proofs.put_line.Statement.{statement}
-use Rattle.put.proofs.put_line.Tie as tie
+use Rattle.replay_output.proofs.put_line.Statement.{statement}
+use Rattle.replay_output.proofs.put_line.Tie as tie
 
 put-key-requires : tie.Need-put-key-requires
 put-key-requires c κs = search needs

@@ -1,9 +1,9 @@
--- `steps::answer` meets its contract.
+-- `replay_steps::answer` meets its contract.
 use borrow.Author.Tests.{ne-eqb}
-use Rattle.steps.specs.Pairs.{answerFor}
+use Rattle.replay_steps.specs.Pairs.{answerFor}
 use borrow.Author.Needs.{needs}
-use Rattle.steps.proofs.answer.Statement.{statement}
-use Rattle.steps.proofs.answer.Tie as tie
+use Rattle.replay_steps.proofs.answer.Statement.{statement}
+use Rattle.replay_steps.proofs.answer.Tie as tie
 
 fetched-requires : tie.Need-fetched-requires
 fetched-requires c κs = search needs

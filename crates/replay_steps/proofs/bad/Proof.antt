@@ -1,8 +1,8 @@
--- `steps::bad` meets its contract.
+-- `replay_steps::bad` meets its contract.
 use mathlib.Core.Path.{refl}
-use Rattle.steps.specs.Steps.{badOf}
-use Rattle.steps.proofs.bad.Statement.{statement}
-use Rattle.steps.proofs.bad.Tie as tie
+use Rattle.replay_steps.specs.Steps.{badOf}
+use Rattle.replay_steps.proofs.bad.Statement.{statement}
+use Rattle.replay_steps.proofs.bad.Tie as tie
 
 returns : tie.Need-returns
 unfolding badOf

@@ -1,9 +1,9 @@
--- `steps::code` meets its contract.
-use Rattle.steps.specs.Steps.{codeOf}
-use Rattle.steps.specs.Laws.{error-small}
+-- `replay_steps::code` meets its contract.
+use Rattle.replay_steps.specs.Steps.{codeOf}
+use Rattle.replay_steps.specs.Laws.{error-small}
 use borrow.Author.Needs.{needs}
-use Rattle.steps.proofs.code.Statement.{statement}
-use Rattle.steps.proofs.code.Tie as tie
+use Rattle.replay_steps.proofs.code.Statement.{statement}
+use Rattle.replay_steps.proofs.code.Tie as tie
 
 enum-known-r : tie.Need-enum-known-r
 enum-known-r c = search needs

@@ -1,9 +1,9 @@
--- `steps::fetched` meets its contract.
+-- `replay_steps::fetched` meets its contract.
 use borrow.Author.Tests.{ne-eqb}
-use Rattle.steps.specs.Pairs.{fetchFor}
+use Rattle.replay_steps.specs.Pairs.{fetchFor}
 use borrow.Author.Needs.{needs}
-use Rattle.steps.proofs.fetched.Statement.{statement}
-use Rattle.steps.proofs.fetched.Tie as tie
+use Rattle.replay_steps.proofs.fetched.Statement.{statement}
+use Rattle.replay_steps.proofs.fetched.Tie as tie
 
 cast-t5 : tie.Need-cast-t5
 cast-t5 c = search needs

@@ -1,8 +1,8 @@
--- `steps::more` meets its contract.
-use Rattle.steps.specs.Steps.{moreOf}
+-- `replay_steps::more` meets its contract.
+use Rattle.replay_steps.specs.Steps.{moreOf}
 use borrow.Author.Needs.{needs}
-use Rattle.steps.proofs.more.Statement.{statement}
-use Rattle.steps.proofs.more.Tie as tie
+use Rattle.replay_steps.proofs.more.Statement.{statement}
+use Rattle.replay_steps.proofs.more.Tie as tie
 
 ask-of-requires : tie.Need-ask-of-requires
 ask-of-requires c κs = search needs

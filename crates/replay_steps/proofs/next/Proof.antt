@@ -1,8 +1,8 @@
--- `steps::next` meets its contract.
-use Rattle.steps.specs.Steps.{nextOf}
+-- `replay_steps::next` meets its contract.
+use Rattle.replay_steps.specs.Steps.{nextOf}
 use borrow.Author.Needs.{needs}
-use Rattle.steps.proofs.next.Statement.{statement}
-use Rattle.steps.proofs.next.Tie as tie
+use Rattle.replay_steps.proofs.next.Statement.{statement}
+use Rattle.replay_steps.proofs.next.Tie as tie
 
 wrapping-add-u64-requires : tie.Need-wrapping-add-u64-requires
 wrapping-add-u64-requires c κs = search needs

@@ -1,10 +1,10 @@
--- `steps::paired` meets its contract.
+-- `replay_steps::paired` meets its contract.
 use borrow.Author.Tests.{eq-eqb, ne-eqb, lt-ltb, lt-leb, le-ltb, le-leb}
-use Rattle.steps.specs.Steps.{pairedOf}
+use Rattle.replay_steps.specs.Steps.{pairedOf}
 use borrow.Author.Needs.{needs}
-use Rattle.steps.proofs.paired.Statement.{statement}
-use Rattle.steps.proofs.paired.Tie as tie
-use Rattle.vcpu.proofs.answer.Reads as answer-reads′
+use Rattle.replay_steps.proofs.paired.Statement.{statement}
+use Rattle.replay_steps.proofs.paired.Tie as tie
+use Rattle.by_value_vcpu.proofs.answer.Reads as answer-reads′
 
 complete-load-requires : tie.Need-complete-load-requires
 complete-load-requires c κs = search needs

@@ -1,8 +1,8 @@
--- `steps::settled` meets its contract.
-use Rattle.steps.specs.Steps.{settledOf}
+-- `replay_steps::settled` meets its contract.
+use Rattle.replay_steps.specs.Steps.{settledOf}
 use borrow.Author.Needs.{needs}
-use Rattle.steps.proofs.settled.Statement.{statement}
-use Rattle.steps.proofs.settled.Tie as tie
+use Rattle.replay_steps.proofs.settled.Statement.{statement}
+use Rattle.replay_steps.proofs.settled.Tie as tie
 
 code-requires : tie.Need-code-requires
 code-requires c κs = search needs

@@ -1,8 +1,8 @@
--- `steps::started` meets its contract.
-use Rattle.steps.specs.Steps.{startedOf}
+-- `replay_steps::started` meets its contract.
+use Rattle.replay_steps.specs.Steps.{startedOf}
 use borrow.Author.Needs.{needs}
-use Rattle.steps.proofs.started.Statement.{statement}
-use Rattle.steps.proofs.started.Tie as tie
+use Rattle.replay_steps.proofs.started.Statement.{statement}
+use Rattle.replay_steps.proofs.started.Tie as tie
 
 start-requires : tie.Need-start-requires
 start-requires c κs = search needs

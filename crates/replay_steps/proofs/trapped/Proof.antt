@@ -1,8 +1,8 @@
--- `steps::trapped` meets its contract.
-use Rattle.steps.specs.Steps.{trappedOf, calledOf, nextOf}
+-- `replay_steps::trapped` meets its contract.
+use Rattle.replay_steps.specs.Steps.{trappedOf, calledOf, nextOf}
 use borrow.Author.Needs.{needs}
-use Rattle.steps.proofs.trapped.Statement.{statement}
-use Rattle.steps.proofs.trapped.Tie as tie
+use Rattle.replay_steps.proofs.trapped.Statement.{statement}
+use Rattle.replay_steps.proofs.trapped.Tie as tie
 
 next-requires : tie.Need-next-requires
 next-requires c κs = search needs

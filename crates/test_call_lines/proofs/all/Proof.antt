@@ -1,9 +1,9 @@
--- `call_lines::all` is safe and ends. The measure is the number of words that are left.
+-- `test_call_lines::all` is safe and ends. The measure is the number of words that are left.
 use borrow.Author.Needs.{needs}
 use Prim.Native.Nat.{_-_, _≤_}
 use lib.ListN.{length}
-use Rattle.call_lines.proofs.all.Statement.{statement}
-use Rattle.call_lines.proofs.all.Tie as tie
+use Rattle.test_call_lines.proofs.all.Statement.{statement}
+use Rattle.test_call_lines.proofs.all.Tie as tie
 
 abbrev Inv-loop : tie.InvT-loop
 Inv-loop start part s₀ i₀ s i = i ≤ length part

@@ -1,11 +1,11 @@
--- `call_lines::words` is safe and ends. The measure is the number of words that are left.
+-- `test_call_lines::words` is safe and ends. The measure is the number of words that are left.
 use Prim.Native.Nat.{_≤_, _-_}
 use mathlib.Core.Path.{_≡_}
 use borrow.Author.Needs.{needs}
 use native.Mathlib.Omega.{arith}
 use lib.ListN.{length}
-use Rattle.call_lines.proofs.words.Statement.{statement}
-use Rattle.call_lines.proofs.words.Tie as tie
+use Rattle.test_call_lines.proofs.words.Statement.{statement}
+use Rattle.test_call_lines.proofs.words.Tie as tie
 
 abbrev Inv-loop : tie.InvT-loop
 Inv-loop line w₀ i₀ w i = (i ≤ 8) × (length w ≡ 8)

@@ -1,11 +1,11 @@
--- `call_list::run` is safe and ends. The measure is the number of lines left to the bound.
+-- `test_call_list::run` is safe and ends. The measure is the number of lines left to the bound.
 use Prim.Native.Nat.{_≤_, _-_}
 use mathlib.Core.Path.{_≡_}
 use borrow.Author.Needs.{needs}
 use native.Mathlib.Omega.{arith}
 use lib.ListN.{length}
-use Rattle.call_list.proofs.run.Statement.{statement}
-use Rattle.call_list.proofs.run.Tie as tie
+use Rattle.test_call_list.proofs.run.Statement.{statement}
+use Rattle.test_call_list.proofs.run.Tie as tie
 
 abbrev Inv-loop : tie.InvT-loop
 Inv-loop fd r₀ lines₀ wrong₀ t8 t9 t10 r lines wrong = lines ≤ 100000

@@ -1,12 +1,12 @@
--- `replays::agree` meets its contract.
+-- `test_replays::agree` meets its contract.
 use borrow.Author.Needs.{needs}
 use mathlib.Core.Path.{refl}
-use Rattle.replays.proofs.Alike.{alike-next}
+use Rattle.test_replays.proofs.Alike.{alike-next}
 use Prim.Native.Nat.{_-_, _≤_}
 use mathlib.Core.Path.{_≡_}
 use lib.ListN.{length, take}
-use Rattle.replays.proofs.agree.Statement.{statement}
-use Rattle.replays.proofs.agree.Tie as tie
+use Rattle.test_replays.proofs.agree.Statement.{statement}
+use Rattle.test_replays.proofs.agree.Tie as tie
 
 abbrev Inv-loop : tie.InvT-loop
 Inv-loop a b i₀ i = (i ≤ length a) × (i ≤ length b) × (take i a ≡ take i b)

@@ -1,12 +1,12 @@
--- `replays::append` meets its contract.
+-- `test_replays::append` meets its contract.
 use borrow.Author.Needs.{needs}
 use Prim.Native.Nat.{_-_, _≤_}
 use native.Mathlib.Omega.{arith}
 use mathlib.Core.Path.{_≡_, sym}
 use lib.ListN.{length, length-set}
 use lib.Seq.{length-take-le}
-use Rattle.replays.proofs.append.Statement.{statement}
-use Rattle.replays.proofs.append.Tie as tie
+use Rattle.test_replays.proofs.append.Statement.{statement}
+use Rattle.test_replays.proofs.append.Tie as tie
 
 abbrev Inv-loop : tie.InvT-loop
 Inv-loop from out₀ at i₀ e₀ out i e = (e ≤ length out) × (length out ≡ length out₀)

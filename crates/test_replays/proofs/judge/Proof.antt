@@ -1,11 +1,11 @@
--- `replays::judge` meets its contract.
-use Rattle.capture.specs.Laws.{written-end}
+-- `test_replays::judge` meets its contract.
+use Rattle.replay_capture.specs.Laws.{written-end}
 use mathlib.Core.Path.{sym}
 use lib.Seq.{length-take-le}
 use borrow.Author.Needs.{needs}
-use Rattle.replays.proofs.Judging.{judged}
-use Rattle.replays.proofs.judge.Statement.{statement}
-use Rattle.replays.proofs.judge.Tie as tie
+use Rattle.test_replays.proofs.Judging.{judged}
+use Rattle.test_replays.proofs.judge.Statement.{statement}
+use Rattle.test_replays.proofs.judge.Tie as tie
 
 large-buffer-requires : tie.Need-large-buffer-requires
 large-buffer-requires c κs = search needs

@@ -1,8 +1,8 @@
--- `replays::main` meets its contract.
+-- `test_replays::main` meets its contract.
 use borrow.Author.Needs.{needs}
 use Prim.Native.Nat.{_-_, _<_}
-use Rattle.replays.proofs.main.Statement.{statement}
-use Rattle.replays.proofs.main.Tie as tie
+use Rattle.test_replays.proofs.main.Statement.{statement}
+use Rattle.test_replays.proofs.main.Tie as tie
 
 abbrev Inv-loop : tie.InvT-loop
 Inv-loop n i₀ different₀ t4 t5 i different = different < i

@@ -1,9 +1,9 @@
--- `vectors::compare` is safe and ends. The invariant: no more lines are wrong than were read. The measure is the number of lines left to the bound.
+-- `test_vectors::compare` is safe and ends. The invariant: no more lines are wrong than were read. The measure is the number of lines left to the bound.
 use Prim.Native.Nat.{_≤_, _-_}
 use borrow.Author.Needs.{needs}
 use native.Mathlib.Omega.{arith}
-use Rattle.vectors.proofs.compare.Statement.{statement}
-use Rattle.vectors.proofs.compare.Tie as tie
+use Rattle.test_vectors.proofs.compare.Statement.{statement}
+use Rattle.test_vectors.proofs.compare.Tie as tie
 
 abbrev Inv-loop : tie.InvT-loop
 Inv-loop fd name task lines₀ wrong₀ t6 t7 t8 lines wrong = (lines ≤ 100000) × (wrong ≤ lines)

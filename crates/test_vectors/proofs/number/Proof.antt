@@ -1,8 +1,8 @@
--- `vectors::number` is safe and ends. The measure is the number of digits that are left.
+-- `test_vectors::number` is safe and ends. The measure is the number of digits that are left.
 use Prim.Native.Nat.{_-_}
 use native.Mathlib.Omega.{arith}
-use Rattle.vectors.proofs.number.Statement.{statement}
-use Rattle.vectors.proofs.number.Tie as tie
+use Rattle.test_vectors.proofs.number.Statement.{statement}
+use Rattle.test_vectors.proofs.number.Tie as tie
 
 abbrev Inv-loop : tie.InvT-loop
 Inv-loop line n₀ i₀ n i = Unit {0}

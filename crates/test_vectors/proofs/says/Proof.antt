@@ -1,8 +1,8 @@
--- `vectors::says` is safe and ends. The measure is the number of digits that are left.
+-- `test_vectors::says` is safe and ends. The measure is the number of digits that are left.
 use Prim.Native.Nat.{_-_}
 use native.Mathlib.Omega.{arith}
-use Rattle.vectors.proofs.says.Statement.{statement}
-use Rattle.vectors.proofs.says.Tie as tie
+use Rattle.test_vectors.proofs.says.Statement.{statement}
+use Rattle.test_vectors.proofs.says.Tie as tie
 
 abbrev Inv-loop : tie.InvT-loop
 Inv-loop line at n after text i₀ i = Unit {0}

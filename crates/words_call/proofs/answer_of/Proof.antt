@@ -1,9 +1,9 @@
--- `call_words::answer_of` meets its contract.
+-- `words_call::answer_of` meets its contract.
 use borrow.Author.Tests.{ne-eqb}
-use Rattle.calls.specs.Kinds.{answerBy}
+use Rattle.scope.specs.Words.{answerBy}
+use Rattle.words_call.proofs.answer_of.Statement.{statement}
+use Rattle.words_call.proofs.answer_of.Tie as tie
 use borrow.Author.Needs.{needs}
-use Rattle.call_words.proofs.answer_of.Statement.{statement}
-use Rattle.call_words.proofs.answer_of.Tie as tie
 
 fetch-of-requires : tie.Need-fetch-of-requires
 fetch-of-requires c κs = search needs

@@ -1,9 +1,9 @@
--- `call_words::call_by` meets its contract.
+-- `words_call::call_by` meets its contract.
 use borrow.Author.Tests.{ne-eqb}
-use Rattle.calls.specs.Kinds.{callBy}
+use Rattle.scope.specs.Words.{callBy}
+use Rattle.words_call.proofs.call_by.Statement.{statement}
+use Rattle.words_call.proofs.call_by.Tie as tie
 use borrow.Author.Needs.{needs}
-use Rattle.call_words.proofs.call_by.Statement.{statement}
-use Rattle.call_words.proofs.call_by.Tie as tie
 
 test-requires : tie.Need-test-requires
 test-requires c κs = search needs

@@ -1,8 +1,8 @@
--- `call_words::reply_kind` meets its contract.
-use Rattle.call_words.specs.Words.{replyKind}
+-- `words_call::reply_kind` meets its contract.
+use Rattle.words_call.specs.Words.{replyKind}
 use borrow.Author.Needs.{needs}
-use Rattle.call_words.proofs.reply_kind.Statement.{statement}
-use Rattle.call_words.proofs.reply_kind.Tie as tie
+use Rattle.words_call.proofs.reply_kind.Statement.{statement}
+use Rattle.words_call.proofs.reply_kind.Tie as tie
 
 enum-told : tie.Need-enum-told
 enum-told c = search needs

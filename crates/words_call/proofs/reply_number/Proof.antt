@@ -1,8 +1,8 @@
--- `call_words::reply_number` meets its contract.
-use Rattle.call_words.specs.Words.{replyNumber}
+-- `words_call::reply_number` meets its contract.
+use Rattle.words_call.specs.Words.{replyNumber}
 use borrow.Author.Needs.{needs}
-use Rattle.call_words.proofs.reply_number.Statement.{statement}
-use Rattle.call_words.proofs.reply_number.Tie as tie
+use Rattle.words_call.proofs.reply_number.Statement.{statement}
+use Rattle.words_call.proofs.reply_number.Tie as tie
 
 enum-known-p : tie.Need-enum-known-p
 enum-known-p c = search needs

@@ -1,8 +1,8 @@
--- `call_words::reply_values` meets its contract.
-use Rattle.call_words.specs.Words.{replyValues}
+-- `words_call::reply_values` meets its contract.
+use Rattle.words_call.specs.Words.{replyValues}
 use borrow.Author.Needs.{needs}
-use Rattle.call_words.proofs.reply_values.Statement.{statement}
-use Rattle.call_words.proofs.reply_values.Tie as tie
+use Rattle.words_call.proofs.reply_values.Statement.{statement}
+use Rattle.words_call.proofs.reply_values.Tie as tie
 
 enum-known-p : tie.Need-enum-known-p
 enum-known-p c = search needs

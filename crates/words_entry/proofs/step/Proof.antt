@@ -1,9 +1,9 @@
--- `abi::step` meets its contract.
-use Rattle.abi.specs.Words.{exportedOf}
-use Rattle.call_words.specs.Words.{afterOf}
+-- `words_entry::step` meets its contract.
+use Rattle.words_entry.specs.Words.{exportedOf}
+use Rattle.words_call.specs.Words.{afterOf}
 use borrow.Author.Needs.{needs}
-use Rattle.abi.proofs.step.Statement.{statement}
-use Rattle.abi.proofs.step.Tie as tie
+use Rattle.words_entry.proofs.step.Statement.{statement}
+use Rattle.words_entry.proofs.step.Tie as tie
 
 unpack-requires : tie.Need-unpack-requires
 unpack-requires c κs = search needs

@@ -1,4 +1,4 @@
--- `abi::vcpu_call` meets its contract: a walk of its MIR, by hand. The borrow is opened and the record copied out; `step`
+-- `words_entry::vcpu_call` meets its contract: a walk of its MIR, by hand. The borrow is opened and the record copied out; `step`
 -- is called, of which only its contract is known; the later record is stored, and the borrow closed at it.
 -- Every machine value stays `LL.val` of its record: no field is written out, so the walk is the same for any fields.
 use mathlib.Core.Path.{_≡_, refl, ap, sym, subst, _∙_}
@@ -42,26 +42,26 @@ use denote.Triple.Table.{entered, cited}
 use denote.Triple.Walked.{says, Stays, stay-ref, stay-none, walkOf, AllGo, goes-none, goes-ref, Walks, ends-at, walked, walk-meets}
 use denote.Triple.Clauses.{ensured, lasts}
 use denote.Exit.{yes}
-use Rattle.abi.specs.Words.{exportedOf}
-use Rattle.words.specs.declared.Record.{Record}
-use Rattle.call_words.specs.declared.CallWords.{CallWords}
-use Rattle.call_words.specs.declared.After.{After}
-use Rattle.call_words.specs.declared.ReplyWords.{ReplyWords}
-use Rattle.abi.proofs.vcpu_call.Key.{name as #in-place}
-use Rattle.words.proofs.Record as Vc
-use Rattle.words.proofs.Record.Laws as Vc′
-use Rattle.call_words.proofs.CallWords as D
-use Rattle.call_words.proofs.CallWords.Laws as D′
-use Rattle.call_words.proofs.After as O
-use Rattle.call_words.proofs.After.Laws as O′
-use Rattle.call_words.proofs.ReplyWords as R
-use Rattle.call_words.proofs.ReplyWords.Laws as R′
-use Rattle.abi.proofs.step as call
-use Rattle.abi.proofs.step.Symbol as call-def
-use Rattle.abi.proofs.step.Met as call-thm
-use Rattle.abi.proofs.vcpu_call as here
-use Rattle.abi.proofs.vcpu_call.Statement as stated
-use Rattle.abi.proofs.vcpu_call.Code as code
+use Rattle.words_entry.specs.Words.{exportedOf}
+use Rattle.scope.specs.declared.machine.Record.{Record}
+use Rattle.words_call.specs.declared.CallWords.{CallWords}
+use Rattle.words_call.specs.declared.After.{After}
+use Rattle.words_call.specs.declared.ReplyWords.{ReplyWords}
+use Rattle.words_entry.proofs.vcpu_call.Key.{name as #in-place}
+use Rattle.scope.proofs.machine.Record as Vc
+use Rattle.scope.proofs.machine.Record.Laws as Vc′
+use Rattle.words_call.proofs.CallWords as D
+use Rattle.words_call.proofs.CallWords.Laws as D′
+use Rattle.words_call.proofs.After as O
+use Rattle.words_call.proofs.After.Laws as O′
+use Rattle.words_call.proofs.ReplyWords as R
+use Rattle.words_call.proofs.ReplyWords.Laws as R′
+use Rattle.words_entry.proofs.step as call
+use Rattle.words_entry.proofs.step.Symbol as call-def
+use Rattle.words_entry.proofs.step.Met as call-thm
+use Rattle.words_entry.proofs.vcpu_call as here
+use Rattle.words_entry.proofs.vcpu_call.Statement as stated
+use Rattle.words_entry.proofs.vcpu_call.Code as code
 
 abbrev Arg : Type 0
 Arg = RefT Record × (CallWords × Unit {0})
@@ -71,16 +71,16 @@ stayed = (stay-ref (0 ∷ []) tt (plain (λ _. Vc.the-row)), (stay-none (λ _. D
 
 -- the types as the code spells them, and that each is its row's
 abbrev vcpu-ty : Ty
-vcpu-ty = spell code.Mir.table (tyNamed (119 ∷ 111 ∷ 114 ∷ 100 ∷ 115 ∷ 58 ∷ 58 ∷ 82 ∷ 101 ∷ 99 ∷ 111 ∷ 114 ∷ 100 ∷ [], []))
+vcpu-ty = spell code.Mir.table (tyNamed (115 ∷ 99 ∷ 111 ∷ 112 ∷ 101 ∷ 58 ∷ 58 ∷ 109 ∷ 97 ∷ 99 ∷ 104 ∷ 105 ∷ 110 ∷ 101 ∷ 58 ∷ 58 ∷ 82 ∷ 101 ∷ 99 ∷ 111 ∷ 114 ∷ 100 ∷ [], []))
 
 abbrev call-ty : Ty
-call-ty = spell code.Mir.table (tyNamed (99 ∷ 97 ∷ 108 ∷ 108 ∷ 95 ∷ 119 ∷ 111 ∷ 114 ∷ 100 ∷ 115 ∷ 58 ∷ 58 ∷ 67 ∷ 97 ∷ 108 ∷ 108 ∷ 87 ∷ 111 ∷ 114 ∷ 100 ∷ 115 ∷ [], []))
+call-ty = spell code.Mir.table (tyNamed (119 ∷ 111 ∷ 114 ∷ 100 ∷ 115 ∷ 95 ∷ 99 ∷ 97 ∷ 108 ∷ 108 ∷ 58 ∷ 58 ∷ 67 ∷ 97 ∷ 108 ∷ 108 ∷ 87 ∷ 111 ∷ 114 ∷ 100 ∷ 115 ∷ [], []))
 
 abbrev outcome-ty : Ty
-outcome-ty = spell code.Mir.table (tyNamed (99 ∷ 97 ∷ 108 ∷ 108 ∷ 95 ∷ 119 ∷ 111 ∷ 114 ∷ 100 ∷ 115 ∷ 58 ∷ 58 ∷ 65 ∷ 102 ∷ 116 ∷ 101 ∷ 114 ∷ [], []))
+outcome-ty = spell code.Mir.table (tyNamed (119 ∷ 111 ∷ 114 ∷ 100 ∷ 115 ∷ 95 ∷ 99 ∷ 97 ∷ 108 ∷ 108 ∷ 58 ∷ 58 ∷ 65 ∷ 102 ∷ 116 ∷ 101 ∷ 114 ∷ [], []))
 
 abbrev given-ty : Ty
-given-ty = spell code.Mir.table (tyNamed (99 ∷ 97 ∷ 108 ∷ 108 ∷ 95 ∷ 119 ∷ 111 ∷ 114 ∷ 100 ∷ 115 ∷ 58 ∷ 58 ∷ 82 ∷ 101 ∷ 112 ∷ 108 ∷ 121 ∷ 87 ∷ 111 ∷ 114 ∷ 100 ∷ 115 ∷ [], []))
+given-ty = spell code.Mir.table (tyNamed (119 ∷ 111 ∷ 114 ∷ 100 ∷ 115 ∷ 95 ∷ 99 ∷ 97 ∷ 108 ∷ 108 ∷ 58 ∷ 58 ∷ 82 ∷ 101 ∷ 112 ∷ 108 ∷ 121 ∷ 87 ∷ 111 ∷ 114 ∷ 100 ∷ 115 ∷ [], []))
 
 vcpu-spelt : Vc.the-row .mir ≡ vcpu-ty ∷ []
 vcpu-spelt = refl
@@ -98,7 +98,7 @@ given-spelt = refl
 abbrev outcome-tys : Tys
 outcome-tys = tcons vcpu-ty (tcons given-ty tnil)
 
-outcome-struct : outcome-ty ≡ tyStruct (99 ∷ 97 ∷ 108 ∷ 108 ∷ 95 ∷ 119 ∷ 111 ∷ 114 ∷ 100 ∷ 115 ∷ 58 ∷ 58 ∷ 65 ∷ 102 ∷ 116 ∷ 101 ∷ 114 ∷ []) outcome-tys
+outcome-struct : outcome-ty ≡ tyStruct (119 ∷ 111 ∷ 114 ∷ 100 ∷ 115 ∷ 95 ∷ 99 ∷ 97 ∷ 108 ∷ 108 ∷ 58 ∷ 58 ∷ 65 ∷ 102 ∷ 116 ∷ 101 ∷ 114 ∷ []) outcome-tys
 outcome-struct = refl
 
 field-0 : fieldAt zero outcome-tys 0 ≡ some (vcpu-ty, 0)
@@ -241,4 +241,4 @@ vcpu-call-spec 𝓤 H 𝓜 𝓖 𝓡 =
     entered 𝓤 H (tripleOf 𝓤 H (𝓖 .A) here.signature (here.spec 𝓤 H (𝓖 .A) (𝓜 .mem) (𝓡 .run)))
     (tables 𝓤 H 𝓜 𝓡 code.env .C) (tables 𝓤 H 𝓜 𝓡 code.env .Λ) #in-place code.function (code.unfolded 𝓤 H 𝓜 𝓡)
     (meets 𝓤 H (𝓖 .A) (givenOf 𝓤 H 𝓜 𝓖) (𝓜 .mem) (𝓡 .run) (tablesOf 𝓤 H 𝓜 (tables 𝓤 H 𝓜 𝓡 code.env))
-    (cited 𝓤 H (Called 𝓤 H (𝓖 .A) (𝓜 .mem) (𝓡 .run)) 𝓜 𝓡 code.env call-def.name call-def.routine code.calls-abi·step (call-thm.met 𝓤 H 𝓜 𝓖 𝓡)))
+    (cited 𝓤 H (Called 𝓤 H (𝓖 .A) (𝓜 .mem) (𝓡 .run)) 𝓜 𝓡 code.env call-def.name call-def.routine code.calls-words-entry·step (call-thm.met 𝓤 H 𝓜 𝓖 𝓡)))

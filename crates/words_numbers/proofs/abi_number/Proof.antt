@@ -1,8 +1,8 @@
--- `codes::abi_number` meets its contract.
-use Rattle.types.specs.Numbers.{abiNumber}
+-- `words_numbers::abi_number` meets its contract.
+use Rattle.scope.specs.Trap.{abiNumber}
+use Rattle.words_numbers.proofs.abi_number.Statement.{statement}
+use Rattle.words_numbers.proofs.abi_number.Tie as tie
 use borrow.Author.Needs.{needs}
-use Rattle.codes.proofs.abi_number.Statement.{statement}
-use Rattle.codes.proofs.abi_number.Tie as tie
 
 enum-told : tie.Need-enum-told
 enum-told c = search needs

@@ -1,8 +1,8 @@
--- `codes::access_number` meets its contract.
-use Rattle.types.specs.Numbers.{accessNumber}
+-- `words_numbers::access_number` meets its contract.
+use Rattle.scope.specs.Trap.{accessNumber}
+use Rattle.words_numbers.proofs.access_number.Statement.{statement}
+use Rattle.words_numbers.proofs.access_number.Tie as tie
 use borrow.Author.Needs.{needs}
-use Rattle.codes.proofs.access_number.Statement.{statement}
-use Rattle.codes.proofs.access_number.Tie as tie
 
 enum-told : tie.Need-enum-told
 enum-told c = search needs

@@ -1,8 +1,8 @@
--- `numbers::answer_number` meets its contract.
-use Rattle.types.specs.Numbers.{answerNumber}
+-- `words_numbers::answer_number` meets its contract.
+use Rattle.scope.specs.Trap.{answerNumber}
+use Rattle.words_numbers.proofs.answer_number.Statement.{statement}
+use Rattle.words_numbers.proofs.answer_number.Tie as tie
 use borrow.Author.Needs.{needs}
-use Rattle.numbers.proofs.answer_number.Statement.{statement}
-use Rattle.numbers.proofs.answer_number.Tie as tie
 
 enum-told : tie.Need-enum-told
 enum-told c = search needs

@@ -1,8 +1,8 @@
--- `numbers::ask_number` meets its contract.
-use Rattle.types.specs.Numbers.{askNumber}
+-- `words_numbers::ask_number` meets its contract.
+use Rattle.scope.specs.Trap.{askNumber}
+use Rattle.words_numbers.proofs.ask_number.Statement.{statement}
+use Rattle.words_numbers.proofs.ask_number.Tie as tie
 use borrow.Author.Needs.{needs}
-use Rattle.numbers.proofs.ask_number.Statement.{statement}
-use Rattle.numbers.proofs.ask_number.Tie as tie
 
 enum-told : tie.Need-enum-told
 enum-told c = search needs

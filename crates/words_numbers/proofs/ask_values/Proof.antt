@@ -1,8 +1,8 @@
--- `values::ask_values` meets its contract.
-use Rattle.types.specs.Values.{askValues}
+-- `words_numbers::ask_values` meets its contract.
+use Rattle.scope.specs.Trap.{askValues}
+use Rattle.words_numbers.proofs.ask_values.Statement.{statement}
+use Rattle.words_numbers.proofs.ask_values.Tie as tie
 use borrow.Author.Needs.{needs}
-use Rattle.values.proofs.ask_values.Statement.{statement}
-use Rattle.values.proofs.ask_values.Tie as tie
 
 enum-known-a : tie.Need-enum-known-a
 enum-known-a c = search needs

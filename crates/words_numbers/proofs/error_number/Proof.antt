@@ -1,8 +1,8 @@
--- `numbers::error_number` meets its contract.
-use Rattle.types.specs.Numbers.{errorNumber}
+-- `words_numbers::error_number` meets its contract.
+use Rattle.scope.specs.Refusals.{errorNumber}
+use Rattle.words_numbers.proofs.error_number.Statement.{statement}
+use Rattle.words_numbers.proofs.error_number.Tie as tie
 use borrow.Author.Needs.{needs}
-use Rattle.numbers.proofs.error_number.Statement.{statement}
-use Rattle.numbers.proofs.error_number.Tie as tie
 
 enum-told : tie.Need-enum-told
 enum-told c = search needs

@@ -1,8 +1,8 @@
--- `numbers::exit_number` meets its contract.
-use Rattle.types.specs.Numbers.{exitNumber}
+-- `words_numbers::exit_number` meets its contract.
+use Rattle.scope.specs.Trap.{exitNumber}
+use Rattle.words_numbers.proofs.exit_number.Statement.{statement}
+use Rattle.words_numbers.proofs.exit_number.Tie as tie
 use borrow.Author.Needs.{needs}
-use Rattle.numbers.proofs.exit_number.Statement.{statement}
-use Rattle.numbers.proofs.exit_number.Tie as tie
 
 enum-told : tie.Need-enum-told
 enum-told c = search needs

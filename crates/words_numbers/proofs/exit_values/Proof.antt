@@ -1,8 +1,8 @@
--- `values::exit_values` meets its contract.
-use Rattle.types.specs.Values.{exitValues}
+-- `words_numbers::exit_values` meets its contract.
+use Rattle.scope.specs.Trap.{exitValues}
+use Rattle.words_numbers.proofs.exit_values.Statement.{statement}
+use Rattle.words_numbers.proofs.exit_values.Tie as tie
 use borrow.Author.Needs.{needs}
-use Rattle.values.proofs.exit_values.Statement.{statement}
-use Rattle.values.proofs.exit_values.Tie as tie
 
 enum-told : tie.Need-enum-told
 enum-told c = search needs

@@ -1,8 +1,8 @@
--- `codes::fetch_number` meets its contract.
-use Rattle.types.specs.Numbers.{fetchNumber}
+-- `words_numbers::fetch_number` meets its contract.
+use Rattle.scope.specs.Trap.{fetchNumber}
+use Rattle.words_numbers.proofs.fetch_number.Statement.{statement}
+use Rattle.words_numbers.proofs.fetch_number.Tie as tie
 use borrow.Author.Needs.{needs}
-use Rattle.codes.proofs.fetch_number.Statement.{statement}
-use Rattle.codes.proofs.fetch_number.Tie as tie
 
 enum-told : tie.Need-enum-told
 enum-told c = search needs

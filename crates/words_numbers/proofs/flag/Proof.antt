@@ -1,7 +1,7 @@
--- `values::flag` meets its contract.
-use Rattle.types.specs.Numbers.{flagOf}
-use Rattle.values.proofs.flag.Statement.{statement}
-use Rattle.values.proofs.flag.Tie as tie
+-- `words_numbers::flag` meets its contract.
+use Rattle.scope.specs.Trap.{flagOf}
+use Rattle.words_numbers.proofs.flag.Statement.{statement}
+use Rattle.words_numbers.proofs.flag.Tie as tie
 
 returns : tie.Need-returns
 unfolding flagOf

@@ -1,8 +1,8 @@
--- `codes::width_bytes` meets its contract.
-use Rattle.types.specs.Numbers.{widthBytes}
+-- `words_numbers::width_bytes` meets its contract.
+use Rattle.scope.specs.Trap.{widthBytes}
+use Rattle.words_numbers.proofs.width_bytes.Statement.{statement}
+use Rattle.words_numbers.proofs.width_bytes.Tie as tie
 use borrow.Author.Needs.{needs}
-use Rattle.codes.proofs.width_bytes.Statement.{statement}
-use Rattle.codes.proofs.width_bytes.Tie as tie
 
 enum-told : tie.Need-enum-told
 enum-told c = search needs

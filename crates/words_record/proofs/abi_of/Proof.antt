@@ -1,8 +1,8 @@
--- `words::abi_of` meets its contract.
+-- `words_record::abi_of` meets its contract.
 use borrow.Author.Tests.{ne-eqb}
-use Rattle.words.specs.Words.{abiOf}
-use Rattle.words.proofs.abi_of.Statement.{statement}
-use Rattle.words.proofs.abi_of.Tie as tie
+use Rattle.scope.specs.Words.{abiOf}
+use Rattle.words_record.proofs.abi_of.Statement.{statement}
+use Rattle.words_record.proofs.abi_of.Tie as tie
 
 returns : tie.Need-returns
 unfolding abiOf

@@ -1,8 +1,8 @@
--- `words::access_of` meets its contract.
+-- `words_record::access_of` meets its contract.
 use borrow.Author.Tests.{ne-eqb}
-use Rattle.words.specs.Words.{accessOf}
-use Rattle.words.proofs.access_of.Statement.{statement}
-use Rattle.words.proofs.access_of.Tie as tie
+use Rattle.scope.specs.Words.{accessOf}
+use Rattle.words_record.proofs.access_of.Statement.{statement}
+use Rattle.words_record.proofs.access_of.Tie as tie
 
 returns : tie.Need-returns
 unfolding accessOf

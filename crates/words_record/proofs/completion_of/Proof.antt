@@ -1,8 +1,8 @@
--- `words::completion_of` meets its contract.
+-- `words_record::completion_of` meets its contract.
 use borrow.Author.Tests.{ne-eqb}
-use Rattle.words.specs.Words.{completionOf}
-use Rattle.words.proofs.completion_of.Statement.{statement}
-use Rattle.words.proofs.completion_of.Tie as tie
+use Rattle.scope.specs.Words.{completionOf}
+use Rattle.words_record.proofs.completion_of.Statement.{statement}
+use Rattle.words_record.proofs.completion_of.Tie as tie
 
 returns : tie.Need-returns
 unfolding completionOf

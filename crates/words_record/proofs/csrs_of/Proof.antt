@@ -1,9 +1,9 @@
--- `words::csrs_of` meets its contract.
+-- `words_record::csrs_of` meets its contract.
 use mathlib.Core.Path.{refl}
-use Rattle.words.specs.Words.{csrsOf}
+use Rattle.scope.specs.Words.{csrsOf}
+use Rattle.words_record.proofs.csrs_of.Statement.{statement}
+use Rattle.words_record.proofs.csrs_of.Tie as tie
 use borrow.Author.Needs.{needs}
-use Rattle.words.proofs.csrs_of.Statement.{statement}
-use Rattle.words.proofs.csrs_of.Tie as tie
 
 array-read-t8 : tie.Need-array-read-t8
 array-read-t8 c = search needs

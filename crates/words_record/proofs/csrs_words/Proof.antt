@@ -1,8 +1,8 @@
--- `words::csrs_words` meets its contract.
+-- `words_record::csrs_words` meets its contract.
 use mathlib.Core.Path.{refl}
-use Rattle.words.specs.Words.{csrsWords}
-use Rattle.words.proofs.csrs_words.Statement.{statement}
-use Rattle.words.proofs.csrs_words.Tie as tie
+use Rattle.scope.specs.Words.{csrsWords}
+use Rattle.words_record.proofs.csrs_words.Statement.{statement}
+use Rattle.words_record.proofs.csrs_words.Tie as tie
 
 returns : tie.Need-returns
 unfolding csrsWords

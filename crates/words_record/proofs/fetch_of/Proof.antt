@@ -1,9 +1,9 @@
--- `words::fetch_of` meets its contract.
+-- `words_record::fetch_of` meets its contract.
 use borrow.Author.Tests.{ne-eqb}
-use Rattle.words.specs.Words.{fetchOf}
+use Rattle.scope.specs.Words.{fetchOf}
+use Rattle.words_record.proofs.fetch_of.Statement.{statement}
+use Rattle.words_record.proofs.fetch_of.Tie as tie
 use borrow.Author.Needs.{needs}
-use Rattle.words.proofs.fetch_of.Statement.{statement}
-use Rattle.words.proofs.fetch_of.Tie as tie
 
 cast-t5 : tie.Need-cast-t5
 cast-t5 c = search needs

@@ -1,7 +1,7 @@
--- `words::flag` meets its contract.
-use Rattle.types.specs.Numbers.{flagOf}
-use Rattle.words.proofs.flag.Statement.{statement}
-use Rattle.words.proofs.flag.Tie as tie
+-- `words_record::flag` meets its contract.
+use Rattle.scope.specs.Trap.{flagOf}
+use Rattle.words_record.proofs.flag.Statement.{statement}
+use Rattle.words_record.proofs.flag.Tie as tie
 
 returns : tie.Need-returns
 unfolding flagOf

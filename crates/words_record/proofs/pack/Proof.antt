@@ -1,8 +1,8 @@
--- `words::pack` meets its contract.
-use Rattle.words.specs.Words.{packOf}
+-- `words_record::pack` meets its contract.
+use Rattle.scope.specs.Words.{packOf}
+use Rattle.words_record.proofs.pack.Statement.{statement}
+use Rattle.words_record.proofs.pack.Tie as tie
 use borrow.Author.Needs.{needs}
-use Rattle.words.proofs.pack.Statement.{statement}
-use Rattle.words.proofs.pack.Tie as tie
 
 csrs-words-requires : tie.Need-csrs-words-requires
 csrs-words-requires c κs = search needs

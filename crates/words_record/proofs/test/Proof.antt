@@ -1,8 +1,8 @@
--- `words::test` meets its contract.
+-- `words_record::test` meets its contract.
 use borrow.Author.Tests.{eq-eqb, ne-eqb}
-use Rattle.words.specs.Words.{tested}
-use Rattle.words.proofs.test.Statement.{statement}
-use Rattle.words.proofs.test.Tie as tie
+use Rattle.scope.specs.Words.{tested}
+use Rattle.words_record.proofs.test.Statement.{statement}
+use Rattle.words_record.proofs.test.Tie as tie
 
 returns : tie.Need-returns
 unfolding tested

@@ -1,8 +1,8 @@
--- `words::unpack` meets its contract.
-use Rattle.words.specs.Words.{unpackOf}
+-- `words_record::unpack` meets its contract.
+use Rattle.scope.specs.Words.{unpackOf}
+use Rattle.words_record.proofs.unpack.Statement.{statement}
+use Rattle.words_record.proofs.unpack.Tie as tie
 use borrow.Author.Needs.{needs}
-use Rattle.words.proofs.unpack.Statement.{statement}
-use Rattle.words.proofs.unpack.Tie as tie
 
 csrs-of-requires : tie.Need-csrs-of-requires
 csrs-of-requires c κs = search needs

@@ -1,8 +1,8 @@
--- `words::waiting_of` meets its contract.
-use Rattle.words.specs.Words.{waitingOf}
+-- `words_record::waiting_of` meets its contract.
+use Rattle.scope.specs.Words.{waitingOf}
+use Rattle.words_record.proofs.waiting_of.Statement.{statement}
+use Rattle.words_record.proofs.waiting_of.Tie as tie
 use borrow.Author.Needs.{needs}
-use Rattle.words.proofs.waiting_of.Statement.{statement}
-use Rattle.words.proofs.waiting_of.Tie as tie
 
 array-read-waiting-by : tie.Need-array-read-waiting-by
 array-read-waiting-by c = search needs

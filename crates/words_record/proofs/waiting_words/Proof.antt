@@ -1,8 +1,8 @@
--- `words::waiting_words` meets its contract.
-use Rattle.words.specs.Words.{waitingWords}
+-- `words_record::waiting_words` meets its contract.
+use Rattle.scope.specs.Words.{waitingWords}
+use Rattle.words_record.proofs.waiting_words.Statement.{statement}
+use Rattle.words_record.proofs.waiting_words.Tie as tie
 use borrow.Author.Needs.{needs}
-use Rattle.words.proofs.waiting_words.Statement.{statement}
-use Rattle.words.proofs.waiting_words.Tie as tie
 
 enum-told : tie.Need-enum-told
 enum-told c = search needs

@@ -1,8 +1,8 @@
--- `words::width_of` meets its contract.
+-- `words_record::width_of` meets its contract.
 use borrow.Author.Tests.{ne-eqb}
-use Rattle.words.specs.Words.{widthOf}
-use Rattle.words.proofs.width_of.Statement.{statement}
-use Rattle.words.proofs.width_of.Tie as tie
+use Rattle.scope.specs.Words.{widthOf}
+use Rattle.words_record.proofs.width_of.Statement.{statement}
+use Rattle.words_record.proofs.width_of.Tie as tie
 
 returns : tie.Need-returns
 unfolding widthOf

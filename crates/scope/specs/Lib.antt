@@ -1,0 +1,14 @@
+pub mod Record
+pub mod Refusals
+pub mod Trap
+pub mod Ecalls
+pub mod FetchFaults
+pub mod VirtualInstruction
+pub mod GuestPageFault
+pub mod Classes
+pub mod Resume
+pub mod Host
+pub mod Calls
+pub mod Words
+pub mod WordsLaws
+pub mod Decided

@@ -1,0 +1,36 @@
+// The definitions that every promise cites, by the chapters of document 01, and the types that they speak of. No code.
+pub mod decided;
+pub mod hosts;
+pub mod machine;
+pub mod traps;
+
+pub use decided::Answered;
+pub use decided::Call;
+pub use decided::Csr;
+pub use decided::Fault;
+pub use decided::IpiCompletion;
+pub use decided::LegacyRequest;
+pub use decided::Missed;
+pub use hosts::HostCall;
+pub use machine::Csrs;
+pub use machine::Effect;
+pub use machine::Event;
+pub use machine::GuestCsrs;
+pub use machine::HsCsrs;
+pub use machine::Outcome;
+pub use machine::Record;
+pub use machine::Vcpu;
+pub use machine::VsCsrs;
+pub use machine::Waiting;
+pub use machine::Writes;
+pub use traps::Access;
+pub use traps::Answer;
+pub use traps::Args;
+pub use traps::Ask;
+pub use traps::Error;
+pub use traps::Exit;
+pub use traps::Fetch;
+pub use traps::IpiAbi;
+pub use traps::IpiRequest;
+pub use traps::Reply;
+pub use traps::Trap;
