@@ -64,15 +64,19 @@ def definitions(crate):
 
 
 def promised(crate):
-    """The definition that each function's promise names."""
+    """The definitions that each function's promise names, and how many values it speaks of for all."""
     root = next(f for f in ("lib.rt", "main.rt") if os.path.exists(f"crates/{crate}/src/{f}"))
     source = open(f"crates/{crate}/src/{root}").read()
     found = {}
     for m in re.finditer(r"\bfn (\w+)(?:<[^>]*>)?\(", source):
         head = source[m.end(): source.find("\n{", m.end())]
+        every = re.search(r"⌜ \(((?:\([^():]+ : [^()]+\) )+)→ (\S+) .*?≡\s*\(?([^\s()]+)", head)
         e = re.search(r"≡\s*\(?([^\s()]+)", head)
-        if e:
-            found[m.group(1)] = e.group(1)
+        if every:
+            values = sum(len(b.split(" : ")[0].split()) for b in re.findall(r"\(([^()]*)\)", every.group(1)))
+            found[m.group(1)] = [every.group(3), every.group(2)], values
+        elif e and e.group(1) != "pick":
+            found[m.group(1)] = [e.group(1)], 0
     return found
 
 
@@ -132,16 +136,18 @@ def imports(names, where):
     return [f"use {m}.{{{', '.join(ns)}}}" for m, ns in by_module.items()]
 
 
-def proof(frame, path_facts, hint, definition, where):
+def proof(frame, path_facts, hint, promise, where):
+    definitions, values = promise
     opened = hint.get("unfolding", "").split()
-    if definition and definition not in opened and not hint.get("shut"):
-        opened.insert(0, definition)
+    if not hint.get("shut"):
+        opened = [d for d in definitions if d not in opened] + opened
+    bound = "λ " + " ".join(f"q{i}" for i in range(values)) + ". " if values else ""
     opened = [n for n in opened if n in where]
 
     def fill(m):
         need, arguments = m.groups()
         known = path_facts.get(need, []) + hint.get("more", [])
-        given = hint.get(need) or hint.get("all") or (f"simp ({', '.join(known)})" if known else "refl")
+        given = hint.get(need) or hint.get("all") or bound + (f"simp ({', '.join(known)})" if known else "refl")
         given = given.replace("FACTS", ", ".join(known))
         opening = f"unfolding {' '.join(opened)}\n" if opened else ""
         return f"{opening}{need}{arguments} = {given}"
@@ -185,7 +191,7 @@ def main():
             continue
         frame = "\n".join(line[4:] for line in block.split("\n")[1:] if line.startswith("    "))
         lts = f"{generated}/Rattle.{crate}.proofs/proofs/{function}/Lts.antt"
-        text = proof(frame, facts(lts), hints.get(function, {}), definition.get(function), where)
+        text = proof(frame, facts(lts), hints.get(function, {}), definition.get(function, ([], 0)), where)
         os.makedirs(os.path.dirname(path), exist_ok=True)
         open(path, "w").write(f"-- `{crate}::{function}` meets its contract.\n" + text.rstrip("\n") + "\n")
         print("wrote", os.path.relpath(path))

@@ -9,13 +9,13 @@ use Rattle.scope.specs.declared.traps.Fetch.the-variants as fetch
 use Rattle.scope.proofs.traps.Fetch as declared
 use Rattle.scope.specs.declared.machine.Csrs.{Csrs}
 use Rattle.scope.specs.declared.machine.Waiting.{Waiting}
-use Rattle.scope.specs.FetchFaults.{missedOf, missedEffect}
-use Rattle.scope.specs.Resume.{fetchedOf}
+use Rattle.scope.specs.VirtualInstruction.{missedOf, missedEffect}
+use Rattle.scope.specs.Answers.{fetchEffect}
 
 pub no-word : (x : List ℕ) (c : Csrs) (n : Waiting) (f : Fetch)
     → OneOf (1 ∷ 2 ∷ 3 ∷ 4 ∷ 5 ∷ []) (tagOf declared.the-type f)
-    → missedEffect c (missedOf f) ≡ fetchedOf x c n f
-unfolding fetchedOf
+    → missedEffect c (missedOf f) ≡ fetchEffect x c n f
+unfolding fetchEffect
 no-word x c n (fetch.Word w) h = absurd (miss (1 ∷ 2 ∷ 3 ∷ 4 ∷ 5 ∷ []) 0 tt h)
 no-word x c n (fetch.Page a) h = refl
 no-word x c n (fetch.Access a) h = refl

@@ -1,10 +1,10 @@
-// How an answer carries a trap on. calls/specs/Resume.antt defines it.
+// How an answer carries a trap on. scope/specs/Answers.antt defines it.
 ghost use mathlib.Core.Path.{_≡_};
 ghost use Rattle.scope.specs.Refusals.{refusedOf};
 ghost use Rattle.scope.specs.declared.traps.Error.the-variants as error;
 ghost use Rattle.isa_types.specs.Pick.{pick};
 ghost use lib.Dec.{eqb};
-ghost use Rattle.scope.specs.Resume.{answerEffect, continuedOf, fetchedOf, plainOf, resumedOf};
+ghost use Rattle.scope.specs.Answers.{answerEffect, fittingEffect, fetchEffect, numbersEffect, wordEffect};
 use scope::Answer;
 use scope::Csrs;
 use scope::Effect;
@@ -28,7 +28,7 @@ pub fn answer(x: [u64; 32], c: Csrs, w: Waiting, a: Answer) -> Effect
 
 // An answer of another ask's kind, or to no ask, is refused.
 fn matched(ask: u64, number: u64, x: [u64; 32], c: Csrs, w: Waiting, a: Answer) -> Effect
-    ensures { λ r. ⌜ r ≡ pick (eqb ask number) (continuedOf x c w a) (refusedOf c w error.WrongAnswer) ⌝ }
+    ensures { λ r. ⌜ r ≡ pick (eqb ask number) (fittingEffect x c w a) (refusedOf c w error.WrongAnswer) ⌝ }
 {
     if ask == number {
         return continued(x, c, w, a);
@@ -37,30 +37,45 @@ fn matched(ask: u64, number: u64, x: [u64; 32], c: Csrs, w: Waiting, a: Answer) 
 }
 
 fn continued(x: [u64; 32], c: Csrs, w: Waiting, a: Answer) -> Effect
-    ensures { λ r. ⌜ r ≡ continuedOf x c w a ⌝ }
+    ensures { λ r. ⌜ r ≡ fittingEffect x c w a ⌝ }
 {
     match a {
         Answer::Fetched(f) => fetched(x, c, w, f),
-        Answer::MaskCopied { count, bytes } => plain(c, w, count, bytes),
-        Answer::CopiedIn { count } => plain(c, w, count, 0),
-        Answer::Printed { error, value } => plain(c, w, error, value),
-        Answer::ConsoleRead { error, value } => plain(c, w, error, value),
-        Answer::CopiedOut { count } => plain(c, w, count, 0),
-        Answer::Emitted => plain(c, w, 0, 0),
-        Answer::Char { number } => plain(c, w, number, 0),
-        Answer::Forwarded { error, value } => plain(c, w, error, value),
+        Answer::MaskCopied { count, bytes } => numbers(c, w, count, bytes),
+        Answer::CopiedIn { count } => numbers(c, w, count, 0),
+        Answer::Printed { error, value } => numbers(c, w, error, value),
+        Answer::ConsoleRead { error, value } => numbers(c, w, error, value),
+        Answer::CopiedOut { count } => numbers(c, w, count, 0),
+        Answer::Emitted => numbers(c, w, 0, 0),
+        Answer::Char { number } => numbers(c, w, number, 0),
+        Answer::Forwarded { error, value } => numbers(c, w, error, value),
     }
 }
 
-fn plain(c: Csrs, w: Waiting, word: u64, more: u64) -> Effect
-    ensures { λ r. ⌜ r ≡ plainOf c w word more ⌝ }
+// The numbers of an answer go to the ecall that waits.
+fn numbers(c: Csrs, w: Waiting, word: u64, more: u64) -> Effect
+    ensures { λ r. ⌜ r ≡ numbersEffect c w word more ⌝ }
 {
-    by_value_classes::answered(c, w, decide_answers::decide(w, word, more))
+    match w {
+        Waiting::Idle => decide_effects::refused(c, w, Error::WrongAnswer),
+        Waiting::Load {
+            rd: _,
+            width: _,
+            signed: _,
+        } => decide_effects::refused(c, w, Error::WrongAnswer),
+        Waiting::FetchCsr => decide_effects::refused(c, w, Error::WrongAnswer),
+        Waiting::FetchFault { at: _, access: _ } => decide_effects::refused(
+            c,
+            w,
+            Error::WrongAnswer,
+        ),
+        Waiting::Ecall(a) => { by_value_ecall::answered(c, decide_answers::decide(a, word, more)) }
+    }
 }
 
 // A fetch gave a word, or its fault is handled.
 fn fetched(x: [u64; 32], c: Csrs, w: Waiting, f: Fetch) -> Effect
-    ensures { λ r. ⌜ r ≡ fetchedOf x c w f ⌝ }
+    ensures { λ r. ⌜ r ≡ fetchEffect x c w f ⌝ }
 {
     let Fetch::Word(word) = f else {
         return by_value_classes::missed(c, decide_fetch::decide(f));
@@ -70,7 +85,7 @@ fn fetched(x: [u64; 32], c: Csrs, w: Waiting, f: Fetch) -> Effect
 
 // The trap goes on with the word that was fetched.
 fn resumed(x: [u64; 32], c: Csrs, w: Waiting, word: u32) -> Effect
-    ensures { λ r. ⌜ r ≡ resumedOf x c w word ⌝ }
+    ensures { λ r. ⌜ r ≡ wordEffect x c w word ⌝ }
 {
     match w {
         Waiting::Idle => decide_effects::refused(c, w, Error::WrongAnswer),
@@ -87,18 +102,6 @@ fn resumed(x: [u64; 32], c: Csrs, w: Waiting, word: u32) -> Effect
         Waiting::FetchFault { at, access } => {
             by_value_start::mmio(x, c, at, access, isa_decoder::from_fetched(word))
         }
-        Waiting::CopyMask => decide_effects::refused(c, w, Error::WrongAnswer),
-        Waiting::CopyIn { count: _ } => decide_effects::refused(c, w, Error::WrongAnswer),
-        Waiting::Print { count: _ } => decide_effects::refused(c, w, Error::WrongAnswer),
-        Waiting::ReadConsole { count: _, at: _ } => decide_effects::refused(
-            c,
-            w,
-            Error::WrongAnswer,
-        ),
-        Waiting::CopyOut { count: _ } => decide_effects::refused(c, w, Error::WrongAnswer),
-        Waiting::PutChar => decide_effects::refused(c, w, Error::WrongAnswer),
-        Waiting::PutByte => decide_effects::refused(c, w, Error::WrongAnswer),
-        Waiting::GetChar => decide_effects::refused(c, w, Error::WrongAnswer),
-        Waiting::Forward => decide_effects::refused(c, w, Error::WrongAnswer),
+        Waiting::Ecall(_) => decide_effects::refused(c, w, Error::WrongAnswer),
     }
 }

@@ -1,4 +1,4 @@
-// An effect applied to a record: the one place where a record changes. regs/specs/Effects.antt defines it.
+// An effect applied to a record: the one place where a record changes. scope/specs/Record.antt defines it.
 ghost use mathlib.Core.Path.{_≡_};
 ghost use Rattle.scope.specs.Record.{bumped, counted, eventNumber, stored, applied};
 ghost use Rattle.scope.specs.Refusals.{unlessAsking};
@@ -43,7 +43,7 @@ pub fn apply(v: Vcpu, e: Effect) -> Outcome
 
 // The outcome of an effect, unless an ask waits: then refusal 2.
 pub fn unless_asking(v: Vcpu, e: Effect) -> Outcome
-    ensures { λ r. ⌜ r ≡ unlessAsking v e ⌝ }
+    ensures { λ r. ⌜ r ≡ applied v (unlessAsking v e) ⌝ }
 {
     let c = v.csrs;
     let w = v.waiting;

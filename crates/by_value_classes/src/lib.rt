@@ -1,16 +1,11 @@
-// The effects of a virtual instruction, a guest page fault, a failed fetch and an answer, and of a load's completion, each once it is
-// decided.
+// The effects of a virtual instruction, a guest page fault and a failed fetch, each once it is decided, and of a load's completion.
 ghost use mathlib.Core.Path.{_≡_};
-ghost use Rattle.scope.specs.Ecalls.{answeredEffect};
 ghost use Rattle.scope.specs.GuestPageFault.{completedOf, faultEffect};
-ghost use Rattle.scope.specs.FetchFaults.{askFetchOf, missedEffect};
-ghost use Rattle.scope.specs.VirtualInstruction.{csrEffect};
+ghost use Rattle.scope.specs.VirtualInstruction.{askFetchOf, missedEffect, stimecmpEffect};
 use isa_types::GuestPhysAddr;
 use isa_types::GuestVirtAddr;
 use scope::Access;
-use scope::Answered;
 use scope::Ask;
-use scope::Csr;
 use scope::Csrs;
 use scope::Effect;
 use scope::Error;
@@ -20,55 +15,9 @@ use scope::Fault;
 use scope::Fetch;
 use scope::Missed;
 use scope::Reply;
+use scope::Stimecmp;
 use scope::Waiting;
 use scope::Writes;
-
-// The effect of an answer.
-pub fn answered(c: Csrs, w: Waiting, d: Answered) -> Effect
-    ensures { λ r. ⌜ r ≡ answeredEffect c w d ⌝ }
-{
-    match d {
-        Answered::Wrong => decide_effects::refused(c, w, Error::WrongAnswer),
-        Answered::Moves => decide_effects::finished(
-            decide_record::advance(c, 4),
-            Event::Quiet,
-            Writes::Keep,
-            Exit::Nothing,
-        ),
-        Answered::Gives(n) => decide_effects::finished(
-            decide_record::advance(c, 4),
-            Event::Quiet,
-            Writes::One(10, n),
-            Exit::Nothing,
-        ),
-        Answered::Returns(e, v) => decide_effects::finished(
-            decide_record::advance(c, 4),
-            Event::Quiet,
-            Writes::Pair(e, v),
-            Exit::Nothing,
-        ),
-        Answered::SendIpi(request) => decide_effects::finished(
-            decide_record::advance(c, 4),
-            Event::Quiet,
-            Writes::Keep,
-            Exit::SendIpi(request),
-        ),
-        Answered::Print(count) => {
-            decide_effects::asking(
-                c,
-                Event::Quiet,
-                Waiting::Print { count },
-                Ask::Print { count },
-            )
-        }
-        Answered::CopyOut(at, count) => decide_effects::asking(
-            c,
-            Event::Quiet,
-            Waiting::CopyOut { count },
-            Ask::CopyOut { at, count },
-        ),
-    }
-}
 
 // A load's number arrives: cut, extended, written.
 pub fn complete(c: Csrs, w: Waiting, n: u64) -> Effect
@@ -83,15 +32,7 @@ pub fn complete(c: Csrs, w: Waiting, n: u64) -> Effect
         ),
         Waiting::FetchCsr => decide_effects::refused(c, w, Error::BadState),
         Waiting::FetchFault { at: _, access: _ } => decide_effects::refused(c, w, Error::BadState),
-        Waiting::CopyMask => decide_effects::refused(c, w, Error::BadState),
-        Waiting::CopyIn { count: _ } => decide_effects::refused(c, w, Error::BadState),
-        Waiting::Print { count: _ } => decide_effects::refused(c, w, Error::BadState),
-        Waiting::ReadConsole { count: _, at: _ } => decide_effects::refused(c, w, Error::BadState),
-        Waiting::CopyOut { count: _ } => decide_effects::refused(c, w, Error::BadState),
-        Waiting::PutChar => decide_effects::refused(c, w, Error::BadState),
-        Waiting::PutByte => decide_effects::refused(c, w, Error::BadState),
-        Waiting::GetChar => decide_effects::refused(c, w, Error::BadState),
-        Waiting::Forward => decide_effects::refused(c, w, Error::BadState),
+        Waiting::Ecall(_) => decide_effects::refused(c, w, Error::BadState),
     }
 }
 
@@ -125,13 +66,13 @@ pub fn missed(c: Csrs, m: Missed) -> Effect
 }
 
 // The effect of a virtual instruction.
-pub fn csr(c: Csrs, d: Csr) -> Effect
-    ensures { λ r. ⌜ r ≡ csrEffect c d ⌝ }
+pub fn csr(c: Csrs, d: Stimecmp) -> Effect
+    ensures { λ r. ⌜ r ≡ stimecmpEffect c d ⌝ }
 {
     match d {
-        Csr::Illegal => decide_effects::failed(c, Event::IllegalInsn, Error::Unsupported),
-        Csr::Fetch => ask_fetch(c, Waiting::FetchCsr),
-        Csr::Write { rd, timer } => {
+        Stimecmp::Illegal => decide_effects::failed(c, Event::IllegalInsn, Error::Unsupported),
+        Stimecmp::Fetch => ask_fetch(c, Waiting::FetchCsr),
+        Stimecmp::Write { rd, timer } => {
             let armed = decide_record::with_timer(c, timer);
             decide_effects::finished(
                 decide_record::advance(armed, 4),

@@ -1,20 +1,80 @@
-// SBI calls by value: the effect of each, and the parts that effects are made of.
+// SBI calls by value: the effect of each, and of the answer to its ask.
 ghost use mathlib.Core.Path.{_≡_};
-ghost use Rattle.scope.specs.Ecalls.{asksOf, clearIpiOf, hypercallOf, movesOf, returnsOf, setTimerOf, staysOf};
-ghost use Rattle.scope.specs.Decided.{callEffect};
+ghost use Rattle.scope.specs.Ecalls.{asksOf, clearIpiOf, hypercallOf, movesOf, returnsOf, setTimerOf, staysOf, givesOf};
+ghost use Rattle.scope.specs.Decided.{callEffect, answeredEffect};
+use scope::Answered;
 use scope::Args;
 use scope::Ask;
-use scope::Call;
 use scope::Csrs;
+use scope::EcallAsk;
 use scope::Effect;
 use scope::Event;
 use scope::Exit;
 use scope::Reply;
+use scope::SbiCall;
 use scope::Waiting;
 use scope::Writes;
 
+// The effect of a call on the record.
+pub fn effect(c: Csrs, eid: u64, fid: u64, a: Args, call: SbiCall) -> Effect
+    ensures { λ r. ⌜ r ≡ callEffect c eid fid a call ⌝ }
+{
+    match call {
+        SbiCall::Returns(e, v) => returns(c, e, v),
+        SbiCall::Moves => moves(c, Exit::Nothing),
+        SbiCall::LegacyTimer(d) => set_timer(c, d, Writes::One(10, 0)),
+        SbiCall::SetTimer(d) => set_timer(c, d, Writes::Pair(0, 0)),
+        SbiCall::ClearIpi => clear_ipi(c),
+        SbiCall::PutChar(n) => asks(c, EcallAsk::PutChar, Ask::Emit { number: n }),
+        SbiCall::GetChar => asks(c, EcallAsk::GetChar, Ask::GetChar),
+        SbiCall::CopyMask(at) => asks(c, EcallAsk::CopyMask, Ask::CopyMask { at }),
+        SbiCall::SendIpi(request) => moves(c, Exit::SendIpi(request)),
+        SbiCall::CpuUp(target_cpu, entry_point, arg) => moves(
+            c,
+            Exit::CpuUp {
+                target_cpu,
+                entry_point,
+                arg,
+            },
+        ),
+        SbiCall::CpuDown => stays(c, Exit::CpuDown { state: 0 }),
+        SbiCall::Halt => stays(c, Exit::Halt),
+        SbiCall::SystemDown => stays(c, Exit::SystemDown),
+        SbiCall::Hypercall => hypercall(c, fid, a),
+        SbiCall::CopyIn(at, count) => {
+            asks(c, EcallAsk::CopyIn { count }, Ask::CopyIn { at, count })
+        }
+        SbiCall::ReadConsole(at, count) => asks(
+            c,
+            EcallAsk::ReadConsole { count, at },
+            Ask::ReadConsole { count },
+        ),
+        SbiCall::PutByte(n) => asks(c, EcallAsk::PutByte, Ask::Emit { number: n }),
+        SbiCall::Forward(event) => {
+            let ask = Ask::Forward { eid, fid, args: a };
+            decide_effects::asking(c, event, Waiting::Ecall(EcallAsk::Forward), ask)
+        }
+    }
+}
+
+// The effect of the answer to an ecall's ask.
+pub fn answered(c: Csrs, d: Answered) -> Effect
+    ensures { λ r. ⌜ r ≡ answeredEffect c d ⌝ }
+{
+    match d {
+        Answered::Moves => moves(c, Exit::Nothing),
+        Answered::Gives(n) => gives(c, n),
+        Answered::Returns(e, v) => returns(c, e, v),
+        Answered::SendIpi(request) => moves(c, Exit::SendIpi(request)),
+        Answered::Print(count) => asks(c, EcallAsk::Print { count }, Ask::Print { count }),
+        Answered::CopyOut(at, count) => {
+            asks(c, EcallAsk::CopyOut { count }, Ask::CopyOut { at, count })
+        }
+    }
+}
+
 // "Return e, v" of document 01.
-pub fn returns(c: Csrs, error: u64, value: u64) -> Effect
+fn returns(c: Csrs, error: u64, value: u64) -> Effect
     ensures { λ r. ⌜ r ≡ returnsOf c error value ⌝ }
 {
     decide_effects::finished(
@@ -25,7 +85,8 @@ pub fn returns(c: Csrs, error: u64, value: u64) -> Effect
     )
 }
 
-pub fn moves(c: Csrs, exit: Exit) -> Effect
+// sepc moves on, no register is written.
+fn moves(c: Csrs, exit: Exit) -> Effect
     ensures { λ r. ⌜ r ≡ movesOf c exit ⌝ }
 {
     decide_effects::finished(
@@ -36,20 +97,34 @@ pub fn moves(c: Csrs, exit: Exit) -> Effect
     )
 }
 
-pub fn stays(c: Csrs, exit: Exit) -> Effect
+// a0 is the number.
+fn gives(c: Csrs, n: u64) -> Effect
+    ensures { λ r. ⌜ r ≡ givesOf c n ⌝ }
+{
+    decide_effects::finished(
+        decide_record::advance(c, 4),
+        Event::Quiet,
+        Writes::One(10, n),
+        Exit::Nothing,
+    )
+}
+
+// sepc stays.
+fn stays(c: Csrs, exit: Exit) -> Effect
     ensures { λ r. ⌜ r ≡ staysOf c exit ⌝ }
 {
     decide_effects::finished(c, Event::Quiet, Writes::Keep, exit)
 }
 
-pub fn asks(c: Csrs, waiting: Waiting, ask: Ask) -> Effect
+// An ask, with what its answer needs.
+fn asks(c: Csrs, waiting: EcallAsk, ask: Ask) -> Effect
     ensures { λ r. ⌜ r ≡ asksOf c waiting ask ⌝ }
 {
-    decide_effects::asking(c, Event::Quiet, waiting, ask)
+    decide_effects::asking(c, Event::Quiet, Waiting::Ecall(waiting), ask)
 }
 
 // Both set-timer calls, which differ in the registers that they write.
-pub fn set_timer(c: Csrs, deadline: u64, writes: Writes) -> Effect
+fn set_timer(c: Csrs, deadline: u64, writes: Writes) -> Effect
     ensures { λ r. ⌜ r ≡ setTimerOf c deadline writes ⌝ }
 {
     let armed = decide_record::with_timer(c, deadline);
@@ -61,7 +136,8 @@ pub fn set_timer(c: Csrs, deadline: u64, writes: Writes) -> Effect
     )
 }
 
-pub fn clear_ipi(c: Csrs) -> Effect
+// Legacy 3.
+fn clear_ipi(c: Csrs) -> Effect
     ensures { λ r. ⌜ r ≡ clearIpiOf c ⌝ }
 {
     let hvip = isa_registers::with_bits(c.hs.hvip, isa_consts::VSSIP, false);
@@ -74,7 +150,8 @@ pub fn clear_ipi(c: Csrs) -> Effect
     )
 }
 
-pub fn hypercall(c: Csrs, fid: u64, a: Args) -> Effect
+// EID_HVC: the arguments stand beside the exit.
+fn hypercall(c: Csrs, fid: u64, a: Args) -> Effect
     ensures { λ r. ⌜ r ≡ hypercallOf c fid a ⌝ }
 {
     Effect {
@@ -84,45 +161,5 @@ pub fn hypercall(c: Csrs, fid: u64, a: Args) -> Effect
         waiting: Waiting::Idle,
         reply: Reply::Exit(Exit::Hypercall { nr: fid }),
         args: a,
-    }
-}
-
-// The effect of a call on the record.
-pub fn effect(c: Csrs, eid: u64, fid: u64, a: Args, call: Call) -> Effect
-    ensures { λ r. ⌜ r ≡ callEffect c eid fid a call ⌝ }
-{
-    match call {
-        Call::Returns(e, v) => returns(c, e, v),
-        Call::Moves => moves(c, Exit::Nothing),
-        Call::LegacyTimer(d) => set_timer(c, d, Writes::One(10, 0)),
-        Call::SetTimer(d) => set_timer(c, d, Writes::Pair(0, 0)),
-        Call::ClearIpi => clear_ipi(c),
-        Call::PutChar(n) => asks(c, Waiting::PutChar, Ask::Emit { number: n }),
-        Call::GetChar => asks(c, Waiting::GetChar, Ask::GetChar),
-        Call::CopyMask(at) => asks(c, Waiting::CopyMask, Ask::CopyMask { at }),
-        Call::SendIpi(request) => moves(c, Exit::SendIpi(request)),
-        Call::CpuUp(target_cpu, entry_point, arg) => moves(
-            c,
-            Exit::CpuUp {
-                target_cpu,
-                entry_point,
-                arg,
-            },
-        ),
-        Call::CpuDown => stays(c, Exit::CpuDown { state: 0 }),
-        Call::Halt => stays(c, Exit::Halt),
-        Call::SystemDown => stays(c, Exit::SystemDown),
-        Call::Hypercall => hypercall(c, fid, a),
-        Call::CopyIn(at, count) => { asks(c, Waiting::CopyIn { count }, Ask::CopyIn { at, count }) }
-        Call::ReadConsole(at, count) => asks(
-            c,
-            Waiting::ReadConsole { count, at },
-            Ask::ReadConsole { count },
-        ),
-        Call::PutByte(n) => asks(c, Waiting::PutByte, Ask::Emit { number: n }),
-        Call::Forward(event) => {
-            let ask = Ask::Forward { eid, fid, args: a };
-            decide_effects::asking(c, event, Waiting::Forward, ask)
-        }
     }
 }

@@ -1,6 +1,7 @@
 // Every call on a vCPU record behind one function, by value.
 ghost use mathlib.Core.Path.{_≡_};
-ghost use Rattle.scope.specs.Calls.{calledOf, readOf};
+ghost use Rattle.scope.specs.declared.hosts.HostCall.the-variants as hostCall;
+ghost use Rattle.scope.specs.Calls.{calledOf};
 use scope::Answer;
 use scope::HostCall;
 use scope::Outcome;
@@ -34,7 +35,7 @@ pub fn call(v: Vcpu, c: HostCall) -> Outcome
 
 // A register read as an outcome: the record stays.
 fn read(v: Vcpu, index: usize) -> Outcome
-    ensures { λ r. ⌜ r ≡ readOf v index ⌝ }
+    ensures { λ r. ⌜ r ≡ calledOf v (hostCall.GetGpr index) ⌝ }
 {
     let reply = by_value_gprs::get_gpr(v, index);
     Outcome {

@@ -1,6 +1,7 @@
 // The part of the lent buffer that ask 4 prints.
 ghost use mathlib.Core.Path.{_≡_};
-ghost use Rattle.scope.specs.Calls.{firstOf, printCount, printedOf};
+ghost use Rattle.scope.specs.Calls.{firstOf, printCount, printedOf, askedCount};
+use scope::EcallAsk;
 use scope::Vcpu;
 use scope::Waiting;
 
@@ -12,6 +13,7 @@ pub fn to_print<'a>(v: Vcpu, buffer: &'a [u8]) -> &'a [u8]
     first(buffer, print_count(w))
 }
 
+// The n of ask 4, where it waits.
 fn print_count(w: Waiting) -> u64
     ensures { λ r. ⌜ r ≡ printCount w ⌝ }
 {
@@ -24,15 +26,23 @@ fn print_count(w: Waiting) -> u64
         } => 0,
         Waiting::FetchCsr => 0,
         Waiting::FetchFault { at: _, access: _ } => 0,
-        Waiting::CopyMask => 0,
-        Waiting::CopyIn { count: _ } => 0,
-        Waiting::Print { count } => count,
-        Waiting::ReadConsole { count: _, at: _ } => 0,
-        Waiting::CopyOut { count: _ } => 0,
-        Waiting::PutChar => 0,
-        Waiting::PutByte => 0,
-        Waiting::GetChar => 0,
-        Waiting::Forward => 0,
+        Waiting::Ecall(a) => asked_count(a),
+    }
+}
+
+fn asked_count(a: EcallAsk) -> u64
+    ensures { λ r. ⌜ r ≡ askedCount a ⌝ }
+{
+    match a {
+        EcallAsk::CopyMask => 0,
+        EcallAsk::CopyIn { count: _ } => 0,
+        EcallAsk::Print { count } => count,
+        EcallAsk::ReadConsole { count: _, at: _ } => 0,
+        EcallAsk::CopyOut { count: _ } => 0,
+        EcallAsk::PutChar => 0,
+        EcallAsk::PutByte => 0,
+        EcallAsk::GetChar => 0,
+        EcallAsk::Forward => 0,
     }
 }
 

@@ -1,6 +1,7 @@
 // What the host sets up before a guest runs: the record, its CSRs, where it starts, its page table.
 ghost use mathlib.Core.Path.{_≡_};
-ghost use Rattle.scope.specs.Calls.{newOf, pagingOf, setEntryOf, setupOf};
+ghost use Rattle.scope.specs.declared.hosts.HostCall.the-variants as hostCall;
+ghost use Rattle.scope.specs.Calls.{newOf, calledOf};
 use isa_types::GuestPhysAddr;
 use scope::Csrs;
 use scope::GuestCsrs;
@@ -49,7 +50,7 @@ pub fn new(hart_id: u64, dtb_addr: u64) -> Vcpu
 
 // The state that a guest starts with.
 pub fn setup(v: Vcpu) -> Outcome
-    ensures { λ r. ⌜ r ≡ setupOf v ⌝ }
+    ensures { λ r. ⌜ r ≡ calledOf v hostCall.Setup ⌝ }
 {
     let c = v.csrs;
     let w = v.waiting;
@@ -59,7 +60,7 @@ pub fn setup(v: Vcpu) -> Outcome
 
 // Where the guest starts.
 pub fn set_entry(v: Vcpu, entry: GuestPhysAddr) -> Outcome
-    ensures { λ r. ⌜ r ≡ setEntryOf v entry ⌝ }
+    ensures { λ r. ⌜ r ≡ calledOf v (hostCall.SetEntry entry) ⌝ }
 {
     let c = v.csrs;
     let w = v.waiting;
@@ -69,7 +70,7 @@ pub fn set_entry(v: Vcpu, entry: GuestPhysAddr) -> Outcome
 
 // Sets the guest-stage page table: 3 levels with mode 8, or 4 with mode 9, and a root at a multiple of 16 KiB.
 pub fn set_nested_page_table(v: Vcpu, levels: u64, mode: u64, root: u64) -> Outcome
-    ensures { λ r. ⌜ r ≡ pagingOf v levels mode root ⌝ }
+    ensures { λ r. ⌜ r ≡ calledOf v (hostCall.SetNestedPageTable levels mode root) ⌝ }
 {
     let c = v.csrs;
     let w = v.waiting;

@@ -1,13 +1,17 @@
-// One trap: its class by scause. The work of each class is in its own crate, and calls/specs/Traps.antt defines the whole.
+// A trap's start: what each class does. The work of each class is in its own crate, and scope/specs/Classes.antt defines the whole.
 ghost use mathlib.Core.Path.{_≡_};
 ghost use Rattle.scope.specs.Refusals.{refusedOf};
 ghost use Rattle.scope.specs.declared.traps.Error.the-variants as error;
 ghost use Rattle.isa_types.specs.Pick.{pick};
-ghost use Rattle.scope.specs.Classes.{argumentsOf, externalOf, otherOf, pageFaultOf, sbiOf, startEffect, stimecmpOf, mmioOf, trapOf};
+ghost use Rattle.scope.specs.Classes.{argumentsOf, startEffect, classOf, classEffect};
+ghost use Rattle.scope.specs.GuestPageFault.{pageFaultOf, mmioOf};
+ghost use Rattle.scope.specs.Ecalls.{ecallEffect};
+ghost use Rattle.scope.specs.VirtualInstruction.{virtualEffect};
 use isa_decoder::Trapped;
 use isa_types::GuestPhysAddr;
 use scope::Access;
 use scope::Args;
+use scope::Class;
 use scope::Csrs;
 use scope::Effect;
 use scope::Error;
@@ -25,32 +29,51 @@ pub fn start(x: [u64; 32], c: Csrs, w: Waiting, t: Trap) -> Effect
 }
 
 fn started(idle: bool, x: [u64; 32], c: Csrs, w: Waiting, t: Trap) -> Effect
-    ensures { λ r. ⌜ r ≡ pick idle (trapOf x c t) (refusedOf c w error.BadState) ⌝ }
+    ensures { λ r. ⌜ r ≡ pick idle (classEffect (classOf (t .scause)) x c t) (refusedOf c w error.BadState) ⌝ }
 {
     if idle {
-        return trap(x, c, t);
+        return class(decide_class::class_of(t.scause), x, c, t);
     }
     decide_effects::refused(c, w, Error::BadState)
 }
 
-// The classes of traps, by scause.
-fn trap(x: [u64; 32], c: Csrs, t: Trap) -> Effect
-    ensures { λ r. ⌜ r ≡ trapOf x c t ⌝ }
+// What a trap of each class does.
+fn class(class: Class, x: [u64; 32], c: Csrs, t: Trap) -> Effect
+    ensures { λ r. ⌜ r ≡ classEffect class x c t ⌝ }
 {
-    let scause = t.scause;
-    match scause {
-        isa_consts::ENV_CALL_FROM_VS => sbi(c, x[17], x[16], arguments(x), t.room),
-        isa_consts::VIRTUAL_INST => {
+    match class {
+        Class::Ecall => ecall(c, x[17], x[16], arguments(x), t.room),
+        Class::VirtualInstruction => {
             let rs1 = decide_record::register(x, isa_fields::rs1(t.stval % 0x1_0000_0000));
-            stimecmp(c, t.stval, rs1)
+            virtual_inst(c, t.stval, rs1)
         }
-        isa_consts::LOAD_GUEST_PAGE_FAULT => page_fault_trap(x, c, t, Access::Read),
-        isa_consts::STORE_GUEST_PAGE_FAULT => page_fault_trap(x, c, t, Access::Write),
-        isa_consts::S_SOFT => external(c, scause),
-        isa_consts::S_TIMER => external(c, scause),
-        isa_consts::S_EXT => external(c, scause),
-        _ => other(c, isa_consts::is_known_cause(scause)),
+        Class::PageFault(access) => page_fault(x, c, t, access),
+        Class::Interrupt => decide_effects::finished(
+            c,
+            Event::Quiet,
+            Writes::Keep,
+            Exit::ExternalInterrupt { vector: t.scause },
+        ),
+        Class::NotHandled => decide_effects::failed(c, Event::Quiet, Error::Unsupported),
+        Class::Unknown => decide_effects::failed(c, Event::Quiet, Error::InvalidTrap),
     }
+}
+
+// An SBI call.
+fn ecall(c: Csrs, eid: u64, fid: u64, a: Args, room: u64) -> Effect
+    ensures { λ r. ⌜ r ≡ ecallEffect c eid fid a room ⌝ }
+{
+    by_value_ecall::effect(c, eid, fid, a, decide_ecall::decide(eid, fid, a, room))
+}
+
+// A virtual instruction, with the content of its rs1.
+fn virtual_inst(c: Csrs, stval: u64, rs1: u64) -> Effect
+    ensures { λ r. ⌜ r ≡ virtualEffect c stval rs1 ⌝ }
+{
+    by_value_classes::csr(
+        c,
+        decide_virtual_inst::decide_stval(stval, c.vs.vstimecmp, rs1),
+    )
 }
 
 // a0 to a5.
@@ -67,19 +90,8 @@ fn arguments(x: [u64; 32]) -> Args
     }
 }
 
-fn sbi(c: Csrs, eid: u64, fid: u64, a: Args, room: u64) -> Effect
-    ensures { λ r. ⌜ r ≡ sbiOf c eid fid a room ⌝ }
-{
-    by_value_ecall::effect(c, eid, fid, a, decide_ecall::decide(eid, fid, a, room))
-}
-
-fn stimecmp(c: Csrs, stval: u64, rs1: u64) -> Effect
-    ensures { λ r. ⌜ r ≡ stimecmpOf c stval rs1 ⌝ }
-{
-    by_value_classes::csr(c, decide_virtual_inst::start(stval, c.vs.vstimecmp, rs1))
-}
-
-fn page_fault_trap(x: [u64; 32], c: Csrs, t: Trap, access: Access) -> Effect
+// A guest page fault.
+fn page_fault(x: [u64; 32], c: Csrs, t: Trap, access: Access) -> Effect
     ensures { λ r. ⌜ r ≡ pageFaultOf x c t access ⌝ }
 {
     let at = isa_registers::guest_page_fault_addr(t.htval, t.stval);
@@ -92,24 +104,4 @@ pub fn mmio(x: [u64; 32], c: Csrs, at: GuestPhysAddr, access: Access, i: Trapped
 {
     let source = decide_record::register(x, isa_decoder::store_source(i));
     by_value_classes::fault(c, at, access, decide_page_fault::decide(access, i, source))
-}
-
-fn external(c: Csrs, vector: u64) -> Effect
-    ensures { λ r. ⌜ r ≡ externalOf c vector ⌝ }
-{
-    decide_effects::finished(
-        c,
-        Event::Quiet,
-        Writes::Keep,
-        Exit::ExternalInterrupt { vector },
-    )
-}
-
-fn other(c: Csrs, known: bool) -> Effect
-    ensures { λ r. ⌜ r ≡ otherOf c known ⌝ }
-{
-    if known {
-        return decide_effects::failed(c, Event::Quiet, Error::Unsupported);
-    }
-    decide_effects::failed(c, Event::Quiet, Error::InvalidTrap)
 }

@@ -1,47 +1,43 @@
-// The host's answers to asks 2 to 9, and the completion of a load.
+// The host's answers to an ecall's asks, 2 to 9.
 ghost use mathlib.Core.Path.{_≡_};
-ghost use Rattle.scope.specs.Ecalls.{answeredOf, copiedOf, copiedOutOf, maskOf, readOf};
+ghost use Rattle.scope.specs.Ecalls.{consoleReadEffect, copiedEffect, copiedOutEffect, ecallAnswer, maskEffect};
+ghost use Rattle.scope.specs.declared.machine.Csrs.{Csrs};
+ghost use Rattle.scope.specs.Decided.{answeredEffect};
 use isa_types::GuestPhysAddr;
 use scope::Answered;
+use scope::EcallAsk;
 use scope::LegacyRequest;
-use scope::Waiting;
 
-// What an answer's two numbers do to the ask that waits.
-pub fn decide(w: Waiting, word: u64, more: u64) -> Answered
-    ensures { λ r. ⌜ r ≡ answeredOf w word more ⌝ }
+// What an answer's two numbers do to the ecall that waits.
+pub fn decide(a: EcallAsk, word: u64, more: u64) -> Answered
+    ensures { λ r. ⌜ ((c : Csrs) → answeredEffect c r ≡ ecallAnswer c a word more) ⌝ }
 {
-    match w {
-        Waiting::Idle => Answered::Wrong,
-        Waiting::Load {
-            rd: _,
-            width: _,
-            signed: _,
-        } => Answered::Wrong,
-        Waiting::FetchCsr => Answered::Wrong,
-        Waiting::FetchFault { at: _, access: _ } => Answered::Wrong,
-        Waiting::CopyMask => mask(decide_ipi::legacy_request(word, more)),
-        Waiting::CopyIn { count } => copied(count, word),
-        Waiting::Print { count: _ } => Answered::Returns(word, more),
-        Waiting::ReadConsole { count, at } => read(count, at, word, more),
-        Waiting::CopyOut { count } => copied_out(count, word),
-        Waiting::PutChar => Answered::Moves,
-        Waiting::PutByte => Answered::Returns(isa_consts::RET_SUCCESS, 0),
-        Waiting::GetChar => Answered::Gives(word),
-        Waiting::Forward => Answered::Returns(word, more),
+    match a {
+        EcallAsk::CopyMask => mask(decide_ipi::legacy_request(word, more)),
+        EcallAsk::CopyIn { count } => copied(count, word),
+        EcallAsk::Print { count: _ } => Answered::Returns(word, more),
+        EcallAsk::ReadConsole { count, at } => read(count, at, word, more),
+        EcallAsk::CopyOut { count } => copied_out(count, word),
+        EcallAsk::PutChar => Answered::Moves,
+        EcallAsk::PutByte => Answered::Returns(isa_consts::RET_SUCCESS, 0),
+        EcallAsk::GetChar => Answered::Gives(word),
+        EcallAsk::Forward => Answered::Returns(word, more),
     }
 }
 
-fn mask(r: LegacyRequest) -> Answered
-    ensures { λ r′. ⌜ r′ ≡ maskOf r ⌝ }
+// Legacy 4, ask 2.
+fn mask(q: LegacyRequest) -> Answered
+    ensures { λ r. ⌜ ((c : Csrs) → answeredEffect c r ≡ maskEffect c q) ⌝ }
 {
-    match r {
+    match q {
         LegacyRequest::Request(request) => Answered::SendIpi(request),
         LegacyRequest::ShortRead => Answered::Returns(isa_consts::RET_ERR_FAILED, 0),
     }
 }
 
+// DBCN fid 0, ask 3.
 fn copied(count: u64, got: u64) -> Answered
-    ensures { λ r. ⌜ r ≡ copiedOf count got ⌝ }
+    ensures { λ r. ⌜ ((c : Csrs) → answeredEffect c r ≡ copiedEffect c count got) ⌝ }
 {
     if got == count {
         return Answered::Print(count);
@@ -49,8 +45,9 @@ fn copied(count: u64, got: u64) -> Answered
     Answered::Returns(isa_consts::RET_ERR_FAILED, 0)
 }
 
+// DBCN fid 1, ask 5.
 fn read(count: u64, at: GuestPhysAddr, error: u64, value: u64) -> Answered
-    ensures { λ r. ⌜ r ≡ readOf count at error value ⌝ }
+    ensures { λ r. ⌜ ((c : Csrs) → answeredEffect c r ≡ consoleReadEffect c count at error value) ⌝ }
 {
     if error == 0 {
         if value == 0 {
@@ -64,8 +61,9 @@ fn read(count: u64, at: GuestPhysAddr, error: u64, value: u64) -> Answered
     Answered::Returns(error, value)
 }
 
+// DBCN fid 1, ask 6.
 fn copied_out(count: u64, got: u64) -> Answered
-    ensures { λ r. ⌜ r ≡ copiedOutOf count got ⌝ }
+    ensures { λ r. ⌜ ((c : Csrs) → answeredEffect c r ≡ copiedOutEffect c count got) ⌝ }
 {
     if got == count {
         return Answered::Returns(isa_consts::RET_SUCCESS, count);

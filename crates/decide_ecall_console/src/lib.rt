@@ -7,9 +7,9 @@ ghost use Rattle.scope.specs.Decided.{callEffect};
 ghost use Rattle.scope.specs.Ecalls.{consoleEffect, dbcnEffect, lesserOf, spanEffect};
 use isa_types::GuestPhysAddr;
 use scope::Args;
-use scope::Call;
+use scope::SbiCall;
 
-pub fn dbcn(fid: u64, a: Args, room: u64) -> Call
+pub fn dbcn(fid: u64, a: Args, room: u64) -> SbiCall
     ensures { λ r. ⌜ ((c : Csrs) (eid : ℕ) → callEffect c eid fid a r ≡ dbcnEffect c fid a room) ⌝ }
 {
     if fid == isa_consts::FID_CONSOLE_WRITE {
@@ -19,34 +19,34 @@ pub fn dbcn(fid: u64, a: Args, room: u64) -> Call
         return console(false, a, room);
     }
     if fid == isa_consts::FID_CONSOLE_WRITE_BYTE {
-        return Call::PutByte(a.a0 % 256);
+        return SbiCall::PutByte(a.a0 % 256);
     }
     decide_ecall_extensions::not_supported()
 }
 
 // The checks that console write and read share.
-fn console(write: bool, a: Args, room: u64) -> Call
+fn console(write: bool, a: Args, room: u64) -> SbiCall
     ensures { λ r. ⌜ ((c : Csrs) (eid fid : ℕ) → callEffect c eid fid a r ≡ consoleEffect c write a room) ⌝ }
 {
     if a.a0 == 0 {
-        return Call::Returns(isa_consts::RET_SUCCESS, 0);
+        return SbiCall::Returns(isa_consts::RET_SUCCESS, 0);
     }
     if a.a2 == 0 {
         return span(write, GuestPhysAddr(a.a1), lesser(a.a0, room));
     }
-    Call::Returns(isa_consts::RET_ERR_INVALID_PARAM, 0)
+    SbiCall::Returns(isa_consts::RET_ERR_INVALID_PARAM, 0)
 }
 
-fn span(write: bool, at: GuestPhysAddr, count: u64) -> Call
+fn span(write: bool, at: GuestPhysAddr, count: u64) -> SbiCall
     ensures { λ r. ⌜ ((c : Csrs) (eid fid : ℕ) (a : Args) → callEffect c eid fid a r ≡ spanEffect c write at count) ⌝ }
 {
     if count == 0 {
-        return Call::Returns(isa_consts::RET_SUCCESS, 0);
+        return SbiCall::Returns(isa_consts::RET_SUCCESS, 0);
     }
     if write {
-        return Call::CopyIn(at, count);
+        return SbiCall::CopyIn(at, count);
     }
-    Call::ReadConsole(at, count)
+    SbiCall::ReadConsole(at, count)
 }
 
 pub fn lesser(a: u64, b: u64) -> u64

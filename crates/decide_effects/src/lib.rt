@@ -1,7 +1,10 @@
 // How a call ends: an effect for each kind of end, built in one place. regs/specs/Effects.antt defines them.
 ghost use mathlib.Core.Path.{_≡_};
-ghost use Rattle.scope.specs.Refusals.{askingOf, doneOf, failedOf, finishedOf, guardedOf, refusedOf};
+ghost use Rattle.scope.specs.Refusals.{askingOf, doneOf, failedOf, finishedOf, refusedOf};
 ghost use Rattle.scope.specs.Record.{noArgs};
+ghost use lib.Dec.{eqb};
+ghost use Rattle.isa_types.specs.Pick.{pick};
+ghost use Rattle.scope.specs.declared.traps.Error.the-variants as error;
 use scope::Args;
 use scope::Ask;
 use scope::Csrs;
@@ -85,7 +88,7 @@ pub fn done(csrs: Csrs, writes: Writes, still: Waiting) -> Effect
 
 // The effect, unless an ask waits: then refusal 2.
 pub fn guarded(ask: u64, csrs: Csrs, waiting: Waiting, e: Effect) -> Effect
-    ensures { λ r. ⌜ r ≡ guardedOf ask csrs waiting e ⌝ }
+    ensures { λ r. ⌜ r ≡ pick (eqb ask 0) e (refusedOf csrs waiting error.BadState) ⌝ }
 {
     if ask == 0 {
         return e;

@@ -1,6 +1,6 @@
 // What a failed fetch of the guest's instruction does, and injection into the guest.
 ghost use mathlib.Core.Path.{_≡_};
-ghost use Rattle.scope.specs.FetchFaults.{injectedOf, missedOf, trapStatusOf};
+ghost use Rattle.scope.specs.VirtualInstruction.{injectedOf, missedOf, trapStatusOf};
 use isa_types::GuestVirtAddr;
 use scope::Access;
 use scope::Csrs;

@@ -1,6 +1,15 @@
 // What the host's own calls do to a record: setup, entry, registers, page table, interrupts, IPI results.
 ghost use mathlib.Core.Path.{_≡_};
-ghost use Rattle.scope.specs.Host.{entryCsrs, ipiWrites, pagingBy, pagingEffect, pendingBy, pendingEffect, setupCsrs, tableCsrs, writeEffect};
+ghost use Rattle.scope.specs.Host.{entryCsrs, ipiWrites, pagingBy, pagingEffect, pendingEffect, setupCsrs, tableCsrs, writeEffect};
+ghost use lib.Dec.{eqb};
+ghost use Rattle.isa_types.specs.Pick.{pick};
+ghost use Rattle.isa_consts.specs.Csr.{vseip, vssip, vstip};
+ghost use Rattle.isa_consts.specs.Traps.{supervisorSoft, supervisorTimer};
+ghost use Rattle.isa_registers.specs.Bits.{withBits};
+ghost use Rattle.scope.specs.declared.machine.Writes.the-variants as writes;
+ghost use Rattle.scope.specs.declared.traps.Error.the-variants as error;
+ghost use Rattle.scope.specs.Record.{pended};
+ghost use Rattle.scope.specs.Refusals.{doneOf, refusedOf};
 use isa_types::GuestPhysAddr;
 use scope::Csrs;
 use scope::Effect;
@@ -100,7 +109,7 @@ fn table_csrs(c: Csrs, mode: u64, root: u64) -> Csrs
 }
 
 fn pending_by(c: Csrs, w: Waiting, vector: u64, external: bool, on: bool) -> Effect
-    ensures { λ r. ⌜ r ≡ pendingBy c w vector external on ⌝ }
+    ensures { λ r. ⌜ r ≡ pick (eqb vector supervisorSoft) (doneOf (pended c (withBits (c .hs .hvip) vssip on)) writes.Keep w) (pick (eqb vector supervisorTimer) (doneOf (pended c (withBits (c .hs .hvip) vstip on)) writes.Keep w) (pick external (doneOf (pended c (withBits (c .hs .hvip) vseip on)) writes.Keep w) (refusedOf c w error.InvalidInput))) ⌝ }
 {
     if vector == isa_consts::S_SOFT {
         let hvip = isa_registers::with_bits(c.hs.hvip, isa_consts::VSSIP, on);

@@ -1,6 +1,6 @@
 // A guest page fault: a load or store of a device, or a page that the host has to map.
 ghost use mathlib.Core.Path.{_≡_};
-ghost use Rattle.scope.specs.GuestPageFault.{faultOf, loadOf, storeOf};
+ghost use Rattle.scope.specs.GuestPageFault.{faultOf, loadUnder, storeUnder};
 use isa_decoder::Decoded;
 use isa_decoder::Trapped;
 use isa_types::Width;
@@ -25,7 +25,7 @@ pub fn decide(access: Access, t: Trapped, source: u64) -> Fault
 
 // A load is taken under a read alone.
 fn load(access: Access, width: Width, signed: bool, rd: usize, length: u64) -> Fault
-    ensures { λ r. ⌜ r ≡ loadOf access width signed rd length ⌝ }
+    ensures { λ r. ⌜ r ≡ loadUnder access width signed rd length ⌝ }
 {
     match access {
         Access::Read => Fault::Load {
@@ -41,7 +41,7 @@ fn load(access: Access, width: Width, signed: bool, rd: usize, length: u64) -> F
 
 // A store is taken under a write alone.
 fn store(access: Access, width: Width, source: u64, length: u64) -> Fault
-    ensures { λ r. ⌜ r ≡ storeOf access width source length ⌝ }
+    ensures { λ r. ⌜ r ≡ storeUnder access width source length ⌝ }
 {
     match access {
         Access::Read => Fault::Nested,

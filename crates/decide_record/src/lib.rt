@@ -3,8 +3,9 @@
 ghost use mathlib.Core.Path.{_≡_};
 ghost use Prim.Native.Nat.{_+_};
 ghost use Rattle.isa_types.specs.Pick.{wrapped};
-ghost use Rattle.scope.specs.Record.{counted, isIdle, moved, pended, timed, valueOf, waitingAsk};
+ghost use Rattle.scope.specs.Record.{isIdle, moved, pended, timed, valueOf, waitingAsk, ecallAskNumber};
 use scope::Csrs;
+use scope::EcallAsk;
 use scope::Waiting;
 
 // sepc moves on.
@@ -48,7 +49,7 @@ pub fn register(x: [u64; 32], i: usize) -> u64
     0
 }
 
-// The number of the ask that waits, or 0.
+// The number of the ask that waits; 0 where none does.
 pub fn ask_of(w: Waiting) -> u64
     ensures { λ r. ⌜ r ≡ waitingAsk w ⌝ }
 {
@@ -61,19 +62,28 @@ pub fn ask_of(w: Waiting) -> u64
         } => 0,
         Waiting::FetchCsr => 1,
         Waiting::FetchFault { at: _, access: _ } => 1,
-        Waiting::CopyMask => 2,
-        Waiting::CopyIn { count: _ } => 3,
-        Waiting::Print { count: _ } => 4,
-        Waiting::ReadConsole { count: _, at: _ } => 5,
-        Waiting::CopyOut { count: _ } => 6,
-        Waiting::PutChar => 7,
-        Waiting::PutByte => 7,
-        Waiting::GetChar => 8,
-        Waiting::Forward => 9,
+        Waiting::Ecall(a) => ecall_ask(a),
     }
 }
 
-// Whether neither an ask nor a load waits.
+// The number of an ecall's ask.
+fn ecall_ask(a: EcallAsk) -> u64
+    ensures { λ r. ⌜ r ≡ ecallAskNumber a ⌝ }
+{
+    match a {
+        EcallAsk::CopyMask => 2,
+        EcallAsk::CopyIn { count: _ } => 3,
+        EcallAsk::Print { count: _ } => 4,
+        EcallAsk::ReadConsole { count: _, at: _ } => 5,
+        EcallAsk::CopyOut { count: _ } => 6,
+        EcallAsk::PutChar => 7,
+        EcallAsk::PutByte => 7,
+        EcallAsk::GetChar => 8,
+        EcallAsk::Forward => 9,
+    }
+}
+
+// Neither an ask nor a load waits.
 pub fn is_idle(w: Waiting) -> bool
     ensures { λ r. ⌜ r ≡ isIdle w ⌝ }
 {
@@ -86,15 +96,7 @@ pub fn is_idle(w: Waiting) -> bool
         } => false,
         Waiting::FetchCsr => false,
         Waiting::FetchFault { at: _, access: _ } => false,
-        Waiting::CopyMask => false,
-        Waiting::CopyIn { count: _ } => false,
-        Waiting::Print { count: _ } => false,
-        Waiting::ReadConsole { count: _, at: _ } => false,
-        Waiting::CopyOut { count: _ } => false,
-        Waiting::PutChar => false,
-        Waiting::PutByte => false,
-        Waiting::GetChar => false,
-        Waiting::Forward => false,
+        Waiting::Ecall(_) => false,
     }
 }
 

@@ -1,19 +1,24 @@
 // A virtual-instruction trap: the guest's CSR instruction on stimecmp, in its six forms.
 ghost use mathlib.Core.Path.{_≡_};
-ghost use Rattle.scope.specs.VirtualInstruction.{clearedOf, csrBy, csrOf, setOf, startOf, startBy, stimecmpOf};
-use scope::Csr;
+ghost use Rattle.scope.specs.VirtualInstruction.{clearBits, stimecmpWord, setBits, stimecmpStval, stimecmpBy};
+ghost use lib.Dec.{eqb};
+ghost use Rattle.isa_types.specs.Pick.{pick};
+ghost use Rattle.isa_consts.specs.Csr.{stimecmp, systemOpcode};
+ghost use Rattle.isa_fields.specs.Fields.{funct3Field, rdField, rs1Field};
+ghost use Rattle.scope.specs.declared.decided.Stimecmp.the-variants as csr;
+use scope::Stimecmp;
 
 // What the word in stval does, with the old timer and rs1's content.
-pub fn start(stval: u64, old: u64, rs1: u64) -> Csr
-    ensures { λ r. ⌜ r ≡ startOf stval old rs1 ⌝ }
+pub fn decide_stval(stval: u64, old: u64, rs1: u64) -> Stimecmp
+    ensures { λ r. ⌜ r ≡ stimecmpStval stval old rs1 ⌝ }
 {
     let word = stval % 0x1_0000_0000;
-    start_by(isa_fields::opcode(word), word, old, rs1)
+    stval_by(isa_fields::opcode(word), word, old, rs1)
 }
 
 // What a word that stval or a fetch gave does.
-pub fn decide(word: u64, old: u64, rs1: u64) -> Csr
-    ensures { λ r. ⌜ r ≡ csrOf word old rs1 ⌝ }
+pub fn decide(word: u64, old: u64, rs1: u64) -> Stimecmp
+    ensures { λ r. ⌜ r ≡ stimecmpWord word old rs1 ⌝ }
 {
     decide_by(
         isa_fields::opcode(word),
@@ -24,20 +29,20 @@ pub fn decide(word: u64, old: u64, rs1: u64) -> Csr
     )
 }
 
-fn start_by(opcode: u64, word: u64, old: u64, rs1: u64) -> Csr
-    ensures { λ r. ⌜ r ≡ startBy opcode word old rs1 ⌝ }
+fn stval_by(opcode: u64, word: u64, old: u64, rs1: u64) -> Stimecmp
+    ensures { λ r. ⌜ r ≡ pick (eqb opcode systemOpcode) (stimecmpWord word old rs1) csr.Fetch ⌝ }
 {
     if opcode == isa_consts::SYSTEM_OPCODE {
         return decide(word, old, rs1);
     }
-    Csr::Fetch
+    Stimecmp::Fetch
 }
 
-fn decide_by(opcode: u64, csr: u64, word: u64, old: u64, rs1: u64) -> Csr
-    ensures { λ r. ⌜ r ≡ csrBy opcode csr word old rs1 ⌝ }
+fn decide_by(opcode: u64, number: u64, word: u64, old: u64, rs1: u64) -> Stimecmp
+    ensures { λ r. ⌜ r ≡ pick (eqb opcode systemOpcode) (pick (eqb number stimecmp) (stimecmpBy (funct3Field word) (rdField word) (rs1Field word) old rs1) csr.Illegal) csr.Illegal ⌝ }
 {
     if opcode == isa_consts::SYSTEM_OPCODE {
-        if csr == isa_consts::CSR_STIMECMP {
+        if number == isa_consts::CSR_STIMECMP {
             return stimecmp(
                 isa_fields::funct3(word),
                 isa_fields::rd(word),
@@ -46,40 +51,40 @@ fn decide_by(opcode: u64, csr: u64, word: u64, old: u64, rs1: u64) -> Csr
                 rs1,
             );
         }
-        return Csr::Illegal;
+        return Stimecmp::Illegal;
     }
-    Csr::Illegal
+    Stimecmp::Illegal
 }
 
 // The forms by funct3. `field` is the rs1 field, as a register's index or as a number.
-fn stimecmp(funct3: u64, rd: usize, field: u64, old: u64, rs1: u64) -> Csr
-    ensures { λ r. ⌜ r ≡ stimecmpOf funct3 rd field old rs1 ⌝ }
+fn stimecmp(funct3: u64, rd: usize, field: u64, old: u64, rs1: u64) -> Stimecmp
+    ensures { λ r. ⌜ r ≡ stimecmpBy funct3 rd field old rs1 ⌝ }
 {
     match funct3 {
-        1 => Csr::Write { rd, timer: rs1 },
-        2 => Csr::Write {
+        1 => Stimecmp::Write { rd, timer: rs1 },
+        2 => Stimecmp::Write {
             rd,
             timer: set(field, old, rs1),
         },
-        3 => Csr::Write {
+        3 => Stimecmp::Write {
             rd,
             timer: clear(field, old, rs1),
         },
-        5 => Csr::Write { rd, timer: field },
-        6 => Csr::Write {
+        5 => Stimecmp::Write { rd, timer: field },
+        6 => Stimecmp::Write {
             rd,
             timer: set(field, old, field),
         },
-        7 => Csr::Write {
+        7 => Stimecmp::Write {
             rd,
             timer: clear(field, old, field),
         },
-        _ => Csr::Illegal,
+        _ => Stimecmp::Illegal,
     }
 }
 
 fn set(field: u64, old: u64, bits: u64) -> u64
-    ensures { λ r. ⌜ r ≡ setOf field old bits ⌝ }
+    ensures { λ r. ⌜ r ≡ setBits field old bits ⌝ }
 {
     if field == 0 {
         return old;
@@ -88,7 +93,7 @@ fn set(field: u64, old: u64, bits: u64) -> u64
 }
 
 fn clear(field: u64, old: u64, bits: u64) -> u64
-    ensures { λ r. ⌜ r ≡ clearedOf field old bits ⌝ }
+    ensures { λ r. ⌜ r ≡ clearBits field old bits ⌝ }
 {
     if field == 0 {
         return old;

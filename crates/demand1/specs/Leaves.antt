@@ -22,6 +22,7 @@ use Rattle.scope.specs.declared.machine.Event.the-variants as event
 use Rattle.scope.specs.declared.machine.Waiting.{Waiting}
 use Rattle.scope.specs.declared.machine.Waiting.the-variants as waiting
 use Rattle.scope.specs.declared.machine.Writes.the-variants as writes
+use Rattle.scope.specs.declared.machine.EcallAsk.the-variants as asked
 
 -- all unchanged: no CSR, no count, no register, and what waits goes on waiting
 pub record Unchanged (c : Csrs) (n : Waiting) (e : Effect) : Type 0 where
@@ -45,15 +46,15 @@ pub data AtMostIllegal : Event → Type 0 where
 pub data Waits : Ask → Waiting → Type 0 where
   fetch-csr : (at : GuestVirtAddr) (s : Bool) → Waits (ask.Fetch at s) waiting.FetchCsr
   fetch-fault : (at : GuestVirtAddr) (s : Bool) (a : GuestPhysAddr) (k : Access) → Waits (ask.Fetch at s) (waiting.FetchFault a k)
-  copy-mask : (at : GuestVirtAddr) → Waits (ask.CopyMask at) waiting.CopyMask
-  copy-in : (at : GuestPhysAddr) (n : ℕ) → Waits (ask.CopyIn at n) (waiting.CopyIn n)
-  print : (n : ℕ) → Waits (ask.Print n) (waiting.Print n)
-  read-console : (n : ℕ) (at : GuestPhysAddr) → Waits (ask.ReadConsole n) (waiting.ReadConsole n at)
-  copy-out : (at : GuestPhysAddr) (n : ℕ) → Waits (ask.CopyOut at n) (waiting.CopyOut n)
-  put-char : (n : ℕ) → Waits (ask.Emit n) waiting.PutChar
-  put-byte : (n : ℕ) → Waits (ask.Emit n) waiting.PutByte
-  get-char : Waits ask.GetChar waiting.GetChar
-  forward : (eid fid : ℕ) (a : Args) → Waits (ask.Forward eid fid a) waiting.Forward
+  copy-mask : (at : GuestVirtAddr) → Waits (ask.CopyMask at) (waiting.Ecall asked.CopyMask)
+  copy-in : (at : GuestPhysAddr) (n : ℕ) → Waits (ask.CopyIn at n) (waiting.Ecall (asked.CopyIn n))
+  print : (n : ℕ) → Waits (ask.Print n) (waiting.Ecall (asked.Print n))
+  read-console : (n : ℕ) (at : GuestPhysAddr) → Waits (ask.ReadConsole n) (waiting.Ecall (asked.ReadConsole n at))
+  copy-out : (at : GuestPhysAddr) (n : ℕ) → Waits (ask.CopyOut at n) (waiting.Ecall (asked.CopyOut n))
+  put-char : (n : ℕ) → Waits (ask.Emit n) (waiting.Ecall asked.PutChar)
+  put-byte : (n : ℕ) → Waits (ask.Emit n) (waiting.Ecall asked.PutByte)
+  get-char : Waits ask.GetChar (waiting.Ecall asked.GetChar)
+  forward : (eid fid : ℕ) (a : Args) → Waits (ask.Forward eid fid a) (waiting.Ecall asked.Forward)
 
 -- an ask: no CSR and no register changed, and exactly that ask waits
 pub record Asked (c : Csrs) (a : Ask) (e : Effect) : Type 0 where
@@ -66,18 +67,18 @@ pub data Loads : Width → Waiting → Type 0 where
   load : (rd : ℕ) (w : Width) (s : Bool) → Loads w (waiting.Load rd w s)
 
 -- nothing waits after an exit, but a load after MmioRead
-unfoldable pub Left : Exit → Waiting → Type 0
-Left exit.Nothing n = n ≡ waiting.Idle
-Left (exit.ExternalInterrupt v) n = n ≡ waiting.Idle
-Left (exit.SendIpi r) n = n ≡ waiting.Idle
-Left (exit.CpuUp t e a) n = n ≡ waiting.Idle
-Left (exit.CpuDown s) n = n ≡ waiting.Idle
-Left exit.Halt n = n ≡ waiting.Idle
-Left (exit.Hypercall k) n = n ≡ waiting.Idle
-Left exit.SystemDown n = n ≡ waiting.Idle
-Left (exit.NestedPageFault a k) n = n ≡ waiting.Idle
-Left (exit.MmioRead a w) n = Loads w n
-Left (exit.MmioWrite a w d) n = n ≡ waiting.Idle
+unfoldable pub ExitLeaves : Exit → Waiting → Type 0
+ExitLeaves exit.Nothing n = n ≡ waiting.Idle
+ExitLeaves (exit.ExternalInterrupt v) n = n ≡ waiting.Idle
+ExitLeaves (exit.SendIpi r) n = n ≡ waiting.Idle
+ExitLeaves (exit.CpuUp t e a) n = n ≡ waiting.Idle
+ExitLeaves (exit.CpuDown s) n = n ≡ waiting.Idle
+ExitLeaves exit.Halt n = n ≡ waiting.Idle
+ExitLeaves (exit.Hypercall k) n = n ≡ waiting.Idle
+ExitLeaves exit.SystemDown n = n ≡ waiting.Idle
+ExitLeaves (exit.NestedPageFault a k) n = n ≡ waiting.Idle
+ExitLeaves (exit.MmioRead a w) n = Loads w n
+ExitLeaves (exit.MmioWrite a w d) n = n ≡ waiting.Idle
 
 -- 1, 2 and 7 leave all unchanged; 3 to 6 end the trap, and only an error 3 may count, event 2
 unfoldable pub Failed : Csrs → Waiting → Effect → Error → Type 0
@@ -90,7 +91,7 @@ Failed c n e error.GuestMemoryFault = (Ended c e) × (e .event ≡ event.Quiet)
 Failed c n e error.WrongAnswer = Unchanged c n e
 
 unfoldable pub Says : Csrs → Waiting → Effect → Reply → Type 0
-Says c n e (reply.Exit x) = Left x (e .waiting)
+Says c n e (reply.Exit x) = ExitLeaves x (e .waiting)
 Says c n e (reply.Ask a) = Asked c a e
 Says c n e reply.Done = Unit {0}
 Says c n e (reply.Value k) = Unit {0}

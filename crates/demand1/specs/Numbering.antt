@@ -3,20 +3,19 @@ use Prim.Native.Nat.{ℕ}
 use mathlib.Core.List.{List}
 use mathlib.Core.Path.{_≡_, refl}
 use lib.ListN.{getD}
-use Rattle.scope.specs.Trap.{askNumber, answerNumber, answerValues}
+use Rattle.scope.specs.OneTrap.{askNumber, answerValues}
 use Rattle.scope.specs.declared.traps.Answer.{Answer}
 use Rattle.scope.specs.declared.traps.Answer.the-variants as answer
 use Rattle.scope.specs.declared.traps.Ask.{Ask}
-use Rattle.scope.specs.declared.traps.Fetch.{Fetch}
 use Rattle.scope.specs.declared.machine.Csrs.{Csrs}
 use Rattle.scope.specs.declared.machine.Waiting.{Waiting}
-use Rattle.scope.specs.Record.{waitingAsk}
-use Rattle.scope.specs.Resume.{continuedOf, fetchedOf, plainOf}
-use Rattle.demand1.specs.Leaves.{Waits, fetch-csr, fetch-fault, copy-mask, copy-in, print, read-console, copy-out, put-char, put-byte, get-char, forward}
+use Rattle.scope.specs.Record.{waitingAsk, ecallAskNumber}
+use Rattle.scope.specs.Answers.{fittingEffect, numbersEffect}
+use Rattle.demand1.specs.Leaves.{Waits, copy-in, copy-mask, copy-out, fetch-csr, fetch-fault, get-char, put-byte, put-char, read-console, print, forward}
 
 -- what waits has the number of the ask that was asked, and an answer fits by that number alone
 pub waits-number : {a : Ask} {n : Waiting} → Waits a n → waitingAsk n ≡ askNumber a
-unfolding waitingAsk askNumber
+unfolding waitingAsk ecallAskNumber askNumber
 waits-number (fetch-csr at s) = refl
 waits-number (fetch-fault at s a k) = refl
 waits-number (copy-mask at) = refl
@@ -41,8 +40,8 @@ pub data Plain : Answer → Type 0 where
   forwarded : (e v : ℕ) → Plain (answer.Forwarded e v)
 
 pub plain-values : (x : List ℕ) (c : Csrs) (n : Waiting) {a : Answer} → Plain a
-    → continuedOf x c n a ≡ plainOf c n (getD (answerValues a) 0 0) (getD (answerValues a) 1 0)
-unfolding continuedOf answerValues
+    → fittingEffect x c n a ≡ numbersEffect c n (getD (answerValues a) 0 0) (getD (answerValues a) 1 0)
+unfolding fittingEffect answerValues
 plain-values x c n (mask-copied k b) = refl
 plain-values x c n (copied-in k) = refl
 plain-values x c n (printed e v) = refl

@@ -4,7 +4,7 @@ use Prim.Native.Nat.{ℕ, _%_, _^_}
 use mathlib.Core.Bool.{Bool, true, false}
 use lib.Dec.{eqb, ltb}
 use Rattle.isa_types.specs.Pick.{pick, or, and, not}
-use Rattle.scope.specs.Trap.{answerNumber}
+use Rattle.scope.specs.OneTrap.{answerNumber}
 use Rattle.scope.specs.Refusals.{errorNumber}
 use Rattle.scope.specs.declared.traps.Answer.{Answer}
 use Rattle.scope.specs.declared.traps.Answer.the-variants as answer
@@ -16,7 +16,7 @@ use Rattle.scope.specs.declared.traps.Reply.{Reply}
 use Rattle.scope.specs.declared.traps.Reply.the-variants as reply
 use Rattle.scope.specs.declared.traps.Trap.{Trap}
 use Rattle.isa_consts.specs.Csr.{systemOpcode}
-use Rattle.isa_consts.specs.Traps.{envCallFromVs, virtualInstruction, loadGuestPageFault, storeGuestPageFault, supervisorSoft, supervisorTimer, supervisorExt, supervisorExternal, knownCause}
+use Rattle.isa_consts.specs.Traps.{supervisorSoft, supervisorTimer, supervisorExternal}
 use Rattle.isa_fields.specs.Fields.{opcodeField}
 use Rattle.isa_decoder.specs.Errors.{longWord, pseudoWord, unfitWord}
 use Rattle.scope.specs.declared.machine.Vcpu.{Vcpu}
@@ -24,6 +24,11 @@ use Rattle.scope.specs.declared.machine.Waiting.{Waiting}
 use Rattle.scope.specs.declared.machine.Waiting.the-variants as waiting
 use Rattle.scope.specs.Record.{isIdle, waitingAsk}
 use Rattle.demand3.specs.Kinds.{onStimecmp}
+use Rattle.scope.specs.declared.decided.Class.{Class}
+use Rattle.scope.specs.declared.hosts.HostCall.{HostCall}
+use Rattle.scope.specs.declared.decided.Class.the-variants as class
+use Rattle.scope.specs.Classes.{classOf}
+use Rattle.scope.specs.declared.hosts.HostCall.the-variants as hostCall
 
 -- the two are one error: their numbers are equal
 unfoldable pub is : Error → Error → Bool
@@ -37,27 +42,6 @@ gives e reply.Done = false
 gives e (reply.Value n) = false
 gives e (reply.Error y) = is e y
 
--- 01, Classes
-pub data Class : Type 0 where
-  ecall : Class
-  virtual-instruction : Class
-  page-fault : Class
-  host-interrupt : Class
-  not-handled : Class
-  unknown : Class
-
--- exceptions 10, 22, 21 and 23; interrupts 1, 5 and 9; other known codes; all else
-unfoldable pub classOf : ℕ → Class
-classOf s =
-    pick (eqb s envCallFromVs) ecall
-    (pick (eqb s virtualInstruction) virtual-instruction
-    (pick (eqb s loadGuestPageFault) page-fault
-    (pick (eqb s storeGuestPageFault) page-fault
-    (pick (eqb s supervisorSoft) host-interrupt
-    (pick (eqb s supervisorTimer) host-interrupt
-    (pick (eqb s supervisorExt) host-interrupt
-    (pick (knownCause s) not-handled unknown)))))))
-
 -- a word that is no CSR instruction on stimecmp
 unfoldable pub otherWord : ℕ → Bool
 otherWord w = not (onStimecmp w)
@@ -69,13 +53,13 @@ otherStval stval = and (eqb (opcodeField (stval % 2 ^ 32)) systemOpcode) (otherW
 -- a start, by class: 3 for another virtual instruction, a pseudo htinst, or a known code not handled; 5 by the length
 -- rule; 4 for an unknown scause
 unfoldable pub classWhen : Class → Trap → Error → Bool
-classWhen ecall t e = false
-classWhen virtual-instruction t e = and (otherStval (t .stval)) (is e error.Unsupported)
-classWhen page-fault t e =
+classWhen class.Ecall t e = false
+classWhen class.VirtualInstruction t e = and (otherStval (t .stval)) (is e error.Unsupported)
+classWhen (class.PageFault k) t e =
     pick (pseudoWord (t .htinst)) (is e error.Unsupported) (and (unfitWord (t .htinst)) (is e error.DecodeFailed))
-classWhen host-interrupt t e = false
-classWhen not-handled t e = is e error.Unsupported
-classWhen unknown t e = is e error.InvalidTrap
+classWhen class.Interrupt t e = false
+classWhen class.NotHandled t e = is e error.Unsupported
+classWhen class.Unknown t e = is e error.InvalidTrap
 
 -- a start while an ask or a load waits: 2
 unfoldable pub startWhen : Vcpu → Trap → Error → Bool
@@ -87,15 +71,7 @@ wordWhen waiting.FetchCsr w e = and (otherWord w) (is e error.Unsupported)
 wordWhen (waiting.FetchFault at k) w e = and (longWord w) (is e error.DecodeFailed)
 wordWhen waiting.Idle w e = is e error.WrongAnswer
 wordWhen (waiting.Load rd l s) w e = is e error.WrongAnswer
-wordWhen waiting.CopyMask w e = is e error.WrongAnswer
-wordWhen (waiting.CopyIn n) w e = is e error.WrongAnswer
-wordWhen (waiting.Print n) w e = is e error.WrongAnswer
-wordWhen (waiting.ReadConsole n at) w e = is e error.WrongAnswer
-wordWhen (waiting.CopyOut n) w e = is e error.WrongAnswer
-wordWhen waiting.PutChar w e = is e error.WrongAnswer
-wordWhen waiting.PutByte w e = is e error.WrongAnswer
-wordWhen waiting.GetChar w e = is e error.WrongAnswer
-wordWhen waiting.Forward w e = is e error.WrongAnswer
+wordWhen (waiting.Ecall a) w e = is e error.WrongAnswer
 
 -- a fetch's answer: 6 for an unhandled fault
 unfoldable pub fetchWhen : Waiting → Fetch → Error → Bool
@@ -129,15 +105,7 @@ loadWaits (waiting.Load rd w s) = true
 loadWaits waiting.Idle = false
 loadWaits waiting.FetchCsr = false
 loadWaits (waiting.FetchFault at k) = false
-loadWaits waiting.CopyMask = false
-loadWaits (waiting.CopyIn n) = false
-loadWaits (waiting.Print n) = false
-loadWaits (waiting.ReadConsole n at) = false
-loadWaits (waiting.CopyOut n) = false
-loadWaits waiting.PutChar = false
-loadWaits waiting.PutByte = false
-loadWaits waiting.GetChar = false
-loadWaits waiting.Forward = false
+loadWaits (waiting.Ecall a) = false
 
 unfoldable pub loadWhen : Vcpu → Error → Bool
 loadWhen v e = pick (loadWaits (v .waiting)) false (is e error.BadState)
@@ -159,3 +127,19 @@ pagingAllowed levels mode root =
 -- vectors 2^63+1, 2^63+5, 9 and 2^63+9
 unfoldable pub vectorAllowed : ℕ → Bool
 vectorAllowed v = or (eqb v supervisorSoft) (or (eqb v supervisorTimer) (supervisorExternal v))
+
+-- every call: whether it gives error e
+unfoldable pub callWhen : Vcpu → HostCall → Error → Bool
+callWhen v hostCall.Setup e = changingWhen v true e
+callWhen v (hostCall.SetEntry at) e = changingWhen v true e
+-- a register read: 1 for an index above 31, and never 2
+callWhen v (hostCall.GetGpr i) e = and (not (indexAllowed i)) (is e error.InvalidInput)
+callWhen v (hostCall.SetGpr i n) e = changingWhen v (indexAllowed i) e
+callWhen v (hostCall.SetReturnValue n) e = changingWhen v true e
+callWhen v (hostCall.SetNestedPageTable levels mode root) e = changingWhen v (pagingAllowed levels mode root) e
+callWhen v (hostCall.SetPending k on) e = changingWhen v (vectorAllowed k) e
+callWhen v (hostCall.LatchHvip n) e = changingWhen v true e
+callWhen v (hostCall.CompleteIpi a k) e = changingWhen v true e
+callWhen v (hostCall.Start t) e = startWhen v t e
+callWhen v (hostCall.Answer a) e = answerWhen v a e
+callWhen v (hostCall.CompleteLoad n) e = loadWhen v e

@@ -3,6 +3,7 @@ use Prim.Native.Nat.{ℕ}
 use mathlib.Core.Bool.{Bool, true, false}
 use mathlib.Core.List.{List, [], _∷_}
 use mathlib.Core.Path.{_≡_}
+use Rattle.scope.specs.declared.hosts.HostCall.the-variants as hostCall
 use Rattle.scope.specs.declared.traps.Answer.{Answer}
 use Rattle.scope.specs.declared.traps.Error.{Error}
 use Rattle.scope.specs.declared.traps.Error.the-variants as error
@@ -14,16 +15,16 @@ use Rattle.scope.specs.declared.machine.Outcome.{Outcome}
 use Rattle.scope.specs.declared.machine.Vcpu.{Vcpu}
 use Rattle.scope.specs.declared.machine.Waiting.the-variants as waiting
 use Rattle.scope.specs.Record.{counted}
-use Rattle.scope.specs.Calls.{startOf, answerOf}
+use Rattle.scope.specs.Calls.{calledOf}
 
 -- answers given one after the other, in turn or not
 unfoldable pub carried : Outcome → List Answer → Outcome
 carried o [] = o
-carried o (a ∷ l) = carried (answerOf (o .vcpu) a) l
+carried o (a ∷ l) = carried (calledOf (o .vcpu) (hostCall.Answer a)) l
 
 -- a start and the answers after it
 unfoldable pub wholeOf : Vcpu → Trap → List Answer → Outcome
-wholeOf v t l = carried (startOf v t) l
+wholeOf v t l = carried (calledOf v (hostCall.Start t)) l
 
 -- errors 3 to 6 end a trap; 1, 2 and 7 are refusals
 unfoldable pub endsTrap : Error → Bool
@@ -43,13 +44,13 @@ inError (reply.Value n) = false
 inError (reply.Error e) = endsTrap e
 
 -- the counts as they were, or with one more of event 2
-pub data Counted (k : List ℕ) : List ℕ → Type 0 where
-  same : Counted k k
-  illegal : Counted k (counted k event.IllegalInsn)
+pub data Tallied (k : List ℕ) : List ℕ → Type 0 where
+  same : Tallied k k
+  illegal : Tallied k (counted k event.IllegalInsn)
 
 -- the record u after a trap on v that ended in an error: no register and no CSR changed, nothing waits
 pub record Over (v u : Vcpu) : Type 0 where
   pub x : u .x ≡ v .x
   pub csrs : u .csrs ≡ v .csrs
   pub waiting : u .waiting ≡ waiting.Idle
-  pub counts : Counted (v .counts) (u .counts)
+  pub counts : Tallied (v .counts) (u .counts)

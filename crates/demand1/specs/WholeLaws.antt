@@ -1,13 +1,14 @@
 -- A trap that ends in an error changes no register and no CSR, from its start through its last answer.
-use Prim.Native.Nat.{ℕ, _%_, _^_}
+use Prim.Native.Nat.{ℕ}
 use native.Mathlib.Omega.{arith}
 use mathlib.Core.Bool.{Bool, true, false}
 use mathlib.Core.List.{List, [], _∷_}
 use mathlib.Core.Path.{_≡_, refl, ap, subst, sym, _∙_}
 use lib.Dec.{eqb}
 use Rattle.isa_types.specs.Pick.{pick}
-use Rattle.scope.specs.Decided.{ecall-decided}
-use Rattle.scope.specs.Trap.{answerNumber}
+use Rattle.scope.specs.declared.hosts.HostCall.the-variants as hostCall
+use Rattle.scope.specs.Decided.{callEffect, answeredEffect}
+use Rattle.scope.specs.OneTrap.{answerNumber}
 use Rattle.scope.specs.declared.traps.Access.{Access}
 use Rattle.scope.specs.declared.traps.Answer.{Answer}
 use Rattle.scope.specs.declared.traps.Answer.the-variants as answer
@@ -20,7 +21,6 @@ use Rattle.isa_types.specs.declared.GuestPhysAddr.{GuestPhysAddr}
 use Rattle.scope.specs.declared.traps.Reply.{Reply}
 use Rattle.scope.specs.declared.traps.Reply.the-variants as reply
 use Rattle.scope.specs.declared.traps.Trap.{Trap}
-use Rattle.isa_consts.specs.Traps.{envCallFromVs, virtualInstruction, loadGuestPageFault, storeGuestPageFault, supervisorSoft, supervisorTimer, supervisorExt, knownCause}
 use Rattle.isa_decoder.specs.declared.Trapped.{Trapped}
 use Rattle.scope.specs.declared.machine.Csrs.{Csrs}
 use Rattle.scope.specs.declared.machine.Effect.{Effect}
@@ -30,32 +30,33 @@ use Rattle.scope.specs.declared.machine.Outcome.{Outcome}
 use Rattle.scope.specs.declared.machine.Vcpu.{Vcpu}
 use Rattle.scope.specs.declared.machine.Waiting.{Waiting}
 use Rattle.scope.specs.declared.machine.Waiting.the-variants as waiting
-use Rattle.scope.specs.declared.machine.Writes.{Writes}
 use Rattle.scope.specs.declared.machine.Writes.the-variants as writes
-use Rattle.scope.specs.Record.{counted, bumped, eventNumber, isIdle, stored, waitingAsk, applied}
-use Rattle.scope.specs.Refusals.{askingOf, failedOf, finishedOf, refusedOf}
-use Rattle.scope.specs.declared.decided.Call.{Call}
-use Rattle.scope.specs.declared.decided.Call.the-variants as call
-use Rattle.scope.specs.Decided.{callEffect}
-use Rattle.scope.specs.Ecalls.{asksOf, clearIpiOf, hypercallOf, movesOf, returnsOf, setTimerOf, staysOf, answeredEffect}
+use Rattle.scope.specs.Record.{counted, bumped, eventNumber, isIdle, stored, waitingAsk, applied, ecallAskNumber}
+use Rattle.scope.specs.Refusals.{askingOf, failedOf, finishedOf, refusedOf, leavesOf}
+use Rattle.scope.specs.declared.decided.SbiCall.{SbiCall}
+use Rattle.scope.specs.declared.decided.SbiCall.the-variants as call
+use Rattle.scope.specs.Ecalls.{asksOf, clearIpiOf, hypercallOf, movesOf, returnsOf, setTimerOf, staysOf, forwardEffect, givesOf}
 use Rattle.scope.specs.declared.decided.Missed.{Missed}
 use Rattle.scope.specs.declared.decided.Missed.the-variants as missed
-use Rattle.scope.specs.FetchFaults.{askFetchOf, missedEffect}
-use Rattle.scope.specs.declared.decided.Csr.{Csr}
-use Rattle.scope.specs.declared.decided.Csr.the-variants as csr
-use Rattle.scope.specs.VirtualInstruction.{csrEffect}
+use Rattle.scope.specs.VirtualInstruction.{askFetchOf, missedEffect, stimecmpEffect, virtualEffect}
+use Rattle.scope.specs.declared.decided.Stimecmp.{Stimecmp}
+use Rattle.scope.specs.declared.decided.Stimecmp.the-variants as csr
 use Rattle.scope.specs.declared.decided.Fault.{Fault}
 use Rattle.scope.specs.declared.decided.Fault.the-variants as fault
-use Rattle.scope.specs.GuestPageFault.{faultEffect}
+use Rattle.scope.specs.GuestPageFault.{faultEffect, mmioOf, pageFaultOf}
 use Rattle.scope.specs.declared.decided.Answered.{Answered}
 use Rattle.scope.specs.declared.decided.Answered.the-variants as answered
-use Rattle.scope.specs.Classes.{externalOf, mmioOf, otherOf, pageFaultOf, sbiOf, startEffect, stimecmpOf, trapOf}
-use Rattle.scope.specs.Resume.{answerEffect, continuedOf, fetchedOf, plainOf, resumedOf}
-use Rattle.scope.specs.Calls.{startOf, answerOf}
-use Rattle.demand1.specs.Leaves.{AtMostIllegal, Ended, Failed, Says, Sound}
+use Rattle.scope.specs.Classes.{startEffect, classOf, classEffect}
+use Rattle.scope.specs.Answers.{answerEffect, fittingEffect, fetchEffect, numbersEffect, wordEffect}
+use Rattle.scope.specs.Calls.{calledOf, effectOf}
+use Rattle.demand1.specs.Leaves.{AtMostIllegal, Ended, Failed, Says}
 use Rattle.demand1.specs.Leaves as leaves
 use Rattle.demand1.specs.Sound.{start-sound, answer-sound}
-use Rattle.demand1.specs.Whole.{carried, wholeOf, endsTrap, inError, Counted, same, illegal, Over}
+use Rattle.demand1.specs.Whole.{carried, wholeOf, endsTrap, inError, Tallied, Over, same, illegal}
+use Rattle.scope.specs.declared.decided.Class.{Class}
+use Rattle.scope.specs.declared.machine.EcallAsk.the-variants as asked
+use Rattle.scope.specs.declared.decided.Class.the-variants as class
+use Rattle.demand1.specs.Rows.{ecall-row, one-of, answer-row}
 
 never : {A : Type 0} → false ≡ true → A
 never h = let z : _≡_ {A = ℕ} 0 1 = cc in absurd (omega arith)
@@ -66,15 +67,7 @@ fetching waiting.Idle = false
 fetching (waiting.Load rd l s) = false
 fetching waiting.FetchCsr = true
 fetching (waiting.FetchFault at k) = true
-fetching waiting.CopyMask = false
-fetching (waiting.CopyIn j) = false
-fetching (waiting.Print j) = false
-fetching (waiting.ReadConsole j at) = false
-fetching (waiting.CopyOut j) = false
-fetching waiting.PutChar = false
-fetching waiting.PutByte = false
-fetching waiting.GetChar = false
-fetching waiting.Forward = false
+fetching (waiting.Ecall a) = false
 
 -- while a fetch waits, its trap has changed nothing
 record Still (c : Csrs) (e : Effect) : Type 0 where
@@ -86,11 +79,10 @@ record Held (c : Csrs) (e : Effect) : Type 0 where
   held : fetching (e .waiting) ≡ true → Still c e
 
 either : {c : Csrs} (b : Bool) {e f : Effect} → Held c e → Held c f → Held c (pick b e f)
-either true s t = s
-either false s t = t
+either {c} b s t = one-of (Held c) b s t
 
-call-held : (c : Csrs) (eid fid : ℕ) (a : Args) (k : Call) → Held c (callEffect c eid fid a k)
-unfolding callEffect returnsOf movesOf staysOf asksOf setTimerOf clearIpiOf hypercallOf finishedOf askingOf fetching
+call-held : (c : Csrs) (eid fid : ℕ) (a : Args) (k : SbiCall) → Held c (callEffect c eid fid a k)
+unfolding callEffect forwardEffect returnsOf movesOf staysOf asksOf setTimerOf clearIpiOf hypercallOf finishedOf askingOf fetching
 call-held c eid fid a (call.Returns e v) = record { held = λ h. never h }
 call-held c eid fid a call.Moves = record { held = λ h. never h }
 call-held c eid fid a (call.LegacyTimer d) = record { held = λ h. never h }
@@ -110,8 +102,8 @@ call-held c eid fid a (call.ReadConsole at k) = record { held = λ h. never h }
 call-held c eid fid a (call.PutByte k) = record { held = λ h. never h }
 call-held c eid fid a (call.Forward e) = record { held = λ h. never h }
 
-csr-held : (c : Csrs) (d : Csr) → Held c (csrEffect c d)
-unfolding csrEffect askFetchOf finishedOf askingOf failedOf fetching
+csr-held : (c : Csrs) (d : Stimecmp) → Held c (stimecmpEffect c d)
+unfolding stimecmpEffect askFetchOf finishedOf askingOf failedOf fetching
 csr-held c csr.Illegal = record { held = λ h. never h }
 csr-held c csr.Fetch = record { held = λ h. record { csrs = refl; writes = refl; event = refl } }
 csr-held c (csr.Write rd t) = record { held = λ h. never h }
@@ -132,70 +124,53 @@ missed-held c (missed.Nested a) = record { held = λ h. never h }
 missed-held c missed.Unhandled = record { held = λ h. never h }
 
 refused-held : (c : Csrs) (n : Waiting) (x : Error) → Held c (refusedOf c n x)
-unfolding refusedOf
+unfolding refusedOf leavesOf
 refused-held c n x = record { held = λ h. record { csrs = refl; writes = refl; event = refl } }
 
-answered-held : (c : Csrs) (n : Waiting) (d : Answered) → Held c (answeredEffect c n d)
-unfolding answeredEffect finishedOf askingOf fetching
-answered-held c n answered.Wrong = refused-held c n error.WrongAnswer
-answered-held c n answered.Moves = record { held = λ h. never h }
-answered-held c n (answered.Gives v) = record { held = λ h. never h }
-answered-held c n (answered.Returns e v) = record { held = λ h. never h }
-answered-held c n (answered.SendIpi r) = record { held = λ h. never h }
-answered-held c n (answered.Print k) = record { held = λ h. never h }
-answered-held c n (answered.CopyOut at k) = record { held = λ h. never h }
-
-external-held : (c : Csrs) (v : ℕ) → Held c (externalOf c v)
-unfolding externalOf finishedOf fetching
-external-held c v = record { held = λ h. never h }
-
-other-held : (c : Csrs) (k : Bool) → Held c (otherOf c k)
-unfolding otherOf failedOf fetching
-other-held c true = record { held = λ h. never h }
-other-held c false = record { held = λ h. never h }
+answered-held : (c : Csrs) (d : Answered) → Held c (answeredEffect c d)
+unfolding answeredEffect movesOf givesOf returnsOf asksOf finishedOf askingOf fetching
+answered-held c answered.Moves = record { held = λ h. never h }
+answered-held c (answered.Gives v) = record { held = λ h. never h }
+answered-held c (answered.Returns e v) = record { held = λ h. never h }
+answered-held c (answered.SendIpi r) = record { held = λ h. never h }
+answered-held c (answered.Print k) = record { held = λ h. never h }
+answered-held c (answered.CopyOut at k) = record { held = λ h. never h }
 
 mmio-held : (x : List ℕ) (c : Csrs) (at : GuestPhysAddr) (k : Access) (i : Trapped) → Held c (mmioOf x c at k i)
 unfolding mmioOf
 mmio-held x c at k i = fault-held c at k _
 
-sbi-held : (c : Csrs) (eid fid : ℕ) (a : Args) (room : ℕ) → Held c (sbiOf c eid fid a room)
-unfolding sbiOf
-sbi-held c eid fid a room = subst (Held c) (ecall-decided c eid fid a room) (call-held c eid fid a _)
-
-cause-held : (x : List ℕ) (c : Csrs) (t : Trap) → Held c (trapOf x c t)
-unfolding trapOf stimecmpOf pageFaultOf
-cause-held x c t =
-    either (eqb (t .scause) envCallFromVs) (sbi-held c _ _ _ _)
-    (either (eqb (t .scause) virtualInstruction) (csr-held c _)
-    (either (eqb (t .scause) loadGuestPageFault) (mmio-held x c _ _ _)
-    (either (eqb (t .scause) storeGuestPageFault) (mmio-held x c _ _ _)
-    (either (eqb (t .scause) supervisorSoft) (external-held c _)
-    (either (eqb (t .scause) supervisorTimer) (external-held c _)
-    (either (eqb (t .scause) supervisorExt) (external-held c _)
-    (other-held c _)))))))
+class-held : (k : Class) (x : List ℕ) (c : Csrs) (t : Trap) → Held c (classEffect k x c t)
+unfolding classEffect virtualEffect pageFaultOf finishedOf failedOf fetching
+class-held class.Ecall x c t = ecall-row (Held c) c _ _ _ (call-held c _ _ _) (t .room)
+class-held class.VirtualInstruction x c t = csr-held c _
+class-held (class.PageFault k) x c t = mmio-held x c _ k _
+class-held class.Interrupt x c t = record { held = λ h. never h }
+class-held class.NotHandled x c t = record { held = λ h. never h }
+class-held class.Unknown x c t = record { held = λ h. never h }
 
 start-held : (x : List ℕ) (c : Csrs) (n : Waiting) (t : Trap) → Held c (startEffect x c n t)
-unfolding startEffect trapOf
-start-held x c n t = either (isIdle n) (cause-held x c t) (refused-held c n error.BadState)
+unfolding startEffect
+start-held x c n t = either (isIdle n) (class-held (classOf (t .scause)) x c t) (refused-held c n error.BadState)
 
-resumed-held : (x : List ℕ) (c : Csrs) (n : Waiting) (w : ℕ) → Held c (resumedOf x c n w)
-unfolding resumedOf
+resumed-held : (x : List ℕ) (c : Csrs) (n : Waiting) (w : ℕ) → Held c (wordEffect x c n w)
+unfolding wordEffect
 resumed-held x c waiting.Idle w = refused-held c _ error.WrongAnswer
 resumed-held x c (waiting.Load rd l s) w = refused-held c _ error.WrongAnswer
 resumed-held x c waiting.FetchCsr w = csr-held c _
 resumed-held x c (waiting.FetchFault at k) w = mmio-held x c at k _
-resumed-held x c waiting.CopyMask w = refused-held c _ error.WrongAnswer
-resumed-held x c (waiting.CopyIn j) w = refused-held c _ error.WrongAnswer
-resumed-held x c (waiting.Print j) w = refused-held c _ error.WrongAnswer
-resumed-held x c (waiting.ReadConsole j at) w = refused-held c _ error.WrongAnswer
-resumed-held x c (waiting.CopyOut j) w = refused-held c _ error.WrongAnswer
-resumed-held x c waiting.PutChar w = refused-held c _ error.WrongAnswer
-resumed-held x c waiting.PutByte w = refused-held c _ error.WrongAnswer
-resumed-held x c waiting.GetChar w = refused-held c _ error.WrongAnswer
-resumed-held x c waiting.Forward w = refused-held c _ error.WrongAnswer
+resumed-held x c (waiting.Ecall a) w = refused-held c _ error.WrongAnswer
 
-fetched-held : (x : List ℕ) (c : Csrs) (n : Waiting) (f : Fetch) → Held c (fetchedOf x c n f)
-unfolding fetchedOf
+numbers-held : (c : Csrs) (n : Waiting) (word more : ℕ) → Held c (numbersEffect c n word more)
+unfolding numbersEffect
+numbers-held c (waiting.Ecall a) word more = answer-row (Held c) c (answered-held c) a word more
+numbers-held c waiting.Idle word more = refused-held c _ error.WrongAnswer
+numbers-held c (waiting.Load rd l s) word more = refused-held c _ error.WrongAnswer
+numbers-held c waiting.FetchCsr word more = refused-held c _ error.WrongAnswer
+numbers-held c (waiting.FetchFault at k) word more = refused-held c _ error.WrongAnswer
+
+fetched-held : (x : List ℕ) (c : Csrs) (n : Waiting) (f : Fetch) → Held c (fetchEffect x c n f)
+unfolding fetchEffect
 fetched-held x c n (fetch.Word w) = resumed-held x c n w
 fetched-held x c n (fetch.Page a) = missed-held c _
 fetched-held x c n (fetch.Access a) = missed-held c _
@@ -203,17 +178,17 @@ fetched-held x c n (fetch.Misaligned a) = missed-held c _
 fetched-held x c n (fetch.GuestPage a) = missed-held c _
 fetched-held x c n fetch.Unhandled = missed-held c _
 
-continued-held : (x : List ℕ) (c : Csrs) (n : Waiting) (a : Answer) → Held c (continuedOf x c n a)
-unfolding continuedOf plainOf
+continued-held : (x : List ℕ) (c : Csrs) (n : Waiting) (a : Answer) → Held c (fittingEffect x c n a)
+unfolding fittingEffect
 continued-held x c n (answer.Fetched f) = fetched-held x c n f
-continued-held x c n (answer.MaskCopied k b) = answered-held c n _
-continued-held x c n (answer.CopiedIn k) = answered-held c n _
-continued-held x c n (answer.Printed e v) = answered-held c n _
-continued-held x c n (answer.ConsoleRead e v) = answered-held c n _
-continued-held x c n (answer.CopiedOut k) = answered-held c n _
-continued-held x c n answer.Emitted = answered-held c n _
-continued-held x c n (answer.Char k) = answered-held c n _
-continued-held x c n (answer.Forwarded e v) = answered-held c n _
+continued-held x c n (answer.MaskCopied k b) = numbers-held c n _ _
+continued-held x c n (answer.CopiedIn k) = numbers-held c n _ _
+continued-held x c n (answer.Printed e v) = numbers-held c n _ _
+continued-held x c n (answer.ConsoleRead e v) = numbers-held c n _ _
+continued-held x c n (answer.CopiedOut k) = numbers-held c n _ _
+continued-held x c n answer.Emitted = numbers-held c n _ _
+continued-held x c n (answer.Char k) = numbers-held c n _ _
+continued-held x c n (answer.Forwarded e v) = numbers-held c n _ _
 
 answer-held : (x : List ℕ) (c : Csrs) (n : Waiting) (a : Answer) → Held c (answerEffect x c n a)
 unfolding answerEffect
@@ -222,17 +197,35 @@ answer-held x c n a =
 
 -- an answer ends a trap in an error only where a fetch waits
 
-goes-on : (c : Csrs) (n : Waiting) (b : Bool) (d : Answered)
-    → inError (pick b (answeredEffect c n d) (refusedOf c n error.WrongAnswer) .reply) ≡ false
-unfolding answeredEffect finishedOf askingOf refusedOf inError endsTrap
-goes-on c n false d = refl
-goes-on c n true answered.Wrong = refl
-goes-on c n true answered.Moves = refl
-goes-on c n true (answered.Gives v) = refl
-goes-on c n true (answered.Returns e v) = refl
-goes-on c n true (answered.SendIpi r) = refl
-goes-on c n true (answered.Print k) = refl
-goes-on c n true (answered.CopyOut at k) = refl
+-- what an answer other than a fetch's does: it ends in no error, and no fetch waits after it unless one did before
+record Goes (n : Waiting) (e : Effect) : Type 0 where
+  on : inError (e .reply) ≡ false
+  still : fetching (e .waiting) ≡ true → fetching n ≡ true
+
+answered-goes : (c : Csrs) (n : Waiting) (d : Answered) → Goes n (answeredEffect c d)
+unfolding answeredEffect movesOf givesOf returnsOf asksOf finishedOf askingOf inError fetching
+answered-goes c n answered.Moves = record { on = refl; still = λ h. never h }
+answered-goes c n (answered.Gives v) = record { on = refl; still = λ h. never h }
+answered-goes c n (answered.Returns e v) = record { on = refl; still = λ h. never h }
+answered-goes c n (answered.SendIpi r) = record { on = refl; still = λ h. never h }
+answered-goes c n (answered.Print k) = record { on = refl; still = λ h. never h }
+answered-goes c n (answered.CopyOut at k) = record { on = refl; still = λ h. never h }
+
+refused-goes : (c : Csrs) (n : Waiting) → Goes n (refusedOf c n error.WrongAnswer)
+unfolding refusedOf leavesOf inError endsTrap
+refused-goes c n = record { on = refl; still = λ h. h }
+
+numbers-goes : (c : Csrs) (n : Waiting) (word more : ℕ) → Goes n (numbersEffect c n word more)
+unfolding numbersEffect
+numbers-goes c (waiting.Ecall a) word more =
+    answer-row (Goes (waiting.Ecall a)) c (answered-goes c (waiting.Ecall a)) a word more
+numbers-goes c waiting.Idle word more = refused-goes c waiting.Idle
+numbers-goes c (waiting.Load rd l s) word more = refused-goes c (waiting.Load rd l s)
+numbers-goes c waiting.FetchCsr word more = refused-goes c waiting.FetchCsr
+numbers-goes c (waiting.FetchFault at k) word more = refused-goes c (waiting.FetchFault at k)
+
+matched-goes : (c : Csrs) (n : Waiting) (b : Bool) (word more : ℕ) → Goes n (pick b (numbersEffect c n word more) (refusedOf c n error.WrongAnswer))
+matched-goes c n b word more = one-of (Goes n) b (numbers-goes c n word more) (refused-goes c n)
 
 contradicts : {A : Type 0} {b : Bool} → b ≡ false → b ≡ true → A
 contradicts p q = never (sym p ∙ q)
@@ -240,85 +233,72 @@ contradicts p q = never (sym p ∙ q)
 fetch-ends : (x : List ℕ) (c : Csrs) (n : Waiting) (f : Fetch)
     → inError (answerEffect x c n (answer.Fetched f) .reply) ≡ true
     → fetching n ≡ true
-unfolding answerEffect waitingAsk answerNumber refusedOf inError endsTrap fetching
+unfolding answerEffect waitingAsk ecallAskNumber answerNumber refusedOf leavesOf inError endsTrap fetching
 fetch-ends x c waiting.Idle f h = h
 fetch-ends x c (waiting.Load rd l s) f h = h
 fetch-ends x c waiting.FetchCsr f h = refl
 fetch-ends x c (waiting.FetchFault at k) f h = refl
-fetch-ends x c waiting.CopyMask f h = h
-fetch-ends x c (waiting.CopyIn j) f h = h
-fetch-ends x c (waiting.Print j) f h = h
-fetch-ends x c (waiting.ReadConsole j at) f h = h
-fetch-ends x c (waiting.CopyOut j) f h = h
-fetch-ends x c waiting.PutChar f h = h
-fetch-ends x c waiting.PutByte f h = h
-fetch-ends x c waiting.GetChar f h = h
-fetch-ends x c waiting.Forward f h = h
+fetch-ends x c (waiting.Ecall asked.CopyMask) f h = h
+fetch-ends x c (waiting.Ecall (asked.CopyIn j)) f h = h
+fetch-ends x c (waiting.Ecall (asked.Print j)) f h = h
+fetch-ends x c (waiting.Ecall (asked.ReadConsole j at)) f h = h
+fetch-ends x c (waiting.Ecall (asked.CopyOut j)) f h = h
+fetch-ends x c (waiting.Ecall asked.PutChar) f h = h
+fetch-ends x c (waiting.Ecall asked.PutByte) f h = h
+fetch-ends x c (waiting.Ecall asked.GetChar) f h = h
+fetch-ends x c (waiting.Ecall asked.Forward) f h = h
 
 answer-ends : (x : List ℕ) (c : Csrs) (n : Waiting) (a : Answer)
     → inError (answerEffect x c n a .reply) ≡ true
     → fetching n ≡ true
-unfolding answerEffect continuedOf plainOf
+unfolding answerEffect fittingEffect
 answer-ends x c n (answer.Fetched f) h = fetch-ends x c n f h
-answer-ends x c n (answer.MaskCopied k b) h = contradicts (goes-on c n (eqb (waitingAsk n) (answerNumber (answer.MaskCopied k b))) _) h
-answer-ends x c n (answer.CopiedIn k) h = contradicts (goes-on c n (eqb (waitingAsk n) (answerNumber (answer.CopiedIn k))) _) h
-answer-ends x c n (answer.Printed e v) h = contradicts (goes-on c n (eqb (waitingAsk n) (answerNumber (answer.Printed e v))) _) h
-answer-ends x c n (answer.ConsoleRead e v) h = contradicts (goes-on c n (eqb (waitingAsk n) (answerNumber (answer.ConsoleRead e v))) _) h
-answer-ends x c n (answer.CopiedOut k) h = contradicts (goes-on c n (eqb (waitingAsk n) (answerNumber (answer.CopiedOut k))) _) h
-answer-ends x c n answer.Emitted h = contradicts (goes-on c n (eqb (waitingAsk n) (answerNumber answer.Emitted)) _) h
-answer-ends x c n (answer.Char k) h = contradicts (goes-on c n (eqb (waitingAsk n) (answerNumber (answer.Char k))) _) h
-answer-ends x c n (answer.Forwarded e v) h = contradicts (goes-on c n (eqb (waitingAsk n) (answerNumber (answer.Forwarded e v))) _) h
+answer-ends x c n (answer.MaskCopied k b) h = contradicts (matched-goes c n (eqb (waitingAsk n) (answerNumber (answer.MaskCopied k b))) _ _ .on) h
+answer-ends x c n (answer.CopiedIn k) h = contradicts (matched-goes c n (eqb (waitingAsk n) (answerNumber (answer.CopiedIn k))) _ _ .on) h
+answer-ends x c n (answer.Printed e v) h = contradicts (matched-goes c n (eqb (waitingAsk n) (answerNumber (answer.Printed e v))) _ _ .on) h
+answer-ends x c n (answer.ConsoleRead e v) h = contradicts (matched-goes c n (eqb (waitingAsk n) (answerNumber (answer.ConsoleRead e v))) _ _ .on) h
+answer-ends x c n (answer.CopiedOut k) h = contradicts (matched-goes c n (eqb (waitingAsk n) (answerNumber (answer.CopiedOut k))) _ _ .on) h
+answer-ends x c n answer.Emitted h = contradicts (matched-goes c n (eqb (waitingAsk n) (answerNumber answer.Emitted)) _ _ .on) h
+answer-ends x c n (answer.Char k) h = contradicts (matched-goes c n (eqb (waitingAsk n) (answerNumber (answer.Char k))) _ _ .on) h
+answer-ends x c n (answer.Forwarded e v) h = contradicts (matched-goes c n (eqb (waitingAsk n) (answerNumber (answer.Forwarded e v))) _ _ .on) h
 
 -- a fetch waits after an answer only where one waited before it
-
-stays-fetch : (c : Csrs) (n : Waiting) (b : Bool) (d : Answered)
-    → fetching (pick b (answeredEffect c n d) (refusedOf c n error.WrongAnswer) .waiting) ≡ true
-    → fetching n ≡ true
-unfolding answeredEffect finishedOf askingOf refusedOf fetching
-stays-fetch c n false d h = h
-stays-fetch c n true answered.Wrong h = h
-stays-fetch c n true answered.Moves h = never h
-stays-fetch c n true (answered.Gives v) h = never h
-stays-fetch c n true (answered.Returns e v) h = never h
-stays-fetch c n true (answered.SendIpi r) h = never h
-stays-fetch c n true (answered.Print k) h = never h
-stays-fetch c n true (answered.CopyOut at k) h = never h
 
 fetch-fetches : (x : List ℕ) (c : Csrs) (n : Waiting) (f : Fetch)
     → fetching (answerEffect x c n (answer.Fetched f) .waiting) ≡ true
     → fetching n ≡ true
-unfolding answerEffect waitingAsk answerNumber refusedOf fetching
+unfolding answerEffect waitingAsk ecallAskNumber answerNumber refusedOf leavesOf fetching
 fetch-fetches x c waiting.Idle f h = h
 fetch-fetches x c (waiting.Load rd l s) f h = h
 fetch-fetches x c waiting.FetchCsr f h = refl
 fetch-fetches x c (waiting.FetchFault at k) f h = refl
-fetch-fetches x c waiting.CopyMask f h = h
-fetch-fetches x c (waiting.CopyIn j) f h = h
-fetch-fetches x c (waiting.Print j) f h = h
-fetch-fetches x c (waiting.ReadConsole j at) f h = h
-fetch-fetches x c (waiting.CopyOut j) f h = h
-fetch-fetches x c waiting.PutChar f h = h
-fetch-fetches x c waiting.PutByte f h = h
-fetch-fetches x c waiting.GetChar f h = h
-fetch-fetches x c waiting.Forward f h = h
+fetch-fetches x c (waiting.Ecall asked.CopyMask) f h = h
+fetch-fetches x c (waiting.Ecall (asked.CopyIn j)) f h = h
+fetch-fetches x c (waiting.Ecall (asked.Print j)) f h = h
+fetch-fetches x c (waiting.Ecall (asked.ReadConsole j at)) f h = h
+fetch-fetches x c (waiting.Ecall (asked.CopyOut j)) f h = h
+fetch-fetches x c (waiting.Ecall asked.PutChar) f h = h
+fetch-fetches x c (waiting.Ecall asked.PutByte) f h = h
+fetch-fetches x c (waiting.Ecall asked.GetChar) f h = h
+fetch-fetches x c (waiting.Ecall asked.Forward) f h = h
 
 answer-fetches : (x : List ℕ) (c : Csrs) (n : Waiting) (a : Answer)
     → fetching (answerEffect x c n a .waiting) ≡ true
     → fetching n ≡ true
-unfolding answerEffect continuedOf plainOf
+unfolding answerEffect fittingEffect
 answer-fetches x c n (answer.Fetched f) h = fetch-fetches x c n f h
-answer-fetches x c n (answer.MaskCopied k b) h = stays-fetch c n (eqb (waitingAsk n) (answerNumber (answer.MaskCopied k b))) _ h
-answer-fetches x c n (answer.CopiedIn k) h = stays-fetch c n (eqb (waitingAsk n) (answerNumber (answer.CopiedIn k))) _ h
-answer-fetches x c n (answer.Printed e v) h = stays-fetch c n (eqb (waitingAsk n) (answerNumber (answer.Printed e v))) _ h
-answer-fetches x c n (answer.ConsoleRead e v) h = stays-fetch c n (eqb (waitingAsk n) (answerNumber (answer.ConsoleRead e v))) _ h
-answer-fetches x c n (answer.CopiedOut k) h = stays-fetch c n (eqb (waitingAsk n) (answerNumber (answer.CopiedOut k))) _ h
-answer-fetches x c n answer.Emitted h = stays-fetch c n (eqb (waitingAsk n) (answerNumber answer.Emitted)) _ h
-answer-fetches x c n (answer.Char k) h = stays-fetch c n (eqb (waitingAsk n) (answerNumber (answer.Char k))) _ h
-answer-fetches x c n (answer.Forwarded e v) h = stays-fetch c n (eqb (waitingAsk n) (answerNumber (answer.Forwarded e v))) _ h
+answer-fetches x c n (answer.MaskCopied k b) h = matched-goes c n (eqb (waitingAsk n) (answerNumber (answer.MaskCopied k b))) _ _ .still h
+answer-fetches x c n (answer.CopiedIn k) h = matched-goes c n (eqb (waitingAsk n) (answerNumber (answer.CopiedIn k))) _ _ .still h
+answer-fetches x c n (answer.Printed e v) h = matched-goes c n (eqb (waitingAsk n) (answerNumber (answer.Printed e v))) _ _ .still h
+answer-fetches x c n (answer.ConsoleRead e v) h = matched-goes c n (eqb (waitingAsk n) (answerNumber (answer.ConsoleRead e v))) _ _ .still h
+answer-fetches x c n (answer.CopiedOut k) h = matched-goes c n (eqb (waitingAsk n) (answerNumber (answer.CopiedOut k))) _ _ .still h
+answer-fetches x c n answer.Emitted h = matched-goes c n (eqb (waitingAsk n) (answerNumber answer.Emitted)) _ _ .still h
+answer-fetches x c n (answer.Char k) h = matched-goes c n (eqb (waitingAsk n) (answerNumber (answer.Char k))) _ _ .still h
+answer-fetches x c n (answer.Forwarded e v) h = matched-goes c n (eqb (waitingAsk n) (answerNumber (answer.Forwarded e v))) _ _ .still h
 
 -- what an error leaves of a record
 
-tallied : (k : List ℕ) {y : Event} → AtMostIllegal y → Counted k (counted k y)
+tallied : (k : List ℕ) {y : Event} → AtMostIllegal y → Tallied k (counted k y)
 unfolding counted bumped eventNumber
 tallied k leaves.quiet = same
 tallied k leaves.illegal = illegal
@@ -359,13 +339,13 @@ unfolding applied stored counted bumped eventNumber
 still-record u e s =
     (ap (λ w. stored (u .x) w) (s .writes), s .csrs, ap (λ k. counted (u .counts) k) (s .event))
 
-start-carries : (v : Vcpu) (t : Trap) → Carries v (startOf v t .vcpu)
-unfolding startOf applied
+start-carries : (v : Vcpu) (t : Trap) → Carries v (calledOf v (hostCall.Start t) .vcpu)
+unfolding calledOf effectOf applied
 start-carries v t =
     record { carries = λ h. still-record v _ (start-held (v .x) (v .csrs) (v .waiting) t .held h) }
 
-answer-carries : (v u : Vcpu) (a : Answer) → Carries v u → Carries v (answerOf u a .vcpu)
-unfolding answerOf applied
+answer-carries : (v u : Vcpu) (a : Answer) → Carries v u → Carries v (calledOf u (hostCall.Answer a) .vcpu)
+unfolding calledOf effectOf applied
 answer-carries v u a k =
     record {
       carries = λ h.
@@ -380,16 +360,16 @@ over-from v u w s o =
       x = o .x ∙ s .0;
       csrs = o .csrs ∙ s .1;
       waiting = o .waiting;
-      counts = subst (λ (k : List ℕ). Counted k (w .counts)) (s .2) (o .counts);
+      counts = subst (λ (k : List ℕ). Tallied k (w .counts)) (s .2) (o .counts);
     }
 
-start-over : (v : Vcpu) (t : Trap) → inError (startOf v t .reply) ≡ true → Over v (startOf v t .vcpu)
-unfolding startOf applied
+start-over : (v : Vcpu) (t : Trap) → inError (calledOf v (hostCall.Start t) .reply) ≡ true → Over v (calledOf v (hostCall.Start t) .vcpu)
+unfolding calledOf effectOf applied
 start-over v t h =
     over-by v (startEffect (v .x) (v .csrs) (v .waiting) t) _ h (start-sound (v .x) (v .csrs) (v .waiting) t .says)
 
-answer-over : (v u : Vcpu) (a : Answer) → Carries v u → inError (answerOf u a .reply) ≡ true → Over v (answerOf u a .vcpu)
-unfolding answerOf applied
+answer-over : (v u : Vcpu) (a : Answer) → Carries v u → inError (calledOf u (hostCall.Answer a) .reply) ≡ true → Over v (calledOf u (hostCall.Answer a) .vcpu)
+unfolding calledOf effectOf applied
 answer-over v u a k h =
     over-from v u _ (k .carries (answer-ends (u .x) (u .csrs) (u .waiting) a h))
     (over-by u (answerEffect (u .x) (u .csrs) (u .waiting) a) _ h (answer-sound (u .x) (u .csrs) (u .waiting) a .says))
@@ -399,11 +379,11 @@ carried-over : (v : Vcpu) (o : Outcome) → (inError (o .reply) ≡ true → Ove
 unfolding carried
 carried-over v o f k [] h = f h
 carried-over v o f k (a ∷ l) h =
-    carried-over v (answerOf (o .vcpu) a) (answer-over v (o .vcpu) a k) (answer-carries v (o .vcpu) a k) l h
+    carried-over v (calledOf (o .vcpu) (hostCall.Answer a)) (answer-over v (o .vcpu) a k) (answer-carries v (o .vcpu) a k) l h
 
 -- a trap that ends in an error changes no register and no CSR, counts at most event 2, and nothing waits after it
 pub error-changes-nothing : (v : Vcpu) (t : Trap) (l : List Answer)
     → inError (wholeOf v t l .reply) ≡ true
     → Over v (wholeOf v t l .vcpu)
 unfolding wholeOf
-error-changes-nothing v t l h = carried-over v (startOf v t) (start-over v t) (start-carries v t) l h
+error-changes-nothing v t l h = carried-over v (calledOf v (hostCall.Start t)) (start-over v t) (start-carries v t) l h

@@ -9,15 +9,14 @@ use lib.ListN.{getD, set, length, length-set}
 use lib.Seq.{getD-set-same, getD-set-other}
 use lib.Dec.{eqb, ltb}
 use borrow.Author.Tests.{eqb-true, eqb-false, ne-eqb, lt-ltb}
+use Rattle.demand3_table.specs.Turns.{Turn, call, print}
 use Rattle.isa_types.specs.Pick.{pick, wrapped}
-use Rattle.scope.specs.declared.machine.Outcome.{Outcome}
 use Rattle.scope.specs.declared.machine.Vcpu.{Vcpu}
 use Rattle.scope.specs.Record.{bumped, counted, applied}
-use Rattle.demand3_table.specs.Calls.{Call}
 use Rattle.demand3_table.specs.Runs.{stepOf, runOf}
-use Rattle.demand3.specs.Bridge.{outcome-applied}
 use Rattle.demand3.specs.Kinds.{kindOf, traps}
 use Rattle.demand3.specs.Events.{event-kind}
+use Rattle.scope.specs.Calls.{calledOf}
 
 -- the counts of a record: nine numbers below 2^64
 pub record Counted (k : List ℕ) : Type 0 where
@@ -63,16 +62,16 @@ module _ (k : List ℕ) (h : Counted k) where
       }
 
 -- one call
-next-counts : (v : Vcpu) (c : Call) → stepOf v c .counts ≡ bumped (v .counts) (kindOf v c)
-unfolding stepOf applied counted
-next-counts v c =
-    ap (λ (o : Outcome). o .vcpu .counts) (outcome-applied v c) ∙ ap (bumped (v .counts)) (event-kind v c)
+next-counts : (v : Vcpu) (c : Turn) → stepOf v c .counts ≡ bumped (v .counts) (kindOf v c)
+unfolding stepOf kindOf calledOf applied counted bumped
+next-counts v (call c) = ap (bumped (v .counts)) (event-kind v c)
+next-counts v (print buffer) = refl
 
 folded : (a b n : ℕ) → (wrapped (a + b) + n) % 2 ^ 64 ≡ wrapped (a + (b + n))
 folded a b n = mod-add-mod (a + b) (2 ^ 64) n ∙ ap wrapped (add-assoc a b n)
 
 -- count i, from 0 to 8, is of kind i + 1
-pub counts : (v : Vcpu) (cs : List Call) (i : ℕ) → Counted (v .counts) → i < 9 → getD (runOf v cs .counts) i 0 ≡ wrapped (getD (v .counts) i 0 + traps (suc i) v cs)
+pub counts : (v : Vcpu) (cs : List Turn) (i : ℕ) → Counted (v .counts) → i < 9 → getD (runOf v cs .counts) i 0 ≡ wrapped (getD (v .counts) i 0 + traps (suc i) v cs)
 unfolding runOf traps
 counts v [] i h lt = sym (simp add-zero (mod-eq-of-lt (h .below i lt)))
 counts v (c ∷ cs) i h lt =

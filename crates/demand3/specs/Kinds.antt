@@ -4,8 +4,9 @@ use mathlib.Core.Bool.{Bool}
 use mathlib.Core.List.{List, [], _∷_}
 use lib.ListN.{getD}
 use lib.Dec.{eqb, ltb}
+use Rattle.demand3_table.specs.Turns.{Turn, call, print}
 use Rattle.isa_types.specs.Pick.{pick, or, and}
-use Rattle.scope.specs.Trap.{answerNumber}
+use Rattle.scope.specs.OneTrap.{answerNumber}
 use Rattle.scope.specs.declared.traps.Answer.{Answer}
 use Rattle.scope.specs.declared.traps.Answer.the-variants as answers
 use Rattle.scope.specs.declared.traps.Fetch.{Fetch}
@@ -13,15 +14,18 @@ use Rattle.scope.specs.declared.traps.Fetch.the-variants as fetch
 use Rattle.scope.specs.declared.traps.Trap.{Trap}
 use Rattle.isa_consts.specs.Csr.{systemOpcode, stimecmp}
 use Rattle.isa_consts.specs.Sbi.{legacySetTimer, eidTime, eidRfnc}
-use Rattle.isa_consts.specs.Traps.{envCallFromVs, virtualInstruction}
 use Rattle.isa_fields.specs.Fields.{opcodeField, funct3Field, csrField}
 use Rattle.scope.specs.declared.machine.Vcpu.{Vcpu}
 use Rattle.scope.specs.declared.machine.Waiting.{Waiting}
 use Rattle.scope.specs.declared.machine.Waiting.the-variants as waiting
 use Rattle.scope.specs.Record.{isIdle, waitingAsk}
-use Rattle.demand3_table.specs.Calls.{Call, setup, setEntry, getGpr, setGpr, setReturn, paging, pending, latch, completeIpi, start, answer, completeLoad, print}
 use Rattle.demand3_table.specs.Table.{a6, a7}
 use Rattle.demand3_table.specs.Runs.{stepOf}
+use Rattle.scope.specs.declared.decided.Class.{Class}
+use Rattle.scope.specs.declared.hosts.HostCall.{HostCall}
+use Rattle.scope.specs.declared.decided.Class.the-variants as class
+use Rattle.scope.specs.Classes.{classOf}
+use Rattle.scope.specs.declared.hosts.HostCall.the-variants as hostCall
 
 -- SBI, 'RFENCE Extension': fids 0 to 6 are kinds 3 to 9 in order; any other fid is of no kind, 0
 unfoldable pub fenceKind : ℕ → ℕ
@@ -52,12 +56,14 @@ wordKind w = pick (onStimecmp w) 0 2
 unfoldable pub stvalKind : ℕ → ℕ
 stvalKind w = pick (eqb (opcodeField w) systemOpcode) (wordKind w) 0
 
--- a trap at its start, by scause
-unfoldable pub causeKind : ℕ → List ℕ → Trap → ℕ
-causeKind scause x t =
-    pick (eqb scause envCallFromVs) (ecallKind (getD x a7 0) (getD x a6 0))
-    (pick (eqb scause virtualInstruction) (stvalKind (t .stval % 2 ^ 32))
-    0)
+-- a trap at its start, by class
+unfoldable pub classKind : Class → List ℕ → Trap → ℕ
+classKind class.Ecall x t = ecallKind (getD x a7 0) (getD x a6 0)
+classKind class.VirtualInstruction x t = stvalKind (t .stval % 2 ^ 32)
+classKind (class.PageFault k) x t = 0
+classKind class.Interrupt x t = 0
+classKind class.NotHandled x t = 0
+classKind class.Unknown x t = 0
 
 -- a word fetched under 22
 unfoldable pub waitingKind : Waiting → ℕ → ℕ
@@ -65,15 +71,7 @@ waitingKind waiting.FetchCsr w = wordKind w
 waitingKind waiting.Idle w = 0
 waitingKind (waiting.Load rd width s) w = 0
 waitingKind (waiting.FetchFault at k) w = 0
-waitingKind waiting.CopyMask w = 0
-waitingKind (waiting.CopyIn n) w = 0
-waitingKind (waiting.Print n) w = 0
-waitingKind (waiting.ReadConsole n at) w = 0
-waitingKind (waiting.CopyOut n) w = 0
-waitingKind waiting.PutChar w = 0
-waitingKind waiting.PutByte w = 0
-waitingKind waiting.GetChar w = 0
-waitingKind waiting.Forward w = 0
+waitingKind (waiting.Ecall a) w = 0
 
 -- a fetch that fails is of no kind
 unfoldable pub fetchKind : Waiting → Fetch → ℕ
@@ -97,22 +95,25 @@ answerKind n (answers.Char number) = 0
 answerKind n (answers.Forwarded error value) = 0
 
 -- the kind of trap that a call starts or carries on; a refused call is of none
-unfoldable pub kindOf : Vcpu → Call → ℕ
-kindOf v (start t) = pick (isIdle (v .waiting)) (causeKind (t .scause) (v .x) t) 0
-kindOf v (answer a) = pick (eqb (waitingAsk (v .waiting)) (answerNumber a)) (answerKind (v .waiting) a) 0
-kindOf v setup = 0
-kindOf v (setEntry entry) = 0
-kindOf v (getGpr index) = 0
-kindOf v (setGpr index value) = 0
-kindOf v (setReturn value) = 0
-kindOf v (paging levels mode root) = 0
-kindOf v (pending vector on) = 0
-kindOf v (latch bits) = 0
-kindOf v (completeIpi abi completion) = 0
-kindOf v (completeLoad n) = 0
+unfoldable pub callKind : Vcpu → HostCall → ℕ
+callKind v (hostCall.Start t) = pick (isIdle (v .waiting)) (classKind (classOf (t .scause)) (v .x) t) 0
+callKind v (hostCall.Answer a) = pick (eqb (waitingAsk (v .waiting)) (answerNumber a)) (answerKind (v .waiting) a) 0
+callKind v hostCall.Setup = 0
+callKind v (hostCall.SetEntry at) = 0
+callKind v (hostCall.GetGpr index) = 0
+callKind v (hostCall.SetGpr index value) = 0
+callKind v (hostCall.SetReturnValue value) = 0
+callKind v (hostCall.SetNestedPageTable levels mode root) = 0
+callKind v (hostCall.SetPending vector level) = 0
+callKind v (hostCall.LatchHvip bits) = 0
+callKind v (hostCall.CompleteIpi abi completion) = 0
+callKind v (hostCall.CompleteLoad n) = 0
+
+unfoldable pub kindOf : Vcpu → Turn → ℕ
+kindOf v (call c) = callKind v c
 kindOf v (print buffer) = 0
 
 -- how many traps of a kind a sequence has
-unfoldable pub traps : ℕ → Vcpu → List Call → ℕ
+unfoldable pub traps : ℕ → Vcpu → List Turn → ℕ
 traps kind v [] = 0
 traps kind v (c ∷ cs) = pick (eqb (kindOf v c) kind) 1 0 + traps kind (stepOf v c) cs

@@ -1,4 +1,3 @@
-pub mod Bridge
 pub mod Sequences
 pub mod Third
 pub mod Symmetric

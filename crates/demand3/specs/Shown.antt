@@ -5,8 +5,9 @@ use mathlib.Core.List.{List, [], _∷_, _++_}
 use mathlib.Core.Path.{_≡_}
 use lib.ListN.{getD, set, replicate}
 use lib.Dec.{eqb}
+use Rattle.demand3_table.specs.Turns.{Turn, call}
 use Rattle.isa_types.specs.Pick.{pick, and}
-use Rattle.scope.specs.Trap.{exitNumber, askNumber}
+use Rattle.scope.specs.OneTrap.{exitNumber, askNumber}
 use Rattle.scope.specs.Refusals.{errorNumber}
 use Rattle.scope.specs.declared.traps.Ask.{Ask}
 use Rattle.scope.specs.declared.traps.Ask.the-variants as ask
@@ -19,14 +20,14 @@ use Rattle.isa_consts.specs.Csr.{setupSstatus, setupHstatus, setupHie}
 use Rattle.scope.specs.declared.machine.Vcpu.{Vcpu}
 use Rattle.scope.specs.declared.machine.Waiting.the-variants as waiting
 use Rattle.scope.specs.Record.{listed}
-use Rattle.demand3_table.specs.Calls.{Call, start}
 use Rattle.demand3_table.specs.Table.{namesOf}
 use Rattle.demand3_table.specs.Runs.{Sight, runOf, seenOf, among, Untouched}
 use Rattle.demand3_table.specs.Alike.{Alike}
+use Rattle.scope.specs.declared.hosts.HostCall.the-variants as hostCall
 
 -- a zero record after setup, with vstimecmp 7 and these registers
-abbrev pub recordOf : List ℕ → Vcpu
-recordOf x =
+abbrev pub exampleRecord : List ℕ → Vcpu
+exampleRecord x =
     record {
       x = x;
       csrs =
@@ -50,7 +51,7 @@ replies (s ∷ ss) = s .reply ∷ replies ss
 
 -- the premises of demand 3 hold of a record, its other one with n in r, and a sequence that gives these replies; r differs
 -- before and after
-pub record Met (r n : ℕ) (v : Vcpu) (cs : List Call) (rs : List Reply) : Type 0 where
+pub record Met (r n : ℕ) (v : Vcpu) (cs : List Turn) (rs : List Reply) : Type 0 where
   pub alike : Alike r v (other r n v)
   pub untouched : Untouched r v cs
   pub seen : replies (seenOf v cs) ≡ rs
@@ -94,7 +95,7 @@ sightNumbers [] = []
 sightNumbers (s ∷ ss) = replyNumbers (s .reply) ++ (s .args ++ sightNumbers ss)
 
 -- what tells two runs apart: the timer, then all that the host saw
-unfoldable pub toldOf : Vcpu → List Call → List ℕ
+unfoldable pub toldOf : Vcpu → List Turn → List ℕ
 toldOf v cs = runOf v cs .csrs .vs .vstimecmp ∷ sightNumbers (seenOf v cs)
 
 unfoldable pub sameList : List ℕ → List ℕ → Bool
@@ -109,13 +110,13 @@ pub record Row : Type 0 where
   pub content : ℕ
   pub before : Vcpu
   pub trap : Trap
-  pub later : List Call
+  pub later : List Turn
 
 -- the trap names the register, and what the runs tell differs
 unfoldable pub matters : Row → Bool
 matters k =
-    and (among (k .register) (namesOf (k .before) (start (k .trap))))
-    (pick (sameList (toldOf (k .before) (start (k .trap) ∷ k .later)) (toldOf (other (k .register) (k .content) (k .before)) (start (k .trap) ∷ k .later))) false true)
+    and (among (k .register) (namesOf (k .before) (call (hostCall.Start (k .trap)))))
+    (pick (sameList (toldOf (k .before) (call (hostCall.Start (k .trap)) ∷ k .later)) (toldOf (other (k .register) (k .content) (k .before)) (call (hostCall.Start (k .trap)) ∷ k .later))) false true)
 
 unfoldable pub allMatter : List Row → Bool
 allMatter [] = true

@@ -4,18 +4,22 @@ use mathlib.Core.List.{List, [], _∷_}
 use mathlib.Core.Path.{_≡_, refl, ap, subst, _∙_}
 use lib.ListN.{getD}
 use lib.Dec.{eqb, leb}
+use Rattle.demand3_table.specs.Turns.{Turn, call, print}
 use Rattle.scope.specs.declared.traps.Trap.{Trap}
 use Rattle.isa_consts.specs.Sbi.{legacySetTimer, legacyPutchar, legacySendIpi, legacyShutdown, eidTime, eidSpi, eidHsm, eidHvc, eidSrst, eidDbcn, eidRfnc, eidPmu}
-use Rattle.isa_consts.specs.Traps.{envCallFromVs}
 use Rattle.scope.specs.declared.machine.Vcpu.{Vcpu}
 use Rattle.scope.specs.declared.machine.Waiting.{Waiting}
 use Rattle.scope.specs.Record.{isIdle}
-use Rattle.demand3_table.specs.Calls.{Call, setup, setEntry, getGpr, setGpr, setReturn, paging, pending, latch, completeIpi, start, answer, completeLoad, print}
-use Rattle.demand3_table.specs.Table.{a6, a7, timeNames, srstNames, spiNames, hsmNames, dbcnNames, eidNames, ecallNames, causeNames, answerNames, namesOf}
+use Rattle.demand3_table.specs.Table.{a6, a7, timeNames, srstNames, spiNames, hsmNames, dbcnNames, eidNames, ecallNames, answerNames, namesOf, callNames, classNames}
 use Rattle.demand3_table.specs.Runs.{stepOf, Apart, Untouched}
 use Rattle.demand3_table.specs.Alike.{Files, Alike}
 use Rattle.demand3_table.specs.Agree.{first, rest, parted}
 use Rattle.demand3.specs.Sequences.{next-alike}
+use Rattle.scope.specs.declared.decided.Class.{Class}
+use Rattle.scope.specs.declared.hosts.HostCall.{HostCall}
+use Rattle.scope.specs.declared.decided.Class.the-variants as class
+use Rattle.scope.specs.Classes.{classOf}
+use Rattle.scope.specs.declared.hosts.HostCall.the-variants as hostCall
 
 -- the names of a call that does not name r are the same on both records
 
@@ -48,30 +52,39 @@ module _ {r : ℕ} {x y : List ℕ} (f : Files r x y) where
   ecall-names h =
       ap (λ (l : List ℕ). a7 ∷ l) (eid-names (getD x a7 0) (rest h) ∙ ap (λ e. eidNames e (getD y a6 0)) (f .agree a7 (first h)))
 
-  cause-names : (scause : ℕ) (t : Trap) → Apart r (causeNames scause x t) → causeNames scause x t ≡ causeNames scause y t
-  unfolding causeNames
-  cause-names scause t h = parted (eqb scause envCallFromVs) same same h ecall-names (λ h. refl)
+  class-names : (k : Class) (t : Trap) → Apart r (classNames k x t) → classNames k x t ≡ classNames k y t
+  unfolding classNames
+  class-names class.Ecall t h = ecall-names h
+  class-names class.VirtualInstruction t h = refl
+  class-names (class.PageFault k) t h = refl
+  class-names class.Interrupt t h = refl
+  class-names class.NotHandled t h = refl
+  class-names class.Unknown t h = refl
 
-names-alike : (r : ℕ) (v w : Vcpu) (c : Call) → Alike r v w → Apart r (namesOf v c) → namesOf v c ≡ namesOf w c
+call-names : (r : ℕ) (v w : Vcpu) (c : HostCall) → Alike r v w → Apart r (callNames v c) → callNames v c ≡ callNames w c
+unfolding callNames
+call-names r v w (hostCall.Start t) a h =
+    rw (← (a .waiting)) (parted (isIdle (v .waiting)) (λ l. l) (λ l. l) h (class-names (a .files) (classOf (t .scause)) t) (λ h. refl))
+call-names r v w (hostCall.Answer n) a h = ap (λ (k : Waiting). answerNames k n) (a .waiting)
+call-names r v w hostCall.Setup a h = refl
+call-names r v w (hostCall.SetEntry at) a h = refl
+call-names r v w (hostCall.GetGpr index) a h = refl
+call-names r v w (hostCall.SetGpr index value) a h = refl
+call-names r v w (hostCall.SetReturnValue value) a h = refl
+call-names r v w (hostCall.SetNestedPageTable levels mode root) a h = refl
+call-names r v w (hostCall.SetPending vector level) a h = refl
+call-names r v w (hostCall.LatchHvip bits) a h = refl
+call-names r v w (hostCall.CompleteIpi abi completion) a h = refl
+call-names r v w (hostCall.CompleteLoad n) a h = refl
+
+names-alike : (r : ℕ) (v w : Vcpu) (c : Turn) → Alike r v w → Apart r (namesOf v c) → namesOf v c ≡ namesOf w c
 unfolding namesOf
-names-alike r v w (start t) a h =
-    rw (← (a .waiting)) (parted (isIdle (v .waiting)) (λ l. l) (λ l. l) h (cause-names (a .files) (t .scause) t) (λ h. refl))
-names-alike r v w (answer n) a h = ap (λ (k : Waiting). answerNames k n) (a .waiting)
-names-alike r v w setup a h = refl
-names-alike r v w (setEntry entry) a h = refl
-names-alike r v w (getGpr index) a h = refl
-names-alike r v w (setGpr index value) a h = refl
-names-alike r v w (setReturn value) a h = refl
-names-alike r v w (paging levels mode root) a h = refl
-names-alike r v w (pending vector on) a h = refl
-names-alike r v w (latch bits) a h = refl
-names-alike r v w (completeIpi abi completion) a h = refl
-names-alike r v w (completeLoad n) a h = refl
+names-alike r v w (call c) a h = call-names r v w c a h
 names-alike r v w (print buffer) a h = refl
 
 -- a sequence that leaves r untouched on the one record does so on the other
-pub untouched-alike : (r : ℕ) (v w : Vcpu) (cs : List Call) → Alike r v w → Untouched r v cs → Untouched r w cs
+pub untouched-alike : (r : ℕ) (v w : Vcpu) (cs : List Turn) → Alike r v w → Untouched r v cs → Untouched r w cs
 unfolding Untouched
 untouched-alike r v w [] a u = tt
 untouched-alike r v w (c ∷ cs) a u =
-    (subst (λ (l : List ℕ). Apart r l) (names-alike r v w c a (u .0)) (u .0), u .1, untouched-alike r (stepOf v c) (stepOf w c) cs (next-alike r v w c a (u .0) (u .1)) (u .2))
+    (subst (λ (l : List ℕ). Apart r l) (names-alike r v w c a (u .0)) (u .0), u .1, untouched-alike r (stepOf v c) (stepOf w c) cs (next-alike r v w a c (u .0) (u .1)) (u .2))

@@ -5,13 +5,13 @@ use mathlib.Core.Bool.{true, false}
 use mathlib.Core.List.{List, _++_}
 use mathlib.Core.Path.{_≡_}
 use lib.ListN.{getD}
+use Rattle.demand3_table.specs.Turns.{Turn}
 use Rattle.scope.specs.declared.machine.Vcpu.{Vcpu}
-use Rattle.demand3_table.specs.Calls.{Call}
 use Rattle.demand3_table.specs.Runs.{runOf, seenOf, Untouched, written}
 use Rattle.demand3_table.specs.Alike.{Alike}
 use Rattle.demand3.specs.Sequences as sequences
 
-pub record Third (r : ℕ) (v w : Vcpu) (cs : List Call) : Type 0 where
+pub record Third (r : ℕ) (v w : Vcpu) (cs : List Turn) : Type 0 where
   -- all exits, host requests and refusals agree, with the hypercall array and the bytes printed
   pub sights : seenOf v cs ≡ seenOf w cs
   -- counts, CSRs, the waiting part and the other registers agree
@@ -24,10 +24,10 @@ pub record Third (r : ℕ) (v w : Vcpu) (cs : List Call) : Type 0 where
   pub joins : written r v cs ≡ true → runOf v cs ≡ runOf w cs
 
 -- if no trap in the sequence names r and no call reads it out, this holds after each of its beginnings
-pub third : (r : ℕ) (v w : Vcpu) (front back : List Call) → Alike r v w → Untouched r v (front ++ back) → Third r v w front
+pub third : (r : ℕ) (v w : Vcpu) (front back : List Turn) → Alike r v w → Untouched r v (front ++ back) → Third r v w front
 third r v w front back a u = whole r v w front a (sequences.beginning r v front back u)
   where
-    whole : (r : ℕ) (v w : Vcpu) (cs : List Call) → Alike r v w → Untouched r v cs → Third r v w cs
+    whole : (r : ℕ) (v w : Vcpu) (cs : List Turn) → Alike r v w → Untouched r v cs → Third r v w cs
     whole r v w cs a u =
         record {
           sights = sequences.sights r v w cs a u;

@@ -6,9 +6,10 @@ use mathlib.Core.List.{List, [], _∷_}
 use mathlib.Core.Path.{_≡_, refl, sym, _∙_}
 use lib.ListN.{set, length, replicate, length-set}
 use lib.Seq.{getD-set-other}
-use Rattle.scope.specs.Ecalls.{ecallEffect, timeEffect, spiEffect, hsmEffect, srstEffect, spanEffect, consoleEffect, dbcnEffect, rfncEffect, forwardEffect, notSupportedEffect}
-use Rattle.scope.specs.Trap.{answerNumber, exitNumber, askNumber}
-use Rattle.scope.specs.Refusals.{errorNumber, finishedOf, askingOf, failedOf, refusedOf, doneOf}
+use Rattle.demand3_table.specs.Turns.{Turn, call, print}
+use Rattle.scope.specs.Ecalls.{ecallEffect, timeEffect, spiEffect, hsmEffect, srstEffect, spanEffect, consoleEffect, dbcnEffect, rfncEffect, forwardEffect, notSupportedEffect, standardRequest, lesserOf, returnsOf, movesOf, staysOf, asksOf, setTimerOf, hypercallOf, consoleReadEffect, copiedEffect, copiedOutEffect, ecallAnswer, givesOf}
+use Rattle.scope.specs.OneTrap.{answerNumber, exitNumber, askNumber}
+use Rattle.scope.specs.Refusals.{errorNumber, finishedOf, askingOf, failedOf, refusedOf, doneOf, leavesOf, unlessAsking}
 use Rattle.scope.specs.declared.traps.Answer.the-variants as answers
 use Rattle.scope.specs.declared.traps.Ask.the-variants as ask
 use Rattle.scope.specs.declared.traps.Exit.the-variants as exit
@@ -19,23 +20,20 @@ use Rattle.isa_types.specs.declared.Width.the-variants as width
 use Rattle.isa_consts.specs.Sbi.{eidSpi, eidHsm, eidHvc, eidDbcn, eidRfnc}
 use Rattle.isa_registers.specs.Bits.{spvpOf, sieOf, withBits}
 use Rattle.isa_registers.specs.Values.{guestPageFaultAddr}
-use Rattle.scope.specs.Ecalls.{standardRequest, lesserOf, returnsOf, movesOf, staysOf, asksOf, setTimerOf, hypercallOf, copiedOf, answeredOf, answeredEffect}
 use Rattle.isa_decoder.specs.Laws.{storeSource-store}
 use Rattle.isa_decoder.specs.Examples.{lw-x7, sw-x7, cut-5, cut-6, csrrw-opcode, csrrw-csr, csrrw-funct3, csrrw-rs1, zero-opcode}
 use Rattle.scope.specs.declared.machine.Vcpu.{Vcpu}
-use Rattle.scope.specs.Record.{valueOf, stored, moved, timed, pended, eventNumber, bumped, counted, waitingAsk, isIdle, listed, applied, noArgs}
-use Rattle.scope.specs.Decided.{notSupportedOf, timeOf, spiOf, hsmOf, srstOf, spanOf, consoleOf, dbcnOf, rfncOf, callOf, callEffect}
-use Rattle.scope.specs.FetchFaults.{askFetchOf, missedOf, trapStatusOf, injectedOf, missedEffect}
-use Rattle.scope.specs.VirtualInstruction as virtual
-use Rattle.scope.specs.GuestPageFault.{loadOf, storeOf, faultOf, faultEffect, completedOf}
-use Rattle.scope.specs.Classes.{argumentsOf, sbiOf, stimecmpOf, mmioOf, pageFaultOf, trapOf, startEffect}
-use Rattle.scope.specs.Resume as resume
-use Rattle.scope.specs.Calls.{startOf, answerOf, completeLoadOf, printCount, firstOf, printedOf}
-use Rattle.demand3_table.specs.Calls.{Call, start, answer, completeLoad, print}
-use Rattle.demand3_table.specs.Table.{a0, a1, a2, a3, a4, a5, a7, sourceNames, forwardNames, timeNames, srstNames, spiNames, hsmNames, consoleNames, byteNames, dbcnNames, eidNames, ecallNames, funct3Names, stimecmpNames, storeNames, causeNames, accessNames, wordNames, fetchNames, answerNames, namesOf, readsOf}
-use Rattle.demand3_table.specs.Runs.{unchanged, outcomeOf, bytesOf, sightOf, stepOf, runOf, seenOf, Apart, Untouched}
+use Rattle.scope.specs.Record.{valueOf, stored, moved, timed, pended, eventNumber, bumped, counted, waitingAsk, isIdle, listed, applied, noArgs, ecallAskNumber}
+use Rattle.scope.specs.VirtualInstruction.{askFetchOf, missedOf, trapStatusOf, injectedOf, missedEffect, virtualEffect, clearBits, setBits, stimecmpBy, stimecmpEffect, stimecmpStval, stimecmpWord}
+use Rattle.scope.specs.GuestPageFault.{loadUnder, storeUnder, faultOf, faultEffect, completedOf, mmioOf, pageFaultOf}
+use Rattle.scope.specs.Classes.{argumentsOf, startEffect, classOf, classEffect}
+use Rattle.scope.specs.Calls.{printCount, firstOf, printedOf, calledOf, effectOf, askedCount, gprReply}
+use Rattle.demand3_table.specs.Table.{a0, a1, a2, a3, a4, a5, a7, sourceNames, forwardNames, timeNames, srstNames, spiNames, hsmNames, consoleNames, byteNames, dbcnNames, eidNames, ecallNames, funct3Names, stimecmpNames, storeNames, accessNames, wordNames, fetchNames, answerNames, namesOf, readsOf, callNames, callReads, classNames}
+use Rattle.demand3_table.specs.Runs.{sightOf, stepOf, runOf, seenOf, Apart, Untouched}
 use Rattle.demand3_table.specs.Alike.{Alike}
-use Rattle.demand3.specs.Shown.{recordOf, other, Met, exitNumbers, askNumbers, replyNumbers, sightNumbers, toldOf, sameList, Row, matters, allMatter}
+use Rattle.demand3.specs.Shown.{exampleRecord, other, Met, exitNumbers, askNumbers, replyNumbers, sightNumbers, toldOf, sameList, Row, matters, allMatter}
+use Rattle.scope.specs.Answers.{answerEffect, fetchEffect, fittingEffect, numbersEffect, wordEffect}
+use Rattle.scope.specs.declared.hosts.HostCall.the-variants as hostCall
 
 other-alike : (r n : ℕ) (v : Vcpu) → length (v .x) ≡ 32 → Alike r v (other r n v)
 other-alike r n v h =
@@ -48,7 +46,7 @@ other-alike r n v h =
 
 -- one name that opens what a call goes through; the decoder stays shut
 opened : ℕ
-unfolding answerNumber exitNumber askNumber errorNumber spvpOf sieOf withBits guestPageFaultAddr standardRequest valueOf stored moved timed pended eventNumber bumped counted waitingAsk isIdle listed applied noArgs finishedOf askingOf failedOf refusedOf doneOf notSupportedOf lesserOf timeOf spiOf hsmOf srstOf spanOf consoleOf dbcnOf rfncOf callOf returnsOf movesOf staysOf asksOf setTimerOf hypercallOf callEffect askFetchOf missedOf trapStatusOf injectedOf missedEffect virtual.setOf virtual.clearedOf virtual.stimecmpOf virtual.csrBy virtual.csrOf virtual.startBy virtual.startOf virtual.csrEffect loadOf storeOf faultOf faultEffect copiedOf answeredOf answeredEffect completedOf argumentsOf sbiOf stimecmpOf mmioOf pageFaultOf trapOf startEffect resume.resumedOf resume.fetchedOf resume.plainOf resume.continuedOf resume.answerEffect startOf answerOf completeLoadOf printCount firstOf printedOf sourceNames forwardNames timeNames srstNames spiNames hsmNames consoleNames byteNames dbcnNames eidNames ecallNames funct3Names stimecmpNames storeNames causeNames accessNames wordNames fetchNames answerNames namesOf readsOf unchanged outcomeOf bytesOf sightOf stepOf runOf seenOf Untouched exitNumbers askNumbers replyNumbers sightNumbers toldOf sameList matters allMatter ecallEffect timeEffect spiEffect hsmEffect srstEffect spanEffect consoleEffect dbcnEffect rfncEffect forwardEffect notSupportedEffect
+unfolding answerNumber exitNumber askNumber errorNumber spvpOf sieOf withBits guestPageFaultAddr standardRequest valueOf stored moved timed pended eventNumber bumped counted waitingAsk isIdle listed applied noArgs finishedOf askingOf failedOf refusedOf doneOf lesserOf returnsOf movesOf staysOf asksOf setTimerOf hypercallOf askFetchOf missedOf trapStatusOf injectedOf missedEffect setBits clearBits stimecmpBy stimecmpWord stimecmpStval calledOf effectOf stimecmpEffect loadUnder storeUnder faultOf faultEffect copiedEffect ecallAnswer ecallAskNumber completedOf argumentsOf ecallEffect virtualEffect mmioOf pageFaultOf classOf classEffect startEffect wordEffect fetchEffect numbersEffect fittingEffect answerEffect printCount firstOf printedOf sourceNames forwardNames timeNames srstNames spiNames hsmNames consoleNames byteNames dbcnNames eidNames ecallNames funct3Names stimecmpNames storeNames classNames accessNames wordNames fetchNames answerNames namesOf readsOf sightOf stepOf runOf seenOf Untouched exitNumbers askNumbers replyNumbers sightNumbers toldOf sameList matters allMatter timeEffect spiEffect hsmEffect srstEffect spanEffect consoleEffect dbcnEffect rfncEffect forwardEffect notSupportedEffect leavesOf unlessAsking callNames callReads askedCount givesOf consoleReadEffect copiedOutEffect gprReply
 opened = 0
 
 abbrev zeros : List ℕ
@@ -67,14 +65,14 @@ apart = record { free = refl }
 -- DBCN write with both asks; x5 is 1 and 2
 
 abbrev dbcn : Vcpu
-dbcn = recordOf (set (set (set (set zeros 17 eidDbcn) 10 3) 11 0x8000) 5 1)
+dbcn = exampleRecord (set (set (set (set zeros 17 eidDbcn) 10 3) 11 0x8000) 5 1)
 
-abbrev dbcnCalls : List Call
+abbrev dbcnCalls : List Turn
 dbcnCalls =
-    start ecall
-    ∷ answer (answers.CopiedIn 3)
+    call (hostCall.Start ecall)
+    ∷ call (hostCall.Answer (answers.CopiedIn 3))
     ∷ print (65 ∷ 66 ∷ 67 ∷ 68 ∷ [])
-    ∷ answer (answers.Printed 0 3)
+    ∷ call (hostCall.Answer (answers.Printed 0 3))
     ∷ []
 
 pub dbcn-met : Met 5 2 dbcn dbcnCalls (reply.Ask (ask.CopyIn (record { 0 = 0x8000 }) 3) ∷ reply.Ask (ask.Print 3) ∷ reply.Done ∷ reply.Exit exit.Nothing ∷ [])
@@ -91,10 +89,10 @@ dbcn-met =
 -- a load with its completion, which writes x7
 
 abbrev load : Vcpu
-load = recordOf (set zeros 5 1)
+load = exampleRecord (set zeros 5 1)
 
-abbrev loadCalls : List Call
-loadCalls = start (trapped 21 0 0x2383) ∷ completeLoad 0x8000_0000 ∷ []
+abbrev loadCalls : List Turn
+loadCalls = call (hostCall.Start (trapped 21 0 0x2383)) ∷ call (hostCall.CompleteLoad 0x8000_0000) ∷ []
 
 pub load-met : Met 5 2 load loadCalls (reply.Exit (exit.MmioRead (record { 0 = 0x1000_0000 }) width.Word) ∷ reply.Done ∷ [])
 unfolding opened
@@ -110,10 +108,10 @@ load-met =
 -- a remote fence, counted and forwarded; its a0 to a5 are named, x5 is not
 
 abbrev fence : Vcpu
-fence = recordOf (set (set (set zeros 17 eidRfnc) 16 1) 5 1)
+fence = exampleRecord (set (set (set zeros 17 eidRfnc) 16 1) 5 1)
 
-abbrev fenceCalls : List Call
-fenceCalls = start ecall ∷ answer (answers.Forwarded 0 0) ∷ []
+abbrev fenceCalls : List Turn
+fenceCalls = call (hostCall.Start ecall) ∷ call (hostCall.Answer (answers.Forwarded 0 0)) ∷ []
 
 pub fence-met : Met 5 2 fence fenceCalls (reply.Ask (ask.Forward eidRfnc 1 (record { a0 = 0; a1 = 0; a2 = 0; a3 = 0; a4 = 0; a5 = 0 })) ∷ reply.Exit exit.Nothing ∷ [])
 unfolding opened
@@ -129,10 +127,10 @@ fence-met =
 -- a virtual instruction that must be fetched, and the fetch's page fault is injected
 
 abbrev missed : Vcpu
-missed = recordOf (set zeros 5 1)
+missed = exampleRecord (set zeros 5 1)
 
-abbrev missedCalls : List Call
-missedCalls = start (trapped 22 0 0) ∷ answer (answers.Fetched (fetch.Page (record { 0 = 0x8000_0000 }))) ∷ []
+abbrev missedCalls : List Turn
+missedCalls = call (hostCall.Start (trapped 22 0 0)) ∷ call (hostCall.Answer (answers.Fetched (fetch.Page (record { 0 = 0x8000_0000 })))) ∷ []
 
 pub missed-met : Met 5 2 missed missedCalls (reply.Ask (ask.Fetch (record { 0 = 0x8000_0000 }) true) ∷ reply.Exit exit.Nothing ∷ [])
 unfolding opened
@@ -151,7 +149,7 @@ abbrev calls : ℕ → ℕ → List ℕ
 calls eid fid = set (set zeros 17 eid) 16 fid
 
 abbrev row : ℕ → List ℕ → Row
-row r x = record { register = r; content = 9; before = recordOf x; trap = ecall; later = [] }
+row r x = record { register = r; content = 9; before = exampleRecord x; trap = ecall; later = [] }
 
 -- a7; legacy 0, a0; HVC, a5; sPI 0, a1; HSM 0, a2; DBCN 0, a2
 abbrev rows : List Row
@@ -169,11 +167,11 @@ unfolding opened
 rows-matter = refl
 
 -- csrrw of x5
-pub stimecmp-matters : matters (record { register = 5; content = 9; before = recordOf zeros; trap = trapped 22 0x14D292F3 0; later = [] }) ≡ true
+pub stimecmp-matters : matters (record { register = 5; content = 9; before = exampleRecord zeros; trap = trapped 22 0x14D292F3 0; later = [] }) ≡ true
 unfolding opened
 stimecmp-matters = rw (csrrw-opcode, csrrw-csr, csrrw-funct3, csrrw-rs1)
 
 -- sw of x7
-pub store-matters : matters (record { register = 7; content = 6; before = recordOf (set zeros 7 5); trap = trapped 23 0 0x702023; later = [] }) ≡ true
+pub store-matters : matters (record { register = 7; content = 6; before = exampleRecord (set zeros 7 5); trap = trapped 23 0 0x702023; later = [] }) ≡ true
 unfolding opened
 store-matters = rw (sw-x7, storeSource-store, cut-5, cut-6)

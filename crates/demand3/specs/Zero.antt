@@ -6,6 +6,7 @@ use mathlib.Core.Path.{_≡_, refl, sym}
 use lib.ListN.{getD}
 use lib.Dec.{eqb, leb, ltb}
 use borrow.Author.Tests.{eqb-false, ne-eqb}
+use Rattle.demand3_table.specs.Turns.{Turn, call, print}
 use Rattle.isa_types.specs.Pick.{pick}
 use Rattle.scope.specs.declared.traps.Access.{Access}
 use Rattle.scope.specs.declared.traps.Access.the-variants as access
@@ -16,7 +17,6 @@ use Rattle.scope.specs.declared.traps.Fetch.the-variants as fetch
 use Rattle.scope.specs.declared.traps.Trap.{Trap}
 use Rattle.isa_consts.specs.Csr.{systemOpcode, stimecmp}
 use Rattle.isa_consts.specs.Sbi.{legacySetTimer, legacyPutchar, legacySendIpi, legacyShutdown, eidTime, eidSpi, eidHsm, eidHvc, eidSrst, eidDbcn, eidRfnc, eidPmu}
-use Rattle.isa_consts.specs.Traps.{envCallFromVs, virtualInstruction, storeGuestPageFault}
 use Rattle.isa_fields.specs.Fields.{opcodeField, funct3Field, rs1Field, csrField}
 use Rattle.isa_decoder.specs.Length.{htinstOf, fetchedOf, storeSource}
 use Rattle.scope.specs.declared.machine.Vcpu.{Vcpu}
@@ -25,11 +25,16 @@ use Rattle.scope.specs.declared.machine.Waiting.the-variants as waiting
 use Rattle.scope.specs.declared.machine.Writes.{Writes}
 use Rattle.scope.specs.declared.machine.Writes.the-variants as writes
 use Rattle.scope.specs.Record.{isIdle}
-use Rattle.demand3_table.specs.Calls.{Call, setup, setEntry, getGpr, setGpr, setReturn, paging, pending, latch, completeIpi, start, answer, completeLoad, print}
-use Rattle.demand3_table.specs.Table.{a0, a1, a2, a6, a7, sourceNames, forwardNames, timeNames, srstNames, spiNames, hsmNames, consoleNames, byteNames, dbcnNames, eidNames, ecallNames, funct3Names, stimecmpNames, storeNames, causeNames, accessNames, wordNames, fetchNames, answerNames, namesOf, readsOf}
-use Rattle.demand3_table.specs.Runs.{stepOf, Apart, Untouched, effectOf, wrote, written}
+use Rattle.demand3_table.specs.Table.{a0, a1, a2, a6, a7, sourceNames, forwardNames, timeNames, srstNames, spiNames, hsmNames, consoleNames, byteNames, dbcnNames, eidNames, ecallNames, funct3Names, stimecmpNames, storeNames, accessNames, wordNames, fetchNames, answerNames, namesOf, readsOf, callNames, callReads, classNames}
+use Rattle.demand3_table.specs.Runs.{stepOf, Apart, Untouched, wrote, written, writesOf}
 use Rattle.demand3_table.specs.Alike.{Alike}
 use Rattle.demand3.specs.Third.{Third, third}
+use Rattle.scope.specs.declared.decided.Class.{Class}
+use Rattle.scope.specs.declared.hosts.HostCall.{HostCall}
+use Rattle.isa_decoder.specs.declared.Trapped.{Trapped}
+use Rattle.scope.specs.declared.decided.Class.the-variants as class
+use Rattle.scope.specs.Classes.{classOf}
+use Rattle.scope.specs.declared.hosts.HostCall.the-variants as hostCall
 
 none : Apart 0 []
 none = record { free = refl }
@@ -108,34 +113,28 @@ unfolding stimecmpNames
 zero-stimecmp w =
     picked (eqb (opcodeField w) systemOpcode) (picked (eqb (csrField w) stimecmp) (zero-funct3 (funct3Field w) (rs1Field w)) none) none
 
-zero-cause : (scause : ℕ) (x : List ℕ) (t : Trap) → Apart 0 (causeNames scause x t)
-unfolding causeNames ecallNames storeNames
-zero-cause scause x t =
-    picked (eqb scause envCallFromVs) {l = a7 ∷ eidNames (getD x a7 0) (getD x a6 0)} (record { free = zero-eid (getD x a7 0) (getD x a6 0) .free })
-    (picked (eqb scause virtualInstruction) (zero-stimecmp (t .stval % 2 ^ 32))
-    (picked (eqb scause storeGuestPageFault) (zero-source (storeSource (htinstOf (t .htinst)))) none))
-
-zero-access : (k : Access) (w : ℕ) → Apart 0 (accessNames k w)
+zero-access : (k : Access) (i : Trapped) → Apart 0 (accessNames k i)
 unfolding accessNames storeNames
-zero-access access.Read w = none
-zero-access access.Write w = zero-source (storeSource (fetchedOf w))
-zero-access access.Execute w = none
+zero-access access.Read i = none
+zero-access access.Write i = zero-source (storeSource i)
+zero-access access.Execute i = none
+
+zero-class : (k : Class) (x : List ℕ) (t : Trap) → Apart 0 (classNames k x t)
+unfolding classNames ecallNames
+zero-class class.Ecall x t = record { free = zero-eid (getD x a7 0) (getD x a6 0) .free }
+zero-class class.VirtualInstruction x t = zero-stimecmp (t .stval % 2 ^ 32)
+zero-class (class.PageFault k) x t = zero-access k (htinstOf (t .htinst))
+zero-class class.Interrupt x t = none
+zero-class class.NotHandled x t = none
+zero-class class.Unknown x t = none
 
 zero-word : (n : Waiting) (w : ℕ) → Apart 0 (wordNames n w)
 unfolding wordNames
 zero-word waiting.Idle w = none
 zero-word (waiting.Load rd width s) w = none
 zero-word waiting.FetchCsr w = zero-stimecmp w
-zero-word (waiting.FetchFault at k) w = zero-access k w
-zero-word waiting.CopyMask w = none
-zero-word (waiting.CopyIn n) w = none
-zero-word (waiting.Print n) w = none
-zero-word (waiting.ReadConsole n at) w = none
-zero-word (waiting.CopyOut n) w = none
-zero-word waiting.PutChar w = none
-zero-word waiting.PutByte w = none
-zero-word waiting.GetChar w = none
-zero-word waiting.Forward w = none
+zero-word (waiting.FetchFault at k) w = zero-access k (fetchedOf w)
+zero-word (waiting.Ecall a) w = none
 
 zero-fetch : (n : Waiting) (f : Fetch) → Apart 0 (fetchNames n f)
 unfolding fetchNames
@@ -158,39 +157,47 @@ zero-answer n answers.Emitted = none
 zero-answer n (answers.Char number) = none
 zero-answer n (answers.Forwarded error value) = none
 
-zero-named : (v : Vcpu) (c : Call) → Apart 0 (namesOf v c)
+zero-call-names : (v : Vcpu) (c : HostCall) → Apart 0 (callNames v c)
+unfolding callNames
+zero-call-names v (hostCall.Start t) = picked (isIdle (v .waiting)) (zero-class (classOf (t .scause)) (v .x) t) none
+zero-call-names v (hostCall.Answer a) = zero-answer (v .waiting) a
+zero-call-names v hostCall.Setup = none
+zero-call-names v (hostCall.SetEntry entry) = none
+zero-call-names v (hostCall.GetGpr index) = none
+zero-call-names v (hostCall.SetGpr index value) = none
+zero-call-names v (hostCall.SetReturnValue value) = none
+zero-call-names v (hostCall.SetNestedPageTable levels mode root) = none
+zero-call-names v (hostCall.SetPending vector on) = none
+zero-call-names v (hostCall.LatchHvip bits) = none
+zero-call-names v (hostCall.CompleteIpi abi completion) = none
+zero-call-names v (hostCall.CompleteLoad n) = none
+
+zero-call-reads : (c : HostCall) → Apart 0 (callReads c)
+unfolding callReads
+zero-call-reads (hostCall.GetGpr index) = zero-source index
+zero-call-reads hostCall.Setup = none
+zero-call-reads (hostCall.SetEntry entry) = none
+zero-call-reads (hostCall.SetGpr index value) = none
+zero-call-reads (hostCall.SetReturnValue value) = none
+zero-call-reads (hostCall.SetNestedPageTable levels mode root) = none
+zero-call-reads (hostCall.SetPending vector on) = none
+zero-call-reads (hostCall.LatchHvip bits) = none
+zero-call-reads (hostCall.CompleteIpi abi completion) = none
+zero-call-reads (hostCall.Start t) = none
+zero-call-reads (hostCall.Answer a) = none
+zero-call-reads (hostCall.CompleteLoad n) = none
+
+zero-named : (v : Vcpu) (c : Turn) → Apart 0 (namesOf v c)
 unfolding namesOf
-zero-named v (start t) = picked (isIdle (v .waiting)) (zero-cause (t .scause) (v .x) t) none
-zero-named v (answer a) = zero-answer (v .waiting) a
-zero-named v setup = none
-zero-named v (setEntry entry) = none
-zero-named v (getGpr index) = none
-zero-named v (setGpr index value) = none
-zero-named v (setReturn value) = none
-zero-named v (paging levels mode root) = none
-zero-named v (pending vector on) = none
-zero-named v (latch bits) = none
-zero-named v (completeIpi abi completion) = none
-zero-named v (completeLoad n) = none
+zero-named v (call c) = zero-call-names v c
 zero-named v (print buffer) = none
 
-zero-read : (c : Call) → Apart 0 (readsOf c)
+zero-read : (c : Turn) → Apart 0 (readsOf c)
 unfolding readsOf
-zero-read (getGpr index) = zero-source index
-zero-read setup = none
-zero-read (setEntry entry) = none
-zero-read (setGpr index value) = none
-zero-read (setReturn value) = none
-zero-read (paging levels mode root) = none
-zero-read (pending vector on) = none
-zero-read (latch bits) = none
-zero-read (completeIpi abi completion) = none
-zero-read (start t) = none
-zero-read (answer a) = none
-zero-read (completeLoad n) = none
+zero-read (call c) = zero-call-reads c
 zero-read (print buffer) = none
 
-pub zero-untouched : (v : Vcpu) (cs : List Call) → Untouched 0 v cs
+pub zero-untouched : (v : Vcpu) (cs : List Turn) → Untouched 0 v cs
 unfolding Untouched
 zero-untouched v [] = tt
 zero-untouched v (c ∷ cs) = (zero-named v c, zero-read c, zero-untouched (stepOf v c) cs)
@@ -206,11 +213,11 @@ zero-wrote (writes.One i n) = by (eqb i 0) (ltb i 32) refl
     by false false e = refl
 zero-wrote (writes.Pair e v) = refl
 
-pub zero-unwritten : (v : Vcpu) (cs : List Call) → written 0 v cs ≡ false
+pub zero-unwritten : (v : Vcpu) (cs : List Turn) → written 0 v cs ≡ false
 unfolding written
 zero-unwritten v [] = refl
-zero-unwritten v (c ∷ cs) = rw (zero-wrote (effectOf v c .writes), zero-unwritten (stepOf v c) cs)
+zero-unwritten v (c ∷ cs) = rw (zero-wrote (writesOf v c), zero-unwritten (stepOf v c) cs)
 
 -- demand 3 with r = 0 has no premise but that the records are alike
-pub third-zero : (v w : Vcpu) (cs : List Call) → Alike 0 v w → Third 0 v w cs
+pub third-zero : (v w : Vcpu) (cs : List Turn) → Alike 0 v w → Third 0 v w cs
 third-zero v w cs a = third 0 v w cs [] a (zero-untouched v (cs ++ []))

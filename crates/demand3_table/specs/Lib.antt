@@ -1,5 +1,5 @@
 pub mod Table
-pub mod Calls
+pub mod Turns
 pub mod Runs
 pub mod Alike
 pub mod Stored

@@ -1,9 +1,10 @@
 -- Document 01's reading table: the general registers that a call on a record names. The rows are in 01's order and words;
--- they cite no definition of what the handler does.
+-- they cite no definition of what the handler does but a trap's class (classOf).
 use Prim.Native.Nat.{ℕ, _%_, _^_}
 use mathlib.Core.List.{List, [], _∷_}
 use lib.ListN.{getD}
 use lib.Dec.{eqb, leb}
+use Rattle.demand3_table.specs.Turns.{Turn, call, print}
 use Rattle.isa_types.specs.Pick.{pick}
 use Rattle.scope.specs.declared.traps.Access.{Access}
 use Rattle.scope.specs.declared.traps.Access.the-variants as access
@@ -14,7 +15,6 @@ use Rattle.scope.specs.declared.traps.Fetch.the-variants as fetch
 use Rattle.scope.specs.declared.traps.Trap.{Trap}
 use Rattle.isa_consts.specs.Csr.{systemOpcode, stimecmp}
 use Rattle.isa_consts.specs.Sbi.{legacySetTimer, legacyPutchar, legacySendIpi, legacyShutdown, eidTime, eidSpi, eidHsm, eidHvc, eidSrst, eidDbcn, eidRfnc, eidPmu}
-use Rattle.isa_consts.specs.Traps.{envCallFromVs, virtualInstruction, storeGuestPageFault}
 use Rattle.isa_decoder.specs.declared.Trapped.{Trapped}
 use Rattle.isa_fields.specs.Fields.{opcodeField, funct3Field, rs1Field, csrField}
 use Rattle.isa_decoder.specs.Length.{htinstOf, fetchedOf, storeSource}
@@ -22,7 +22,11 @@ use Rattle.scope.specs.declared.machine.Vcpu.{Vcpu}
 use Rattle.scope.specs.declared.machine.Waiting.{Waiting}
 use Rattle.scope.specs.declared.machine.Waiting.the-variants as waiting
 use Rattle.scope.specs.Record.{isIdle}
-use Rattle.demand3_table.specs.Calls.{Call, setup, setEntry, getGpr, setGpr, setReturn, paging, pending, latch, completeIpi, start, answer, completeLoad, print}
+use Rattle.scope.specs.declared.hosts.HostCall.{HostCall}
+use Rattle.scope.specs.declared.decided.Class.the-variants as class
+use Rattle.scope.specs.declared.hosts.HostCall.the-variants as hostCall
+use Rattle.scope.specs.declared.decided.Class.{Class}
+use Rattle.scope.specs.Classes.{classOf}
 
 -- SBI, 'Binary Encoding': a0 to a7 are x10 to x17
 abbrev pub a0 : ℕ
@@ -130,19 +134,20 @@ stimecmpNames w =
 unfoldable pub storeNames : Trapped → List ℕ
 storeNames i = sourceNames (storeSource i)
 
--- by scause: ecall, virtual instruction, store "under 23". "Nothing else"
-unfoldable pub causeNames : ℕ → List ℕ → Trap → List ℕ
-causeNames scause x t =
-    pick (eqb scause envCallFromVs) (ecallNames x)
-    (pick (eqb scause virtualInstruction) (stimecmpNames (t .stval % 2 ^ 32))
-    (pick (eqb scause storeGuestPageFault) (storeNames (htinstOf (t .htinst)))
-    []))
+-- a store "under 23"
+unfoldable pub accessNames : Access → Trapped → List ℕ
+accessNames access.Read i = []
+accessNames access.Write i = storeNames i
+accessNames access.Execute i = []
 
--- a fault that was fetched for: a store "under 23"
-unfoldable pub accessNames : Access → ℕ → List ℕ
-accessNames access.Read w = []
-accessNames access.Write w = storeNames (fetchedOf w)
-accessNames access.Execute w = []
+-- by class: ecall, virtual instruction, store. "Nothing else"
+unfoldable pub classNames : Class → List ℕ → Trap → List ℕ
+classNames class.Ecall x t = ecallNames x
+classNames class.VirtualInstruction x t = stimecmpNames (t .stval % 2 ^ 32)
+classNames (class.PageFault k) x t = accessNames k (htinstOf (t .htinst))
+classNames class.Interrupt x t = []
+classNames class.NotHandled x t = []
+classNames class.Unknown x t = []
 
 -- "A trap already waiting when a sequence starts counts as in it": a fetch names what the word answered can still read, an
 -- ecall nothing
@@ -150,16 +155,8 @@ unfoldable pub wordNames : Waiting → ℕ → List ℕ
 wordNames waiting.Idle w = []
 wordNames (waiting.Load rd width s) w = []
 wordNames waiting.FetchCsr w = stimecmpNames w
-wordNames (waiting.FetchFault at k) w = accessNames k w
-wordNames waiting.CopyMask w = []
-wordNames (waiting.CopyIn n) w = []
-wordNames (waiting.Print n) w = []
-wordNames (waiting.ReadConsole n at) w = []
-wordNames (waiting.CopyOut n) w = []
-wordNames waiting.PutChar w = []
-wordNames waiting.PutByte w = []
-wordNames waiting.GetChar w = []
-wordNames waiting.Forward w = []
+wordNames (waiting.FetchFault at k) w = accessNames k (fetchedOf w)
+wordNames (waiting.Ecall a) w = []
 
 -- a fault in place of the word names nothing
 unfoldable pub fetchNames : Waiting → Fetch → List ℕ
@@ -183,33 +180,39 @@ answerNames n (answers.Char number) = []
 answerNames n (answers.Forwarded error value) = []
 
 -- the registers that a call's trap names; a refused start names none
-unfoldable pub namesOf : Vcpu → Call → List ℕ
-namesOf v (start t) = pick (isIdle (v .waiting)) (causeNames (t .scause) (v .x) t) []
-namesOf v (answer a) = answerNames (v .waiting) a
-namesOf v setup = []
-namesOf v (setEntry entry) = []
-namesOf v (getGpr index) = []
-namesOf v (setGpr index value) = []
-namesOf v (setReturn value) = []
-namesOf v (paging levels mode root) = []
-namesOf v (pending vector on) = []
-namesOf v (latch bits) = []
-namesOf v (completeIpi abi completion) = []
-namesOf v (completeLoad n) = []
+unfoldable pub callNames : Vcpu → HostCall → List ℕ
+callNames v (hostCall.Start t) = pick (isIdle (v .waiting)) (classNames (classOf (t .scause)) (v .x) t) []
+callNames v (hostCall.Answer a) = answerNames (v .waiting) a
+callNames v hostCall.Setup = []
+callNames v (hostCall.SetEntry at) = []
+callNames v (hostCall.GetGpr index) = []
+callNames v (hostCall.SetGpr index value) = []
+callNames v (hostCall.SetReturnValue value) = []
+callNames v (hostCall.SetNestedPageTable levels mode root) = []
+callNames v (hostCall.SetPending vector level) = []
+callNames v (hostCall.LatchHvip bits) = []
+callNames v (hostCall.CompleteIpi abi completion) = []
+callNames v (hostCall.CompleteLoad n) = []
+
+unfoldable pub namesOf : Vcpu → Turn → List ℕ
+namesOf v (call c) = callNames v c
 namesOf v (print buffer) = []
 
 -- the registers that a call reads out to the host; x0 reads 0, whatever its slot holds
-unfoldable pub readsOf : Call → List ℕ
-readsOf (getGpr index) = sourceNames index
-readsOf setup = []
-readsOf (setEntry entry) = []
-readsOf (setGpr index value) = []
-readsOf (setReturn value) = []
-readsOf (paging levels mode root) = []
-readsOf (pending vector on) = []
-readsOf (latch bits) = []
-readsOf (completeIpi abi completion) = []
-readsOf (start t) = []
-readsOf (answer a) = []
-readsOf (completeLoad n) = []
+unfoldable pub callReads : HostCall → List ℕ
+callReads (hostCall.GetGpr index) = sourceNames index
+callReads hostCall.Setup = []
+callReads (hostCall.SetEntry at) = []
+callReads (hostCall.SetGpr index value) = []
+callReads (hostCall.SetReturnValue value) = []
+callReads (hostCall.SetNestedPageTable levels mode root) = []
+callReads (hostCall.SetPending vector level) = []
+callReads (hostCall.LatchHvip bits) = []
+callReads (hostCall.CompleteIpi abi completion) = []
+callReads (hostCall.Start t) = []
+callReads (hostCall.Answer a) = []
+callReads (hostCall.CompleteLoad n) = []
+
+unfoldable pub readsOf : Turn → List ℕ
+readsOf (call c) = callReads c
 readsOf (print buffer) = []

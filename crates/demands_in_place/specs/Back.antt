@@ -7,14 +7,28 @@ use lib.Seq.{drop-at, drop-drop, take-at}
 use Rattle.scope.specs.declared.machine.Vcpu.{Vcpu}
 use Rattle.scope.specs.declared.machine.Waiting.{Waiting}
 use Rattle.scope.specs.declared.machine.Waiting.the-variants as waiting
-use Rattle.scope.specs.Words.{csrsOf, csrsWords, unpackOf, waitingOf, waitingWords}
+use Rattle.scope.specs.Words.{csrsOf, csrsWords, unpackOf, waitingOf, waitingWords, askedWords}
 use Rattle.scope.specs.WordsLaws.{csrs-back, waiting-back}
 use Rattle.in_place_record.specs.View.{recordOf, viewOf}
 use Rattle.in_place_record.specs.Laws.{same}
+use Rattle.scope.specs.declared.machine.EcallAsk.{EcallAsk}
+use Rattle.scope.specs.declared.machine.EcallAsk.the-variants as asked
 
 -- the 58 words of a record
 unfoldable pub wordsOf : Vcpu → List ℕ
 wordsOf v = v .x ++ (csrsWords (v .csrs) ++ (v .counts ++ waitingWords (v .waiting)))
+
+four-asked : (a : EcallAsk) → take 4 (askedWords a) ≡ askedWords a
+unfolding askedWords
+four-asked asked.CopyMask = refl
+four-asked (asked.CopyIn n) = refl
+four-asked (asked.Print n) = refl
+four-asked (asked.ReadConsole n a) = refl
+four-asked (asked.CopyOut n) = refl
+four-asked asked.PutChar = refl
+four-asked asked.PutByte = refl
+four-asked asked.GetChar = refl
+four-asked asked.Forward = refl
 
 four : (w : Waiting) → take 4 (waitingWords w) ≡ waitingWords w
 unfolding waitingWords
@@ -22,15 +36,7 @@ four waiting.Idle = refl
 four (waiting.Load r w s) = refl
 four waiting.FetchCsr = refl
 four (waiting.FetchFault a k) = refl
-four waiting.CopyMask = refl
-four (waiting.CopyIn n) = refl
-four (waiting.Print n) = refl
-four (waiting.ReadConsole n a) = refl
-four (waiting.CopyOut n) = refl
-four waiting.PutChar = refl
-four waiting.PutByte = refl
-four waiting.GetChar = refl
-four waiting.Forward = refl
+four (waiting.Ecall a) = four-asked a
 
 module _ (v : Vcpu) (e : length (v .x) ≡ 32) (f : length (v .counts) ≡ 9) where
   at-csrs : drop 32 (wordsOf v) ≡ csrsWords (v .csrs) ++ (v .counts ++ waitingWords (v .waiting))

@@ -7,7 +7,7 @@ use mathlib.Core.Path.{_≡_, refl, ap, ap₂, sym, subst, _∙_}
 use lib.ListN.{drop, getD, length, take}
 use lib.Seq.{sets}
 use Rattle.isa_types.specs.Pick.{pick, wrapped}
-use Rattle.scope.specs.Trap.{askNumber, exitNumber, askValues, exitValues}
+use Rattle.scope.specs.OneTrap.{askNumber, exitNumber, askValues, exitValues}
 use Rattle.scope.specs.Refusals.{errorNumber}
 use Rattle.scope.specs.declared.traps.Ask.{Ask}
 use Rattle.scope.specs.declared.traps.Ask.the-variants as ask
@@ -29,11 +29,11 @@ use Rattle.demand3.specs.Kinds.{traps}
 use Rattle.demand3.specs.Counting.{Counted}
 use Rattle.demand1.specs.Demand1.{Pending, ask-waits, refusal-keeps-the-record, refuses}
 use Rattle.demands_lent.specs.Entries as entries
-use Rattle.demands_lent.specs.Entries.{Entries, callsFor}
-use Rattle.demands_lent.specs.Demands.{EntryThird, called-honest, entry-counts, entry-third}
+use Rattle.demands_lent.specs.Entries.{Entries, turnsOf}
+use Rattle.demands_lent.specs.Demands.{EntryThird, entry-counts, entry-third}
 use Rattle.in_place_record.specs.View.{Done, Made, askCount, besideOf, exitCount, hostLeaves, outOf, refusalWord, replyWord, trapLeaves, viewOf}
 use Rattle.in_place_record.specs.Told.{all-there, host-four, told as words-told}
-use Rattle.demands_in_place.specs.Places.{Places, Shown, lent, next, none, tellsOf}
+use Rattle.demands_in_place.specs.Places.{none, next, Places, Shown, lent, tellsOf}
 
 -- a call that takes no words for its reply is one that takes an empty list of them
 
@@ -122,7 +122,7 @@ refusal-by leaves r o s p c w e k m h =
     let q : refuses (calledOf (viewOf r) c .reply) ≡ true = sym (refusal-word (calledOf (viewOf r) c .reply)) ∙ g in
     let t : drop 54 s ≡ drop 54 r = m .waits ∙ k g in (
       words-told s r (all-there s (drop 54 r) (host-four r (calledOf (viewOf r) c) e) t) e
-          (m .shows ∙ refusal-keeps-the-record (viewOf r) (calledOf (viewOf r) c) (called-honest (viewOf r) c) q) t,
+          (m .shows ∙ refusal-keeps-the-record (viewOf r) c q) t,
       m .gives ∙ refused-out o (calledOf (viewOf r) c .reply) (calledOf (viewOf r) c .args) q,
     )
 
@@ -143,18 +143,18 @@ host-refusal-keeps-the-record r o s p c w e m h = refusal-by (hostLeaves r) r o 
 -- demand 1: an ask leaves exactly that ask waiting
 pub place-ask-waits : (leaves : Outcome → List ℕ) (r o s p : List ℕ) (c : HostCall) (w : ℕ) → Made leaves o (calledOf (viewOf r) c) s p w → (a : Ask) → calledOf (viewOf r) c .reply ≡ reply.Ask a → Pending (viewOf r) a (viewOf s)
 place-ask-waits leaves r o s p c w m a e =
-    subst (λ (v : Vcpu). Pending (viewOf r) a v) (sym (m .shows)) (ask-waits (viewOf r) (calledOf (viewOf r) c) (called-honest (viewOf r) c) a e)
+    subst (λ (v : Vcpu). Pending (viewOf r) a v) (sym (m .shows)) (ask-waits (viewOf r) c a e)
 
 -- demand 3: two records of words that are alike except in register k, and the same calls and reply words on both, none of
 -- which names k or reads it out
 pub record PlaceThird (k : ℕ) (r q u t : List ℕ) (cs : List HostCall) (ws xs : List Shown) : Type 0 where
   pub shown : ws ≡ xs
   pub alike : Alike k (viewOf u) (viewOf t)
-  pub keeps : written k (viewOf r) (callsFor cs) ≡ false
+  pub keeps : written k (viewOf r) (turnsOf cs) ≡ false
       → (getD (viewOf u .x) k 0 ≡ getD (viewOf r .x) k 0) × (getD (viewOf t .x) k 0 ≡ getD (viewOf q .x) k 0)
-  pub joins : written k (viewOf r) (callsFor cs) ≡ true → viewOf u ≡ viewOf t
+  pub joins : written k (viewOf r) (turnsOf cs) ≡ true → viewOf u ≡ viewOf t
 
-pub place-third : (k : ℕ) {r q u t : List ℕ} {cs : List HostCall} {ws xs : List Shown} → Alike k (viewOf r) (viewOf q) → Untouched k (viewOf r) (callsFor cs)
+pub place-third : (k : ℕ) {r q u t : List ℕ} {cs : List HostCall} {ws xs : List Shown} → Alike k (viewOf r) (viewOf q) → Untouched k (viewOf r) (turnsOf cs)
     → lent ws ≡ lent xs → Places r cs ws u → Places q cs xs t → PlaceThird k r q u t cs ws xs
 place-third k {r} {q} {u} {t} {cs} {ws} {xs} a n l e f =
     let both : EntryThird k (viewOf r) (viewOf q) (viewOf u) (viewOf t) cs (gives e) (gives f) = entry-third k a n (entered e) (entered f) in
@@ -167,5 +167,5 @@ place-third k {r} {q} {u} {t} {cs} {ws} {xs} a n l e f =
 
 -- the counts
 pub place-counts : {r u : List ℕ} {cs : List HostCall} {ws : List Shown} → Places r cs ws u → (i : ℕ) → Counted (viewOf r .counts) → i < 9
-    → getD (viewOf u .counts) i 0 ≡ wrapped (getD (viewOf r .counts) i 0 + traps (suc i) (viewOf r) (callsFor cs))
+    → getD (viewOf u .counts) i 0 ≡ wrapped (getD (viewOf r .counts) i 0 + traps (suc i) (viewOf r) (turnsOf cs))
 place-counts p i k h = entry-counts (entered p) i k h

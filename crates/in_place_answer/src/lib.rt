@@ -2,13 +2,15 @@
 // by-value step, and so is what is promised: Made says it of the whole outcome.
 ghost use mathlib.Core.Path.{_≡_};
 ghost use Rattle.isa_fields.specs.Fields.{rs1Field};
-ghost use Rattle.isa_decoder.specs.Length.{fetchedOf as fetchedWord};
+ghost use Rattle.isa_decoder.specs.Length.{fetchedOf};
+ghost use Rattle.scope.specs.declared.hosts.HostCall.the-variants as hostCall;
 ghost use Rattle.scope.specs.Record.{valueOf, waitingAsk, applied};
-ghost use Rattle.scope.specs.VirtualInstruction.{csrEffect, csrOf};
-ghost use Rattle.scope.specs.Classes.{mmioOf};
-ghost use Rattle.scope.specs.Resume.{fetchedOf, resumedOf};
-ghost use Rattle.scope.specs.Calls.{completeLoadOf, calledOf};
-ghost use Rattle.scope.specs.Words.{answerBy, fetchOf};
+ghost use Rattle.scope.specs.VirtualInstruction.{stimecmpEffect, stimecmpWord};
+ghost use Rattle.scope.specs.GuestPageFault.{mmioOf};
+ghost use Rattle.scope.specs.Answers.{fetchEffect, wordEffect, numbersEffect};
+ghost use Rattle.scope.specs.Calls.{calledOf};
+ghost use Rattle.scope.specs.Words.{answerBy};
+ghost use Rattle.scope.specs.OneTrap.{fetchOf};
 ghost use Rattle.in_place_record.specs.View.{Done, Made, trapLeaves, viewOf};
 ghost use Rattle.in_place_answer.specs.Words.{answerWords};
 use isa_types::GuestPhysAddr;
@@ -43,7 +45,7 @@ pub fn answer(r: &mut [u64; 58], out: &mut [u64; 8], a: AnswerWords) -> u64
 
 // Completes the load that waits.
 pub fn complete_load(r: &mut [u64; 58], n: u64) -> u64
-    ensures { λ w. ⌜ Done (trapLeaves (now (r .entry))) (completeLoadOf (viewOf (now (r .entry))) n) (now (r .exit)) w ⌝ }
+    ensures { λ w. ⌜ Done (trapLeaves (now (r .entry))) (calledOf (viewOf (now (r .entry))) (hostCall.CompleteLoad n)) (now (r .exit)) w ⌝ }
 {
     in_place_record::sized(r);
     let w = in_place_read::waiting(r);
@@ -71,16 +73,38 @@ fn matched(
             if ask == 1 {
                 return fetched(r, out, w, word, more);
             }
-            return in_place_classes::do_answered(r, out, decide_answers::decide(w, word, more));
+            return numbers(r, out, w, word, more);
         }
         return 0x107;
     }
     0x101
 }
 
+// The numbers of an answer go to the ecall that waits.
+fn numbers(r: &mut [u64; 58], out: &mut [u64; 8], w: Waiting, word: u64, more: u64) -> u64
+    ensures { λ c. ⌜ (w ≡ viewOf (now (r .entry)) .waiting → Made (trapLeaves (now (r .entry))) (now (out .entry)) (applied (viewOf (now (r .entry))) (numbersEffect (viewOf (now (r .entry)) .csrs) w word more)) (now (r .exit)) (now (out .exit)) c) ⌝ }
+{
+    in_place_record::sized(r);
+    match w {
+        Waiting::Idle => 0x107,
+        Waiting::Load {
+            rd: _,
+            width: _,
+            signed: _,
+        } => 0x107,
+        Waiting::FetchCsr => 0x107,
+        Waiting::FetchFault { at: _, access: _ } => 0x107,
+        Waiting::Ecall(a) => in_place_classes::do_answered(
+            r,
+            out,
+            decide_answers::decide(a, word, more),
+        ),
+    }
+}
+
 // A fetch gave a word, or its fault is handled.
 fn fetched(r: &mut [u64; 58], out: &mut [u64; 8], w: Waiting, word: u64, more: u64) -> u64
-    ensures { λ c. ⌜ (w ≡ viewOf (now (r .entry)) .waiting → Made (trapLeaves (now (r .entry))) (now (out .entry)) (applied (viewOf (now (r .entry))) (fetchedOf (viewOf (now (r .entry)) .x) (viewOf (now (r .entry)) .csrs) w (fetchOf word more))) (now (r .exit)) (now (out .exit)) c) ⌝ }
+    ensures { λ c. ⌜ (w ≡ viewOf (now (r .entry)) .waiting → Made (trapLeaves (now (r .entry))) (now (out .entry)) (applied (viewOf (now (r .entry))) (fetchEffect (viewOf (now (r .entry)) .x) (viewOf (now (r .entry)) .csrs) w (fetchOf word more))) (now (r .exit)) (now (out .exit)) c) ⌝ }
 {
     in_place_record::sized(r);
     if more == 0 {
@@ -95,7 +119,7 @@ fn fetched(r: &mut [u64; 58], out: &mut [u64; 8], w: Waiting, word: u64, more: u
 
 // The trap goes on with the word that was fetched.
 fn resumed(r: &mut [u64; 58], out: &mut [u64; 8], w: Waiting, word: u32) -> u64
-    ensures { λ c. ⌜ (w ≡ viewOf (now (r .entry)) .waiting → Made (trapLeaves (now (r .entry))) (now (out .entry)) (applied (viewOf (now (r .entry))) (resumedOf (viewOf (now (r .entry)) .x) (viewOf (now (r .entry)) .csrs) w word)) (now (r .exit)) (now (out .exit)) c) ⌝ }
+    ensures { λ c. ⌜ (w ≡ viewOf (now (r .entry)) .waiting → Made (trapLeaves (now (r .entry))) (now (out .entry)) (applied (viewOf (now (r .entry))) (wordEffect (viewOf (now (r .entry)) .x) (viewOf (now (r .entry)) .csrs) w word)) (now (r .exit)) (now (out .exit)) c) ⌝ }
 {
     match w {
         Waiting::Idle => 0x107,
@@ -106,15 +130,7 @@ fn resumed(r: &mut [u64; 58], out: &mut [u64; 8], w: Waiting, word: u32) -> u64
         } => 0x107,
         Waiting::FetchCsr => stimecmp_word(r, out, word as u64),
         Waiting::FetchFault { at, access } => { mmio_word(r, out, at, access, word) }
-        Waiting::CopyMask => 0x107,
-        Waiting::CopyIn { count: _ } => 0x107,
-        Waiting::Print { count: _ } => 0x107,
-        Waiting::ReadConsole { count: _, at: _ } => 0x107,
-        Waiting::CopyOut { count: _ } => 0x107,
-        Waiting::PutChar => 0x107,
-        Waiting::PutByte => 0x107,
-        Waiting::GetChar => 0x107,
-        Waiting::Forward => 0x107,
+        Waiting::Ecall(_) => 0x107,
     }
 }
 
@@ -126,7 +142,7 @@ fn mmio_word(
     access: Access,
     word: u32,
 ) -> u64
-    ensures { λ w. ⌜ Made (trapLeaves (now (r .entry))) (now (out .entry)) (applied (viewOf (now (r .entry))) (mmioOf (viewOf (now (r .entry)) .x) (viewOf (now (r .entry)) .csrs) at access (fetchedWord word))) (now (r .exit)) (now (out .exit)) w ⌝ }
+    ensures { λ w. ⌜ Made (trapLeaves (now (r .entry))) (now (out .entry)) (applied (viewOf (now (r .entry))) (mmioOf (viewOf (now (r .entry)) .x) (viewOf (now (r .entry)) .csrs) at access (fetchedOf word))) (now (r .exit)) (now (out .exit)) w ⌝ }
 {
     in_place_record::sized(r);
     let i = isa_decoder::from_fetched(word);
@@ -142,7 +158,7 @@ fn mmio_word(
 
 // A CSR instruction that was fetched.
 fn stimecmp_word(r: &mut [u64; 58], out: &mut [u64; 8], word: u64) -> u64
-    ensures { λ w. ⌜ Made (trapLeaves (now (r .entry))) (now (out .entry)) (applied (viewOf (now (r .entry))) (csrEffect (viewOf (now (r .entry)) .csrs) (csrOf word (viewOf (now (r .entry)) .csrs .vs .vstimecmp) (valueOf (viewOf (now (r .entry)) .x) (rs1Field word))))) (now (r .exit)) (now (out .exit)) w ⌝ }
+    ensures { λ w. ⌜ Made (trapLeaves (now (r .entry))) (now (out .entry)) (applied (viewOf (now (r .entry))) (stimecmpEffect (viewOf (now (r .entry)) .csrs) (stimecmpWord word (viewOf (now (r .entry)) .csrs .vs .vstimecmp) (valueOf (viewOf (now (r .entry)) .x) (rs1Field word))))) (now (r .exit)) (now (out .exit)) w ⌝ }
 {
     in_place_record::sized(r);
     let rs1 = in_place_read::read(r, isa_fields::rs1(word));

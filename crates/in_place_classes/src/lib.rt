@@ -3,26 +3,26 @@ ghost use Rattle.in_place_record.specs.Deeds.{Leaves, answeredLeft, csrLeft, fa
 use isa_types::GuestPhysAddr;
 use scope::Access;
 use scope::Answered;
-use scope::Csr;
 use scope::Fault;
 use scope::Missed;
+use scope::Stimecmp;
 
 // Does a virtual instruction.
-pub fn do_csr(r: &mut [u64; 58], out: &mut [u64; 8], d: Csr) -> u64
+pub fn do_csr(r: &mut [u64; 58], out: &mut [u64; 8], d: Stimecmp) -> u64
     ensures { λ w. ⌜ Leaves (csrLeft (now (r .entry)) (now (out .entry)) d) (now (r .exit)) (now (out .exit)) w ⌝ }
 {
     match d {
-        Csr::Illegal => {
+        Stimecmp::Illegal => {
             in_place_write::bump(r, 2);
             r[in_place_record::KIND] = 0;
             0x103
         }
-        Csr::Fetch => {
+        Stimecmp::Fetch => {
             in_place_read::ask_fetch(r, out);
             r[in_place_record::KIND] = 2;
             0x21
         }
-        Csr::Write { rd, timer } => {
+        Stimecmp::Write { rd, timer } => {
             let old = r[in_place_record::VSTIMECMP];
             r[in_place_record::VSTIMECMP] = timer;
             in_place_write::step(r, 4);
@@ -117,12 +117,11 @@ pub fn do_missed(r: &mut [u64; 58], out: &mut [u64; 8], d: Missed) -> u64
     }
 }
 
-// Does an answer to asks 2 to 9.
+// Does the answer to an ecall's ask.
 pub fn do_answered(r: &mut [u64; 58], out: &mut [u64; 8], d: Answered) -> u64
     ensures { λ w. ⌜ Leaves (answeredLeft (now (r .entry)) (now (out .entry)) d) (now (r .exit)) (now (out .exit)) w ⌝ }
 {
     match d {
-        Answered::Wrong => 0x107,
         Answered::Moves => {
             in_place_write::step(r, 4);
             0

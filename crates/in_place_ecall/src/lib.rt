@@ -2,35 +2,35 @@
 ghost use mathlib.Core.Path.{_≡_};
 ghost use lib.ListN.{set};
 ghost use Rattle.in_place_record.specs.Deeds.{Leaves, callLeft, left, one, stepWords, three};
-ghost use Rattle.scope.specs.declared.decided.Call.the-variants as call;
+ghost use Rattle.scope.specs.declared.decided.SbiCall.the-variants as call;
 use isa_types::GuestPhysAddr;
-use scope::Call;
 use scope::Event;
+use scope::SbiCall;
 
 // Does an SBI call.
-pub fn do_call(r: &mut [u64; 58], out: &mut [u64; 8], d: Call) -> u64
+pub fn do_call(r: &mut [u64; 58], out: &mut [u64; 8], d: SbiCall) -> u64
     ensures { λ w. ⌜ Leaves (callLeft (now (r .entry)) (now (out .entry)) d) (now (r .exit)) (now (out .exit)) w ⌝ }
 {
     match d {
-        Call::Returns(e, v) => {
+        SbiCall::Returns(e, v) => {
             in_place_write::pair(r, e, v);
             0
         }
-        Call::Moves => {
+        SbiCall::Moves => {
             in_place_write::step(r, 4);
             0
         }
-        Call::LegacyTimer(deadline) => {
+        SbiCall::LegacyTimer(deadline) => {
             in_place_write::timer(r, deadline);
             in_place_record::give(r, 0);
             0
         }
-        Call::SetTimer(deadline) => {
+        SbiCall::SetTimer(deadline) => {
             in_place_write::timer(r, deadline);
             in_place_write::pair(r, 0, 0);
             0
         }
-        Call::ClearIpi => {
+        SbiCall::ClearIpi => {
             r[in_place_record::HVIP] = isa_registers::with_bits(
                 r[in_place_record::HVIP],
                 isa_consts::VSSIP,
@@ -39,10 +39,10 @@ pub fn do_call(r: &mut [u64; 58], out: &mut [u64; 8], d: Call) -> u64
             in_place_record::give(r, 0);
             0
         }
-        Call::PutChar(n) => tells(r, out, n, 9, 0x27),
-        Call::GetChar => waits(r, 11, 0x28),
-        Call::CopyMask(at) => tells(r, out, at.0, 4, 0x22),
-        Call::SendIpi(request) => {
+        SbiCall::PutChar(n) => tells(r, out, n, 9, 0x27),
+        SbiCall::GetChar => waits(r, 11, 0x28),
+        SbiCall::CopyMask(at) => tells(r, out, at.0, 4, 0x22),
+        SbiCall::SendIpi(request) => {
             let abi = request.abi;
             passes(
                 r,
@@ -53,17 +53,17 @@ pub fn do_call(r: &mut [u64; 58], out: &mut [u64; 8], d: Call) -> u64
                 2,
             )
         }
-        Call::CpuUp(target_cpu, entry_point, arg) => {
+        SbiCall::CpuUp(target_cpu, entry_point, arg) => {
             passes(r, out, target_cpu, entry_point.0, arg, 3)
         }
-        Call::CpuDown => tells(r, out, 0, 0, 4),
-        Call::Halt => waits(r, 0, 5),
-        Call::SystemDown => waits(r, 0, 7),
-        Call::Hypercall => hypercall(r, out),
-        Call::CopyIn(at, n) => copy_in(r, out, at, n),
-        Call::ReadConsole(at, n) => read_console(r, out, at, n),
-        Call::PutByte(n) => tells(r, out, n, 10, 0x27),
-        Call::Forward(event) => forward(r, out, event),
+        SbiCall::CpuDown => tells(r, out, 0, 0, 4),
+        SbiCall::Halt => waits(r, 0, 5),
+        SbiCall::SystemDown => waits(r, 0, 7),
+        SbiCall::Hypercall => hypercall(r, out),
+        SbiCall::CopyIn(at, n) => copy_in(r, out, at, n),
+        SbiCall::ReadConsole(at, n) => read_console(r, out, at, n),
+        SbiCall::PutByte(n) => tells(r, out, n, 10, 0x27),
+        SbiCall::Forward(event) => forward(r, out, event),
     }
 }
 

@@ -9,25 +9,24 @@ use native.Mathlib.Omega.{arith}
 use lib.Dec.{eqb}
 use borrow.Author.Tests.{eqb-true}
 use Rattle.isa_types.specs.Pick.{pick}
-use Rattle.scope.specs.Refusals.{errorNumber, doneOf, guardedOf, refusedOf, unlessAsking}
+use Rattle.scope.specs.Refusals.{errorNumber, doneOf, refusedOf, unlessAsking, leavesOf}
 use Rattle.scope.specs.declared.traps.Error.{Error}
-use Rattle.scope.specs.declared.traps.Error.the-variants as error
 use Rattle.scope.specs.declared.machine.Csrs.{Csrs}
 use Rattle.scope.specs.declared.machine.Effect.{Effect}
 use Rattle.scope.specs.declared.machine.Event.the-variants as event
-use Rattle.scope.specs.declared.machine.Outcome.{Outcome}
 use Rattle.scope.specs.declared.machine.Vcpu.{Vcpu}
 use Rattle.scope.specs.declared.machine.Waiting.{Waiting}
 use Rattle.scope.specs.declared.machine.Waiting.the-variants as waiting
 use Rattle.scope.specs.declared.machine.Writes.{Writes}
 use Rattle.scope.specs.declared.machine.Writes.the-variants as writes
 use Rattle.scope.specs.Record.{bumped, counted, eventNumber, listed, stored, waitingAsk, applied, noArgs}
-use Rattle.scope.specs.Calls.{printCount}
+use Rattle.scope.specs.Calls.{printCount, askedCount}
 use Rattle.scope.specs.Words.{csrsOf, csrsWords, unpackOf, waitingBy, waitingOf}
 use Rattle.in_place_record.specs.View.{Done, hostLeaves, recordOf, replyWord, viewOf}
 use Rattle.in_place_record.specs.Laws.{over, put-keeps, put-shows, same, waiting-words}
 use Rattle.in_place_record.specs.Spelled.{spelled}
 use Rattle.in_place_host.specs.Host.{Keeps, hostWords, printedBy, writeWords}
+use Rattle.scope.specs.declared.machine.EcallAsk.the-variants as asked
 
 -- the CSRs written show as written
 csrs-spelled : (k : List ℕ) (c : Csrs) → let r : List ℕ = spelled 58 0 k in
@@ -104,7 +103,7 @@ unfolding doneOf
 done-keeps c n w = record { waits = refl; quiet = refl }
 
 pub refused-keeps : (c : Csrs) (w : Waiting) (x : Error) → Keeps (refusedOf c w x) w
-unfolding refusedOf
+unfolding refusedOf leavesOf
 refused-keeps c w x = record { waits = refl; quiet = refl }
 
 pub pick-keeps : (b : Bool) {e f : Effect} {w : Waiting} → Keeps e w → Keeps f w → Keeps (pick b e f) w
@@ -117,22 +116,22 @@ waits-so : (r : List ℕ) (w : Waiting) (ask : ℕ) (b : Bool) → w ≡ viewOf 
 waits-so r w ask b q a z = ap (λ (u : Waiting). eqb (waitingAsk u) 0) (sym q) ∙ ap (λ (n : ℕ). eqb n 0) (sym a) ∙ z
 
 pub free-made : (r s : List ℕ) (n : ℕ) → length r ≡ 58 → (w : Waiting) (e : Effect) (ask : ℕ) → w ≡ viewOf r .waiting → ask ≡ waitingAsk w → eqb ask 0 ≡ true → Keeps e w
-    → (s ≡ hostWords r e) × (n ≡ replyWord (e .reply)) → Done (hostLeaves r) (unlessAsking (viewOf r) e) s n
-unfolding unlessAsking guardedOf
+    → (s ≡ hostWords r e) × (n ≡ replyWord (e .reply)) → Done (hostLeaves r) (applied (viewOf r) (unlessAsking (viewOf r) e)) s n
+unfolding unlessAsking
 free-made r s n l w e ask q a z k h =
     let d : Done (hostLeaves r) (applied (viewOf r) e) (hostWords r e) (replyWord (e .reply)) = host-done r l e (subst (λ (u : Waiting). Keeps e u) q k) in
     rw (waits-so r w ask true q a z)
     (record { shows = ap viewOf (h .0) ∙ d .shows; waits = ap (λ (k : List ℕ). drop 54 k) (h .0) ∙ d .waits; says = h .1 ∙ d .says })
 
-pub busy-made : (r : List ℕ) (w : Waiting) (e : Effect) (ask : ℕ) → w ≡ viewOf r .waiting → ask ≡ waitingAsk w → eqb ask 0 ≡ false → Done (hostLeaves r) (unlessAsking (viewOf r) e) r 0x102
-unfolding unlessAsking guardedOf refusedOf applied noArgs stored counted bumped eventNumber listed replyWord errorNumber hostLeaves
-busy-made r w e ask q a z = rw (waits-so r w ask false q a z) (record { shows = refl; waits = refl; says = refl })
+pub asking-made : (r : List ℕ) (w : Waiting) (e : Effect) (ask : ℕ) → w ≡ viewOf r .waiting → ask ≡ waitingAsk w → eqb ask 0 ≡ false → Done (hostLeaves r) (applied (viewOf r) (unlessAsking (viewOf r) e)) r 0x102
+unfolding unlessAsking refusedOf leavesOf applied noArgs stored counted bumped eventNumber listed replyWord errorNumber hostLeaves
+asking-made r w e ask q a z = rw (waits-so r w ask false q a z) (record { shows = refl; waits = refl; says = refl })
 
 -- the n of ask 4, where it waits
 
 rest-by : (n : ℕ) (b₂ b₃ b₄ b₅ b₇ b₈ b₉ b₁₀ b₁₁ b₁₂ : Bool) (f m x : Waiting) → printCount f ≡ 0 → printCount m ≡ 0 → printCount x ≡ 0
-    → printCount (pick b₂ waiting.FetchCsr (pick b₃ f (pick b₄ waiting.CopyMask (pick b₅ m (pick b₇ x (pick b₈ (waiting.CopyOut n) (pick b₉ waiting.PutChar (pick b₁₀ waiting.PutByte (pick b₁₁ waiting.GetChar (pick b₁₂ waiting.Forward waiting.Idle)))))))))) ≡ 0
-unfolding printCount
+    → printCount (pick b₂ waiting.FetchCsr (pick b₃ f (pick b₄ (waiting.Ecall asked.CopyMask) (pick b₅ m (pick b₇ x (pick b₈ (waiting.Ecall (asked.CopyOut n)) (pick b₉ (waiting.Ecall asked.PutChar) (pick b₁₀ (waiting.Ecall asked.PutByte) (pick b₁₁ (waiting.Ecall asked.GetChar) (pick b₁₂ (waiting.Ecall asked.Forward) waiting.Idle)))))))))) ≡ 0
+unfolding printCount askedCount
 rest-by n true b₃ b₄ b₅ b₇ b₈ b₉ b₁₀ b₁₁ b₁₂ f m x p q s = refl
 rest-by n false true b₄ b₅ b₇ b₈ b₉ b₁₀ b₁₁ b₁₂ f m x p q s = p
 rest-by n false false true b₅ b₇ b₈ b₉ b₁₀ b₁₁ b₁₂ f m x p q s = refl
@@ -150,7 +149,7 @@ first-by true l w p q = p
 first-by false l w p q = q
 
 print-by : (k a b c : ℕ) (t : Bool) → eqb k 6 ≡ t → pick t a 0 ≡ printCount (waitingBy k a b c)
-unfolding waitingBy printCount
+unfolding waitingBy printCount askedCount
 print-by k a b c true e = rw (eqb-true k 6 e)
 print-by k a b c false e =
     sym (rw e (first-by (eqb k 1) _ _ refl (rest-by a (eqb k 2) (eqb k 3) (eqb k 4) (eqb k 5) (eqb k 7) (eqb k 8) (eqb k 9) (eqb k 10) (eqb k 11) (eqb k 12) _ _ _ refl refl refl)))

@@ -2,11 +2,12 @@
 // Beside them the part of the lent buffer to print.
 ghost use mathlib.Core.Path.{_≡_};
 ghost use Prim.Native.Nat.{_+_};
-ghost use Rattle.scope.specs.Trap.{askNumber};
+ghost use Rattle.scope.specs.OneTrap.{askNumber};
 ghost use Rattle.scope.specs.Refusals.{errorNumber, unlessAsking};
 ghost use Rattle.scope.specs.Calls.{printCount};
 ghost use Rattle.in_place_record.specs.View.{Done, hostLeaves, replyWord, viewOf};
 ghost use Rattle.in_place_host.specs.Host.{Keeps, hostWords, printedBy, writeWords};
+ghost use Rattle.scope.specs.Record.{applied};
 use scope::Ask;
 use scope::Effect;
 use scope::Error;
@@ -39,7 +40,7 @@ fn host(r: &mut [u64; 58], e: Effect) -> u64
 
 // Writes the effect of a host's own call; while an ask waits the call is refused.
 pub fn unless_asking(r: &mut [u64; 58], w: Waiting, e: Effect) -> u64
-    ensures { λ n. ⌜ (w ≡ viewOf (now (r .entry)) .waiting → Keeps e w → Done (hostLeaves (now (r .entry))) (unlessAsking (viewOf (now (r .entry))) e) (now (r .exit)) n) ⌝ }
+    ensures { λ n. ⌜ (w ≡ viewOf (now (r .entry)) .waiting → Keeps e w → Done (hostLeaves (now (r .entry))) (applied (viewOf (now (r .entry))) (unlessAsking (viewOf (now (r .entry))) e)) (now (r .exit)) n) ⌝ }
 {
     in_place_record::sized(r);
     if decide_record::ask_of(w) == 0 {

@@ -1,7 +1,8 @@
 // The host's own calls on the lent words: setup, registers, page table, interrupts, IPI results.
 ghost use mathlib.Core.Path.{_≡_};
 ghost use lib.ListN.{drop, replicate};
-ghost use Rattle.scope.specs.Calls.{newOf, pagingOf, setEntryOf, setupOf, setGprOf, setReturnOf, readOf, completeIpiOf, latchOf, pendingOf};
+ghost use Rattle.scope.specs.declared.hosts.HostCall.the-variants as hostCall;
+ghost use Rattle.scope.specs.Calls.{newOf, calledOf};
 ghost use Rattle.in_place_record.specs.View.{Done, hostLeaves, viewOf, Made};
 use isa_types::GuestPhysAddr;
 use scope::IpiAbi;
@@ -10,7 +11,7 @@ use scope::Writes;
 
 // The state that a guest starts with.
 pub fn setup(r: &mut [u64; 58]) -> u64
-    ensures { λ n. ⌜ Done (hostLeaves (now (r .entry))) (setupOf (viewOf (now (r .entry)))) (now (r .exit)) n ⌝ }
+    ensures { λ n. ⌜ Done (hostLeaves (now (r .entry))) (calledOf (viewOf (now (r .entry))) hostCall.Setup) (now (r .exit)) n ⌝ }
 {
     let c = in_place_read::csrs(r);
     let w = in_place_read::waiting(r);
@@ -20,7 +21,7 @@ pub fn setup(r: &mut [u64; 58]) -> u64
 
 // Where the guest starts.
 pub fn set_entry(r: &mut [u64; 58], entry: GuestPhysAddr) -> u64
-    ensures { λ n. ⌜ Done (hostLeaves (now (r .entry))) (setEntryOf (viewOf (now (r .entry))) entry) (now (r .exit)) n ⌝ }
+    ensures { λ n. ⌜ Done (hostLeaves (now (r .entry))) (calledOf (viewOf (now (r .entry))) (hostCall.SetEntry entry)) (now (r .exit)) n ⌝ }
 {
     let c = in_place_read::csrs(r);
     let w = in_place_read::waiting(r);
@@ -30,7 +31,7 @@ pub fn set_entry(r: &mut [u64; 58], entry: GuestPhysAddr) -> u64
 
 // Sets the guest-stage page table.
 pub fn set_nested_page_table(r: &mut [u64; 58], levels: u64, mode: u64, root: u64) -> u64
-    ensures { λ n. ⌜ Done (hostLeaves (now (r .entry))) (pagingOf (viewOf (now (r .entry))) levels mode root) (now (r .exit)) n ⌝ }
+    ensures { λ n. ⌜ Done (hostLeaves (now (r .entry))) (calledOf (viewOf (now (r .entry))) (hostCall.SetNestedPageTable levels mode root)) (now (r .exit)) n ⌝ }
 {
     let c = in_place_read::csrs(r);
     let w = in_place_read::waiting(r);
@@ -49,7 +50,7 @@ pub fn new(r: &mut [u64; 58], hart_id: u64, dtb_addr: u64)
 
 // Reads a general register.
 pub fn get_gpr(r: &[u64; 58], out: &mut [u64; 8], index: usize) -> u64
-    ensures { λ n. ⌜ Made (hostLeaves (now (r .entry))) (now (out .entry)) (readOf (viewOf (now (r .entry))) index) (now (r .entry)) (now (out .exit)) n ⌝ }
+    ensures { λ n. ⌜ Made (hostLeaves (now (r .entry))) (now (out .entry)) (calledOf (viewOf (now (r .entry))) (hostCall.GetGpr index)) (now (r .entry)) (now (out .exit)) n ⌝ }
 {
     if index < 32 {
         out[0] = in_place_read::read(r, index);
@@ -60,7 +61,7 @@ pub fn get_gpr(r: &[u64; 58], out: &mut [u64; 8], index: usize) -> u64
 
 // Writes a general register; x0 stays.
 pub fn set_gpr(r: &mut [u64; 58], index: usize, value: u64) -> u64
-    ensures { λ n. ⌜ Done (hostLeaves (now (r .entry))) (setGprOf (viewOf (now (r .entry))) index value) (now (r .exit)) n ⌝ }
+    ensures { λ n. ⌜ Done (hostLeaves (now (r .entry))) (calledOf (viewOf (now (r .entry))) (hostCall.SetGpr index value)) (now (r .exit)) n ⌝ }
 {
     let c = in_place_read::csrs(r);
     let w = in_place_read::waiting(r);
@@ -70,7 +71,7 @@ pub fn set_gpr(r: &mut [u64; 58], index: usize, value: u64) -> u64
 
 // Writes a0.
 pub fn set_return_value(r: &mut [u64; 58], value: u64) -> u64
-    ensures { λ n. ⌜ Done (hostLeaves (now (r .entry))) (setReturnOf (viewOf (now (r .entry))) value) (now (r .exit)) n ⌝ }
+    ensures { λ n. ⌜ Done (hostLeaves (now (r .entry))) (calledOf (viewOf (now (r .entry))) (hostCall.SetReturnValue value)) (now (r .exit)) n ⌝ }
 {
     let c = in_place_read::csrs(r);
     let w = in_place_read::waiting(r);
@@ -80,7 +81,7 @@ pub fn set_return_value(r: &mut [u64; 58], value: u64) -> u64
 
 // Sets or clears a pending interrupt of the guest.
 pub fn set_pending(r: &mut [u64; 58], vector: u64, level: bool) -> u64
-    ensures { λ n. ⌜ Done (hostLeaves (now (r .entry))) (pendingOf (viewOf (now (r .entry))) vector level) (now (r .exit)) n ⌝ }
+    ensures { λ n. ⌜ Done (hostLeaves (now (r .entry))) (calledOf (viewOf (now (r .entry))) (hostCall.SetPending vector level)) (now (r .exit)) n ⌝ }
 {
     let c = in_place_read::csrs(r);
     let w = in_place_read::waiting(r);
@@ -90,7 +91,7 @@ pub fn set_pending(r: &mut [u64; 58], vector: u64, level: bool) -> u64
 
 // Latches pending bits that the hardware raised.
 pub fn latch_hvip(r: &mut [u64; 58], bits: u64) -> u64
-    ensures { λ n. ⌜ Done (hostLeaves (now (r .entry))) (latchOf (viewOf (now (r .entry))) bits) (now (r .exit)) n ⌝ }
+    ensures { λ n. ⌜ Done (hostLeaves (now (r .entry))) (calledOf (viewOf (now (r .entry))) (hostCall.LatchHvip bits)) (now (r .exit)) n ⌝ }
 {
     let c = in_place_read::csrs(r);
     let w = in_place_read::waiting(r);
@@ -104,7 +105,7 @@ pub fn latch_hvip(r: &mut [u64; 58], bits: u64) -> u64
 
 // Gives the guest the result of an IPI request.
 pub fn complete_ipi(r: &mut [u64; 58], abi: IpiAbi, completion: IpiCompletion) -> u64
-    ensures { λ n. ⌜ Done (hostLeaves (now (r .entry))) (completeIpiOf (viewOf (now (r .entry))) abi completion) (now (r .exit)) n ⌝ }
+    ensures { λ n. ⌜ Done (hostLeaves (now (r .entry))) (calledOf (viewOf (now (r .entry))) (hostCall.CompleteIpi abi completion)) (now (r .exit)) n ⌝ }
 {
     let c = in_place_read::csrs(r);
     let w = in_place_read::waiting(r);

@@ -7,22 +7,24 @@ use Rattle.scope.specs.declared.traps.Access.{Access}
 use Rattle.isa_types.specs.declared.GuestPhysAddr.{GuestPhysAddr}
 use Rattle.scope.specs.declared.machine.Csrs.{Csrs}
 use Rattle.scope.specs.Record.{valueOf}
-use Rattle.scope.specs.declared.decided.Csr.{Csr}
-use Rattle.scope.specs.VirtualInstruction.{csrEffect}
-use Rattle.scope.specs.GuestPageFault.{faultEffect}
+use Rattle.scope.specs.declared.decided.Stimecmp.{Stimecmp}
+use Rattle.scope.specs.VirtualInstruction.{stimecmpEffect}
+use Rattle.scope.specs.GuestPageFault.{faultEffect, faultOf, mmioOf}
 use Rattle.in_place_record.specs.View.{viewOf}
 use Rattle.in_place_record.specs.Deeds.{csrLeft, faultLeft, readWord}
 use Rattle.in_place_record.specs.Laws.{On, csr-made, csrs-words, fault-made, read-shows}
 use Rattle.scope.specs.declared.decided.Fault.{Fault}
+use Rattle.isa_decoder.specs.declared.Trapped.{Trapped}
+use Rattle.isa_decoder.specs.Length.{storeSource}
 
 -- a virtual instruction: the old timer and rs1 are read of the words
 
 timer-words : (r : List ℕ) → length r ≡ 58 → getD r 40 0 ≡ viewOf r .csrs .vs .vstimecmp
 timer-words r e = ap (λ (c : Csrs). c .vs .vstimecmp) (csrs-words r e)
 
-pub csr-by : (r o : List ℕ) → length r ≡ 58 → (d : ℕ → ℕ → Csr) (i : ℕ) → On r o (csrEffect (viewOf r .csrs) (d (viewOf r .csrs .vs .vstimecmp) (valueOf (viewOf r .x) i))) (csrLeft r o (d (getD r 40 0) (readWord r i)))
+pub csr-by : (r o : List ℕ) → length r ≡ 58 → (d : ℕ → ℕ → Stimecmp) (i : ℕ) → On r o (stimecmpEffect (viewOf r .csrs) (d (viewOf r .csrs .vs .vstimecmp) (valueOf (viewOf r .x) i))) (csrLeft r o (d (getD r 40 0) (readWord r i)))
 csr-by r o e d i =
-    subst (λ (q : Csr). On r o (csrEffect (viewOf r .csrs) q) (csrLeft r o (d (getD r 40 0) (readWord r i))))
+    subst (λ (q : Stimecmp). On r o (stimecmpEffect (viewOf r .csrs) q) (csrLeft r o (d (getD r 40 0) (readWord r i))))
     (ap (λ (n : ℕ). d n (readWord r i)) (timer-words r e) ∙ ap (λ (n : ℕ). d (viewOf r .csrs .vs .vstimecmp) n) (read-shows r i))
     (csr-made r o e (d (getD r 40 0) (readWord r i)))
 
@@ -33,3 +35,9 @@ fault-by r o e at k d i =
     subst (λ (n : ℕ). On r o (faultEffect (viewOf r .csrs) at k (d n)) (faultLeft r o at k (d (readWord r i))))
     (read-shows r i)
     (fault-made r o e at k (d (readWord r i)))
+
+-- a load or store: a store's rs2 is read of the words
+pub mmio-made : (r o : List ℕ) → length r ≡ 58 → (at : GuestPhysAddr) (k : Access) (i : Trapped)
+    → On r o (mmioOf (viewOf r .x) (viewOf r .csrs) at k i) (faultLeft r o at k (faultOf k i (readWord r (storeSource i))))
+unfolding mmioOf
+mmio-made r o e at k i = fault-by r o e at k (λ n. faultOf k i n) (storeSource i)

@@ -1,29 +1,27 @@
 -- What each class of trap does to the 58 words and to the words of the reply, row by row. Laws.antt shows that through
 -- the view these are the effects of the same decisions.
 use Prim.Native.Nat.{ℕ, _+_}
-use mathlib.Core.Bool.{Bool, true, false}
+use mathlib.Core.Bool.{false}
 use mathlib.Core.List.{List}
 use mathlib.Core.Path.{_≡_}
 use lib.ListN.{getD, set}
 use lib.Dec.{eqb, ltb}
 use Rattle.isa_types.specs.Pick.{pick, wrapped}
-use Rattle.scope.specs.Trap.{abiNumber, accessNumber, flagOf, widthBytes}
+use Rattle.scope.specs.OneTrap.{abiNumber, accessNumber, flagOf, widthBytes}
 use Rattle.scope.specs.declared.traps.Access.{Access}
 use Rattle.scope.specs.declared.traps.Args.{Args}
 use Rattle.isa_types.specs.declared.GuestPhysAddr.{GuestPhysAddr}
-use Rattle.isa_types.specs.declared.GuestVirtAddr.{GuestVirtAddr}
 use Rattle.isa_consts.specs.Csr.{vssip}
 use Rattle.isa_registers.specs.Bits.{spvpOf, withBits}
 use Rattle.scope.specs.declared.machine.Csrs.{Csrs}
-use Rattle.scope.specs.declared.machine.Event.{Event}
 use Rattle.scope.specs.Record.{eventNumber}
-use Rattle.scope.specs.declared.decided.Call.{Call}
-use Rattle.scope.specs.declared.decided.Call.the-variants as call
-use Rattle.scope.specs.FetchFaults.{injectedOf}
+use Rattle.scope.specs.declared.decided.SbiCall.{SbiCall}
+use Rattle.scope.specs.declared.decided.SbiCall.the-variants as call
+use Rattle.scope.specs.VirtualInstruction.{injectedOf}
 use Rattle.scope.specs.declared.decided.Missed.{Missed}
 use Rattle.scope.specs.declared.decided.Missed.the-variants as missed
-use Rattle.scope.specs.declared.decided.Csr.{Csr}
-use Rattle.scope.specs.declared.decided.Csr.the-variants as csr
+use Rattle.scope.specs.declared.decided.Stimecmp.{Stimecmp}
+use Rattle.scope.specs.declared.decided.Stimecmp.the-variants as csr
 use Rattle.scope.specs.declared.decided.Fault.{Fault}
 use Rattle.scope.specs.declared.decided.Fault.the-variants as fault
 use Rattle.scope.specs.declared.decided.Answered.{Answered}
@@ -106,7 +104,7 @@ unfoldable pub fetchOut : List ℕ → List ℕ → List ℕ
 fetchOut r o = two o (getD r 32 0) (flagOf (spvpOf (getD r 34 0)))
 
 -- an SBI call
-unfoldable pub callLeft : List ℕ → List ℕ → Call → Left
+unfoldable pub callLeft : List ℕ → List ℕ → SbiCall → Left
 callLeft r o (call.Returns e v) = left (pairWords r e v) o 0
 callLeft r o call.Moves = left (stepWords r 4) o 0
 callLeft r o (call.LegacyTimer d) = left (giveWords (timerWords r d) 0) o 0
@@ -128,7 +126,7 @@ callLeft r o (call.Forward e) =
     left (set (bumpWords r (eventNumber e)) 54 12) (sixWords r (two o (getD r 17 0) (getD r 16 0))) 0x29
 
 -- a virtual instruction
-unfoldable pub csrLeft : List ℕ → List ℕ → Csr → Left
+unfoldable pub csrLeft : List ℕ → List ℕ → Stimecmp → Left
 csrLeft r o csr.Illegal = left (set (bumpWords r 2) 54 0) o 0x103
 csrLeft r o csr.Fetch = left (set r 54 2) (fetchOut r o) 0x21
 csrLeft r o (csr.Write rd timer) = left (putWord (stepWords (set r 40 timer) 4) rd (getD r 40 0)) o 0
@@ -155,9 +153,8 @@ missedLeft r o (missed.Inject cause addr) = left (injectWords r (injectedOf (vie
 missedLeft r o (missed.Nested addr) = left (set r 54 0) (two o (addr .0) 4) 8
 missedLeft r o missed.Unhandled = left (set r 54 0) o 0x106
 
--- an answer to asks 2 to 9
+-- the answer to an ecall's ask
 unfoldable pub answeredLeft : List ℕ → List ℕ → Answered → Left
-answeredLeft r o answered.Wrong = left r o 0x107
 answeredLeft r o answered.Moves = left (stepWords r 4) o 0
 answeredLeft r o (answered.Gives v) = left (giveWords r v) o 0
 answeredLeft r o (answered.Returns e v) = left (pairWords r e v) o 0
@@ -171,27 +168,11 @@ completeWords r (waiting.Load rd w s) n = putWord (set r 54 0) rd (extendOf w s 
 completeWords r waiting.Idle n = r
 completeWords r waiting.FetchCsr n = r
 completeWords r (waiting.FetchFault at a) n = r
-completeWords r waiting.CopyMask n = r
-completeWords r (waiting.CopyIn m) n = r
-completeWords r (waiting.Print m) n = r
-completeWords r (waiting.ReadConsole m at) n = r
-completeWords r (waiting.CopyOut m) n = r
-completeWords r waiting.PutChar n = r
-completeWords r waiting.PutByte n = r
-completeWords r waiting.GetChar n = r
-completeWords r waiting.Forward n = r
+completeWords r (waiting.Ecall a) n = r
 
 unfoldable pub completeWord : Waiting → ℕ
 completeWord (waiting.Load rd w s) = 0x40
 completeWord waiting.Idle = 0x102
 completeWord waiting.FetchCsr = 0x102
 completeWord (waiting.FetchFault at a) = 0x102
-completeWord waiting.CopyMask = 0x102
-completeWord (waiting.CopyIn m) = 0x102
-completeWord (waiting.Print m) = 0x102
-completeWord (waiting.ReadConsole m at) = 0x102
-completeWord (waiting.CopyOut m) = 0x102
-completeWord waiting.PutChar = 0x102
-completeWord waiting.PutByte = 0x102
-completeWord waiting.GetChar = 0x102
-completeWord waiting.Forward = 0x102
+completeWord (waiting.Ecall a) = 0x102

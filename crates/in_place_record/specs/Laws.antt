@@ -8,9 +8,9 @@ use mathlib.Core.Bool.{Bool, true, false}
 use mathlib.Core.List.{List}
 use mathlib.Core.Path.{_≡_, refl, ap, sym, subst, _∙_}
 use lib.ListN.{getD, length, set, take, drop}
-use Rattle.isa_types.specs.Pick.{pick, wrapped}
-use Rattle.scope.specs.Trap.{abiNumber, accessNumber, askNumber, exitNumber, flagOf, widthBytes, askValues, exitValues}
-use Rattle.scope.specs.Refusals.{errorNumber, askingOf, doneOf, failedOf, finishedOf, refusedOf}
+use Rattle.isa_types.specs.Pick.{pick}
+use Rattle.scope.specs.OneTrap.{abiNumber, accessNumber, askNumber, exitNumber, askValues, exitValues}
+use Rattle.scope.specs.Refusals.{errorNumber, askingOf, doneOf, failedOf, finishedOf, refusedOf, leavesOf}
 use Rattle.scope.specs.declared.traps.Access.{Access}
 use Rattle.isa_types.specs.declared.GuestPhysAddr.{GuestPhysAddr}
 use Rattle.scope.specs.declared.machine.Waiting.{Waiting}
@@ -22,24 +22,23 @@ use Rattle.scope.specs.declared.machine.Event.the-variants as event
 use Rattle.scope.specs.declared.machine.Outcome.{Outcome}
 use Rattle.scope.specs.declared.machine.Vcpu.{Vcpu}
 use Rattle.scope.specs.Record.{bumped, counted, eventNumber, listed, moved, pended, stored, timed, valueOf, applied, noArgs}
-use Rattle.scope.specs.declared.decided.Call.{Call}
-use Rattle.scope.specs.declared.decided.Call.the-variants as call
-use Rattle.scope.specs.Decided.{callEffect}
-use Rattle.scope.specs.Ecalls.{asksOf, clearIpiOf, hypercallOf, movesOf, returnsOf, setTimerOf, staysOf, answeredEffect}
-use Rattle.scope.specs.FetchFaults.{askFetchOf, injectedOf, missedEffect}
+use Rattle.scope.specs.declared.decided.SbiCall.{SbiCall}
+use Rattle.scope.specs.declared.decided.SbiCall.the-variants as call
+use Rattle.scope.specs.Decided.{callEffect, answeredEffect}
+use Rattle.scope.specs.Ecalls.{asksOf, clearIpiOf, hypercallOf, movesOf, returnsOf, setTimerOf, staysOf, forwardEffect, givesOf}
+use Rattle.scope.specs.VirtualInstruction.{askFetchOf, injectedOf, missedEffect, stimecmpEffect}
 use Rattle.scope.specs.declared.decided.Missed.{Missed}
 use Rattle.scope.specs.declared.decided.Missed.the-variants as missed
-use Rattle.scope.specs.VirtualInstruction.{csrEffect}
-use Rattle.scope.specs.declared.decided.Csr.{Csr}
-use Rattle.scope.specs.declared.decided.Csr.the-variants as csr
+use Rattle.scope.specs.declared.decided.Stimecmp.{Stimecmp}
+use Rattle.scope.specs.declared.decided.Stimecmp.the-variants as csr
 use Rattle.scope.specs.GuestPageFault.{faultEffect, completedOf}
 use Rattle.scope.specs.declared.decided.Fault.{Fault}
 use Rattle.scope.specs.declared.decided.Fault.the-variants as fault
 use Rattle.scope.specs.declared.decided.Answered.{Answered}
 use Rattle.scope.specs.declared.decided.Answered.the-variants as answered
-use Rattle.scope.specs.Words.{csrsOf, unpackOf, waitingBy, waitingOf, waitingWords}
+use Rattle.scope.specs.Words.{csrsOf, unpackOf, waitingBy, waitingOf, waitingWords, askedWords}
 use Rattle.scope.specs.WordsLaws.{access-back, flag-back, width-back}
-use Rattle.in_place_record.specs.View.{Done, Made, askCount, besideOf, exitCount, outOf, recordOf, refusalWord, replyWord, trapLeaves, viewOf, waitingCount}
+use Rattle.in_place_record.specs.View.{Done, Made, askCount, besideOf, exitCount, outOf, recordOf, refusalWord, replyWord, trapLeaves, viewOf, waitingCount, askedWordCount}
 use Rattle.in_place_record.specs.Deeds.{Leaves, Left, answeredLeft, argsWords, bumpWords, callLeft, completeWord, completeWords, csrLeft, faultLeft, fetchOut, giveWords, injectWords, missedLeft, putWord, readWord, movedWords, pairWords, sixWords, stepWords, timerWords}
 use Rattle.in_place_record.specs.Spelled.{spelled, spelled-out}
 
@@ -95,8 +94,8 @@ pub put-keeps : (s : List ℕ) (i n : ℕ) → drop 54 (putWord s i n) ≡ drop 
 unfolding putWord
 put-keeps s i n = keep-by s i n (eqb i 0) (ltb i 32) refl
 
-call-spelled : (k o : List ℕ) (d : Call) → let r : List ℕ = spelled 58 0 k in On r o (callEffect (viewOf r .csrs) (getD r 17 0) (getD r 16 0) (argsWords r) d) (callLeft r o d)
-unfolding viewOf recordOf unpackOf csrsOf waitingOf waitingBy applied callEffect returnsOf movesOf setTimerOf finishedOf askingOf noArgs stored counted bumped eventNumber listed moved timed pended replyWord outOf exitCount askCount besideOf exitNumber askNumber exitValues askValues callLeft pairWords giveWords stepWords movedWords timerWords bumpWords argsWords sixWords clearIpiOf asksOf staysOf hypercallOf abiNumber trapLeaves refusalWord waitingCount waitingWords
+call-spelled : (k o : List ℕ) (d : SbiCall) → let r : List ℕ = spelled 58 0 k in On r o (callEffect (viewOf r .csrs) (getD r 17 0) (getD r 16 0) (argsWords r) d) (callLeft r o d)
+unfolding viewOf recordOf unpackOf csrsOf waitingOf waitingBy applied callEffect returnsOf movesOf setTimerOf finishedOf askingOf noArgs stored counted bumped eventNumber listed moved timed pended replyWord outOf exitCount askCount besideOf exitNumber askNumber exitValues askValues callLeft pairWords giveWords stepWords movedWords timerWords bumpWords argsWords sixWords clearIpiOf asksOf staysOf hypercallOf abiNumber trapLeaves refusalWord waitingCount askedWordCount askedWords waitingWords givesOf forwardEffect
 call-spelled k o (call.Returns e v) = record { shows = refl; waits = refl; says = refl; gives = refl }
 call-spelled k o call.Moves = record { shows = refl; waits = refl; says = refl; gives = refl }
 call-spelled k o (call.LegacyTimer d) = record { shows = refl; waits = refl; says = refl; gives = refl }
@@ -126,23 +125,23 @@ call-spelled k o (call.Forward event.HfenceVvmaAsid) = record { shows = refl; wa
 call-spelled k o (call.Forward event.HfenceVvma) = record { shows = refl; waits = refl; says = refl; gives = refl }
 
 -- an SBI call
-pub call-made : (r o : List ℕ) → length r ≡ 58 → (d : Call) → On r o (callEffect (viewOf r .csrs) (getD r 17 0) (getD r 16 0) (argsWords r) d) (callLeft r o d)
+pub call-made : (r o : List ℕ) → length r ≡ 58 → (d : SbiCall) → On r o (callEffect (viewOf r .csrs) (getD r 17 0) (getD r 16 0) (argsWords r) d) (callLeft r o d)
 call-made r o e d =
     over (λ r. On r o (callEffect (viewOf r .csrs) (getD r 17 0) (getD r 16 0) (argsWords r) d) (callLeft r o d)) (λ k. call-spelled k o d) r e
 
-csr-spelled : (k o : List ℕ) (d : Csr) → let r : List ℕ = spelled 58 0 k in On r o (csrEffect (viewOf r .csrs) d) (csrLeft r o d)
-unfolding viewOf recordOf unpackOf csrsOf waitingOf waitingBy applied csrEffect askFetchOf finishedOf askingOf failedOf noArgs stored counted bumped eventNumber listed moved timed replyWord outOf exitCount askCount besideOf exitNumber askNumber errorNumber exitValues askValues csrLeft stepWords movedWords bumpWords fetchOut trapLeaves refusalWord waitingCount waitingWords
+csr-spelled : (k o : List ℕ) (d : Stimecmp) → let r : List ℕ = spelled 58 0 k in On r o (stimecmpEffect (viewOf r .csrs) d) (csrLeft r o d)
+unfolding viewOf recordOf unpackOf csrsOf waitingOf waitingBy applied stimecmpEffect askFetchOf finishedOf askingOf failedOf noArgs stored counted bumped eventNumber listed moved timed replyWord outOf exitCount askCount besideOf exitNumber askNumber errorNumber exitValues askValues csrLeft stepWords movedWords bumpWords fetchOut trapLeaves refusalWord waitingCount askedWordCount askedWords waitingWords
 csr-spelled k o csr.Illegal = record { shows = refl; waits = refl; says = refl; gives = refl }
 csr-spelled k o csr.Fetch = record { shows = refl; waits = refl; says = refl; gives = refl }
 csr-spelled k o (csr.Write rd timer) =
     record { shows = put-shows (stepWords (set (spelled 58 0 k) 40 timer) 4) rd (getD k 40 0); waits = put-keeps (stepWords (set (spelled 58 0 k) 40 timer) 4) rd (getD k 40 0); says = refl; gives = refl }
 
 -- a virtual instruction
-pub csr-made : (r o : List ℕ) → length r ≡ 58 → (d : Csr) → On r o (csrEffect (viewOf r .csrs) d) (csrLeft r o d)
-csr-made r o e d = over (λ r. On r o (csrEffect (viewOf r .csrs) d) (csrLeft r o d)) (λ k. csr-spelled k o d) r e
+pub csr-made : (r o : List ℕ) → length r ≡ 58 → (d : Stimecmp) → On r o (stimecmpEffect (viewOf r .csrs) d) (csrLeft r o d)
+csr-made r o e d = over (λ r. On r o (stimecmpEffect (viewOf r .csrs) d) (csrLeft r o d)) (λ k. csr-spelled k o d) r e
 
 fault-spelled : (k o : List ℕ) (at : GuestPhysAddr) (a : Access) (d : Fault) → let r : List ℕ = spelled 58 0 k in On r o (faultEffect (viewOf r .csrs) at a d) (faultLeft r o at a d)
-unfolding viewOf recordOf unpackOf csrsOf waitingOf waitingBy applied faultEffect askFetchOf finishedOf askingOf failedOf noArgs stored counted bumped eventNumber listed moved replyWord outOf exitCount askCount besideOf exitNumber askNumber errorNumber exitValues askValues faultLeft stepWords movedWords fetchOut trapLeaves refusalWord waitingCount waitingWords
+unfolding viewOf recordOf unpackOf csrsOf waitingOf waitingBy applied faultEffect askFetchOf finishedOf askingOf failedOf noArgs stored counted bumped eventNumber listed moved replyWord outOf exitCount askCount besideOf exitNumber askNumber errorNumber exitValues askValues faultLeft stepWords movedWords fetchOut trapLeaves refusalWord waitingCount askedWordCount askedWords waitingWords
 fault-spelled k o at a fault.Fetch =
     record { shows = same refl refl refl (λ i. waiting.FetchFault at (access-back a i)); waits = refl; says = refl; gives = refl }
 fault-spelled k o at a fault.Walk = record { shows = refl; waits = refl; says = refl; gives = refl }
@@ -157,7 +156,7 @@ pub fault-made : (r o : List ℕ) → length r ≡ 58 → (at : GuestPhysAddr) (
 fault-made r o e at a d = over (λ r. On r o (faultEffect (viewOf r .csrs) at a d) (faultLeft r o at a d)) (λ k. fault-spelled k o at a d) r e
 
 missed-spelled : (k o : List ℕ) (d : Missed) → let r : List ℕ = spelled 58 0 k in On r o (missedEffect (viewOf r .csrs) d) (missedLeft r o d)
-unfolding viewOf recordOf unpackOf csrsOf waitingOf waitingBy applied missedEffect injectedOf finishedOf failedOf noArgs stored counted bumped eventNumber listed replyWord outOf exitCount besideOf exitNumber errorNumber exitValues accessNumber missedLeft injectWords trapLeaves refusalWord waitingCount waitingWords
+unfolding viewOf recordOf unpackOf csrsOf waitingOf waitingBy applied missedEffect injectedOf finishedOf failedOf noArgs stored counted bumped eventNumber listed replyWord outOf exitCount besideOf exitNumber errorNumber exitValues accessNumber missedLeft injectWords trapLeaves refusalWord waitingCount askedWordCount askedWords waitingWords
 missed-spelled k o (missed.Inject cause addr) = record { shows = refl; waits = refl; says = refl; gives = refl }
 missed-spelled k o (missed.Nested addr) = record { shows = refl; waits = refl; says = refl; gives = refl }
 missed-spelled k o missed.Unhandled = record { shows = refl; waits = refl; says = refl; gives = refl }
@@ -166,9 +165,8 @@ missed-spelled k o missed.Unhandled = record { shows = refl; waits = refl; says 
 pub missed-made : (r o : List ℕ) → length r ≡ 58 → (d : Missed) → On r o (missedEffect (viewOf r .csrs) d) (missedLeft r o d)
 missed-made r o e d = over (λ r. On r o (missedEffect (viewOf r .csrs) d) (missedLeft r o d)) (λ k. missed-spelled k o d) r e
 
-answered-spelled : (k o : List ℕ) (d : Answered) → let r : List ℕ = spelled 58 0 k in On r o (answeredEffect (viewOf r .csrs) (viewOf r .waiting) d) (answeredLeft r o d)
-unfolding viewOf recordOf unpackOf csrsOf waitingOf waitingBy applied answeredEffect finishedOf askingOf refusedOf noArgs stored counted bumped eventNumber listed moved replyWord outOf exitCount askCount besideOf exitNumber askNumber errorNumber exitValues askValues answeredLeft pairWords giveWords stepWords movedWords trapLeaves refusalWord waitingCount waitingWords
-answered-spelled k o answered.Wrong = record { shows = refl; waits = refl; says = refl; gives = refl }
+answered-spelled : (k o : List ℕ) (d : Answered) → let r : List ℕ = spelled 58 0 k in On r o (answeredEffect (viewOf r .csrs) d) (answeredLeft r o d)
+unfolding viewOf recordOf unpackOf csrsOf waitingOf waitingBy applied answeredEffect finishedOf askingOf refusedOf leavesOf noArgs stored counted bumped eventNumber listed moved replyWord outOf exitCount askCount besideOf exitNumber askNumber errorNumber exitValues askValues answeredLeft pairWords giveWords stepWords movedWords trapLeaves refusalWord waitingCount askedWordCount askedWords waitingWords movesOf givesOf returnsOf asksOf
 answered-spelled k o answered.Moves = record { shows = refl; waits = refl; says = refl; gives = refl }
 answered-spelled k o (answered.Gives v) = record { shows = refl; waits = refl; says = refl; gives = refl }
 answered-spelled k o (answered.Returns e v) = record { shows = refl; waits = refl; says = refl; gives = refl }
@@ -177,26 +175,18 @@ answered-spelled k o (answered.Print n) = record { shows = refl; waits = refl; s
 answered-spelled k o (answered.CopyOut at n) = record { shows = refl; waits = refl; says = refl; gives = refl }
 
 -- an answer to asks 2 to 9
-pub answered-made : (r o : List ℕ) → length r ≡ 58 → (d : Answered) → On r o (answeredEffect (viewOf r .csrs) (viewOf r .waiting) d) (answeredLeft r o d)
-answered-made r o e d = over (λ r. On r o (answeredEffect (viewOf r .csrs) (viewOf r .waiting) d) (answeredLeft r o d)) (λ k. answered-spelled k o d) r e
+pub answered-made : (r o : List ℕ) → length r ≡ 58 → (d : Answered) → On r o (answeredEffect (viewOf r .csrs) d) (answeredLeft r o d)
+answered-made r o e d = over (λ r. On r o (answeredEffect (viewOf r .csrs) d) (answeredLeft r o d)) (λ k. answered-spelled k o d) r e
 
 -- a load's completion
 
 complete-spelled : (k : List ℕ) (w : Waiting) (n : ℕ) → let r : List ℕ = spelled 58 0 k in viewOf r .waiting ≡ w → Done (trapLeaves r) (applied (viewOf r) (completedOf (viewOf r .csrs) w n)) (completeWords r w n) (completeWord w)
-unfolding viewOf recordOf unpackOf csrsOf waitingOf waitingBy applied completedOf refusedOf doneOf noArgs stored counted bumped eventNumber listed replyWord errorNumber completeWords completeWord trapLeaves refusalWord waitingCount waitingWords
+unfolding viewOf recordOf unpackOf csrsOf waitingOf waitingBy applied completedOf refusedOf leavesOf doneOf noArgs stored counted bumped eventNumber listed replyWord errorNumber completeWords completeWord trapLeaves refusalWord waitingCount askedWordCount askedWords waitingWords
 complete-spelled k waiting.Idle n e = record { shows = same refl refl refl e; waits = refl; says = refl }
 complete-spelled k (waiting.Load rd w s) n e = record { shows = put-shows (set (spelled 58 0 k) 54 0) rd _; waits = put-keeps (set (spelled 58 0 k) 54 0) rd _; says = refl }
 complete-spelled k waiting.FetchCsr n e = record { shows = same refl refl refl e; waits = refl; says = refl }
 complete-spelled k (waiting.FetchFault at a) n e = record { shows = same refl refl refl e; waits = refl; says = refl }
-complete-spelled k waiting.CopyMask n e = record { shows = same refl refl refl e; waits = refl; says = refl }
-complete-spelled k (waiting.CopyIn m) n e = record { shows = same refl refl refl e; waits = refl; says = refl }
-complete-spelled k (waiting.Print m) n e = record { shows = same refl refl refl e; waits = refl; says = refl }
-complete-spelled k (waiting.ReadConsole m at) n e = record { shows = same refl refl refl e; waits = refl; says = refl }
-complete-spelled k (waiting.CopyOut m) n e = record { shows = same refl refl refl e; waits = refl; says = refl }
-complete-spelled k waiting.PutChar n e = record { shows = same refl refl refl e; waits = refl; says = refl }
-complete-spelled k waiting.PutByte n e = record { shows = same refl refl refl e; waits = refl; says = refl }
-complete-spelled k waiting.GetChar n e = record { shows = same refl refl refl e; waits = refl; says = refl }
-complete-spelled k waiting.Forward n e = record { shows = same refl refl refl e; waits = refl; says = refl }
+complete-spelled k (waiting.Ecall a) n e = record { shows = same refl refl refl e; waits = refl; says = refl }
 
 pub complete-done : (r : List ℕ) → length r ≡ 58 → (w : Waiting) (n : ℕ) → viewOf r .waiting ≡ w → Done (trapLeaves r) (applied (viewOf r) (completedOf (viewOf r .csrs) w n)) (completeWords r w n) (completeWord w)
 complete-done r e w n =

@@ -8,7 +8,7 @@ use lib.ListN.{drop, set, take}
 use lib.Dec.{eqb}
 use lib.Seq.{sets}
 use Rattle.isa_types.specs.Pick.{or, pick}
-use Rattle.scope.specs.Trap.{askNumber, exitNumber, askValues, exitValues}
+use Rattle.scope.specs.OneTrap.{askNumber, exitNumber, askValues, exitValues}
 use Rattle.scope.specs.Refusals.{errorNumber}
 use Rattle.scope.specs.declared.traps.Ask.{Ask}
 use Rattle.scope.specs.declared.traps.Ask.the-variants as ask
@@ -19,6 +19,8 @@ use Rattle.scope.specs.declared.traps.Reply.the-variants as reply
 use Rattle.scope.specs.declared.machine.Outcome.{Outcome}
 use Rattle.scope.specs.declared.machine.Vcpu.{Vcpu}
 use Rattle.scope.specs.declared.machine.Waiting.{Waiting}
+use Rattle.scope.specs.declared.machine.EcallAsk.{EcallAsk}
+use Rattle.scope.specs.declared.machine.EcallAsk.the-variants as asked
 use Rattle.scope.specs.declared.machine.Waiting.the-variants as waiting
 use Rattle.scope.specs.declared.machine.Record.{Record}
 use Rattle.scope.specs.Words.{unpackOf, waitingWords}
@@ -83,20 +85,23 @@ unfoldable pub refusalWord : ℕ → Bool
 refusalWord w = or (eqb w 0x101) (or (eqb w 0x102) (eqb w 0x107))
 
 -- how many of the four waiting words a kind has a use for: its own, and the numbers that it carries
+unfoldable pub askedWordCount : EcallAsk → ℕ
+askedWordCount asked.CopyMask = 1
+askedWordCount (asked.CopyIn n) = 2
+askedWordCount (asked.Print n) = 2
+askedWordCount (asked.ReadConsole n a) = 3
+askedWordCount (asked.CopyOut n) = 2
+askedWordCount asked.PutChar = 1
+askedWordCount asked.PutByte = 1
+askedWordCount asked.GetChar = 1
+askedWordCount asked.Forward = 1
+
 unfoldable pub waitingCount : Waiting → ℕ
 waitingCount waiting.Idle = 1
 waitingCount (waiting.Load r w s) = 4
 waitingCount waiting.FetchCsr = 1
 waitingCount (waiting.FetchFault a k) = 3
-waitingCount waiting.CopyMask = 1
-waitingCount (waiting.CopyIn n) = 2
-waitingCount (waiting.Print n) = 2
-waitingCount (waiting.ReadConsole n a) = 3
-waitingCount (waiting.CopyOut n) = 2
-waitingCount waiting.PutChar = 1
-waitingCount waiting.PutByte = 1
-waitingCount waiting.GetChar = 1
-waitingCount waiting.Forward = 1
+waitingCount (waiting.Ecall a) = askedWordCount a
 
 -- the waiting words that a trap, an answer or a load's completion leaves: a refusal leaves them as they were; else those
 -- that the kind has a use for are written, and the others stay

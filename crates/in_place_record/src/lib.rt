@@ -89,15 +89,7 @@ pub fn complete(r: &mut [u64; 58], w: Waiting, n: u64) -> u64
         }
         Waiting::FetchCsr => 0x102,
         Waiting::FetchFault { at: _, access: _ } => 0x102,
-        Waiting::CopyMask => 0x102,
-        Waiting::CopyIn { count: _ } => 0x102,
-        Waiting::Print { count: _ } => 0x102,
-        Waiting::ReadConsole { count: _, at: _ } => 0x102,
-        Waiting::CopyOut { count: _ } => 0x102,
-        Waiting::PutChar => 0x102,
-        Waiting::PutByte => 0x102,
-        Waiting::GetChar => 0x102,
-        Waiting::Forward => 0x102,
+        Waiting::Ecall(_) => 0x102,
     }
 }
 

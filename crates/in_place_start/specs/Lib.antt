@@ -1,3 +1,2 @@
-pub mod Classes
 pub mod Laws
 pub mod Words

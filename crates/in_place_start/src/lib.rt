@@ -3,31 +3,24 @@
 ghost use mathlib.Core.Path.{_≡_};
 ghost use Prim.Native.Nat.{_%_, _^_};
 ghost use lib.ListN.{getD};
+ghost use Rattle.scope.specs.declared.hosts.HostCall.the-variants as hostCall;
 ghost use Rattle.scope.specs.Refusals.{refusedOf};
 ghost use Rattle.scope.specs.declared.traps.Error.the-variants as error;
 ghost use Rattle.isa_types.specs.Pick.{pick};
 ghost use Rattle.isa_fields.specs.Fields.{rs1Field};
 ghost use Rattle.scope.specs.Record.{valueOf, applied};
-ghost use Rattle.scope.specs.Classes.{trapOf, argumentsOf, mmioOf, pageFaultOf, sbiOf, stimecmpOf};
-ghost use Rattle.scope.specs.Calls.{startOf};
+ghost use Rattle.scope.specs.Classes.{argumentsOf, classOf, classEffect};
+ghost use Rattle.scope.specs.GuestPageFault.{mmioOf, pageFaultOf};
+ghost use Rattle.scope.specs.Ecalls.{ecallEffect};
+ghost use Rattle.scope.specs.VirtualInstruction.{virtualEffect};
+ghost use Rattle.scope.specs.Calls.{calledOf};
 ghost use Rattle.in_place_record.specs.View.{Made, trapLeaves, viewOf};
-ghost use Rattle.in_place_start.specs.Classes.{classEffect, classOf, otherClass};
 ghost use Rattle.in_place_start.specs.Words.{trapWords};
 use isa_decoder::Trapped;
 use isa_types::GuestPhysAddr;
 use scope::Access;
+use scope::Class;
 use scope::Trap;
-
-// What a trap is handled as.
-pub enum Class {
-    Ecall,
-    Instruction,
-    PageFault(Access),
-    External,
-    // A code that is known and not handled.
-    Known,
-    Unknown,
-}
 
 // The trap of five words, read with no record in sight.
 pub fn trap_of(t: &[u64; 5]) -> Trap
@@ -44,43 +37,19 @@ pub fn trap_of(t: &[u64; 5]) -> Trap
 
 // Starts a trap.
 pub fn start(r: &mut [u64; 58], out: &mut [u64; 8], t: Trap) -> u64
-    ensures { λ w. ⌜ Made (trapLeaves (now (r .entry))) (now (out .entry)) (startOf (viewOf (now (r .entry))) t) (now (r .exit)) (now (out .exit)) w ⌝ }
+    ensures { λ w. ⌜ Made (trapLeaves (now (r .entry))) (now (out .entry)) (calledOf (viewOf (now (r .entry))) (hostCall.Start t)) (now (r .exit)) (now (out .exit)) w ⌝ }
 {
     let idle = decide_record::is_idle(in_place_read::waiting(r));
     started(idle, r, out, t)
 }
 
 fn started(idle: bool, r: &mut [u64; 58], out: &mut [u64; 8], t: Trap) -> u64
-    ensures { λ w. ⌜ Made (trapLeaves (now (r .entry))) (now (out .entry)) (applied (viewOf (now (r .entry))) (pick idle (trapOf (viewOf (now (r .entry)) .x) (viewOf (now (r .entry)) .csrs) t) (refusedOf (viewOf (now (r .entry)) .csrs) (viewOf (now (r .entry)) .waiting) error.BadState))) (now (r .exit)) (now (out .exit)) w ⌝ }
+    ensures { λ w. ⌜ Made (trapLeaves (now (r .entry))) (now (out .entry)) (applied (viewOf (now (r .entry))) (pick idle (classEffect (classOf (t .scause)) (viewOf (now (r .entry)) .x) (viewOf (now (r .entry)) .csrs) t) (refusedOf (viewOf (now (r .entry)) .csrs) (viewOf (now (r .entry)) .waiting) error.BadState))) (now (r .exit)) (now (out .exit)) w ⌝ }
 {
     if idle {
-        return trapped(class_of(t.scause), r, out, t);
+        return trapped(decide_class::class_of(t.scause), r, out, t);
     }
     0x102
-}
-
-fn class_of(scause: u64) -> Class
-    ensures { λ c. ⌜ c ≡ classOf scause ⌝ }
-{
-    match scause {
-        isa_consts::ENV_CALL_FROM_VS => Class::Ecall,
-        isa_consts::VIRTUAL_INST => Class::Instruction,
-        isa_consts::LOAD_GUEST_PAGE_FAULT => Class::PageFault(Access::Read),
-        isa_consts::STORE_GUEST_PAGE_FAULT => Class::PageFault(Access::Write),
-        isa_consts::S_SOFT => Class::External,
-        isa_consts::S_TIMER => Class::External,
-        isa_consts::S_EXT => Class::External,
-        _ => other(isa_consts::is_known_cause(scause)),
-    }
-}
-
-fn other(known: bool) -> Class
-    ensures { λ c. ⌜ c ≡ otherClass known ⌝ }
-{
-    if known {
-        return Class::Known;
-    }
-    Class::Unknown
 }
 
 // Each class at one place.
@@ -89,15 +58,15 @@ fn trapped(class: Class, r: &mut [u64; 58], out: &mut [u64; 8], t: Trap) -> u64
 {
     in_place_record::sized(r);
     match class {
-        Class::Ecall => sbi(r, out, t.room),
-        Class::Instruction => stimecmp(r, out, t.stval),
-        Class::PageFault(access) => page_fault_trap(r, out, t, access),
-        Class::External => {
+        Class::Ecall => ecall(r, out, t.room),
+        Class::VirtualInstruction => virtual_inst(r, out, t.stval),
+        Class::PageFault(access) => page_fault(r, out, t, access),
+        Class::Interrupt => {
             out[0] = t.scause;
             r[in_place_record::KIND] = 0;
             1
         }
-        Class::Known => {
+        Class::NotHandled => {
             r[in_place_record::KIND] = 0;
             0x103
         }
@@ -108,8 +77,8 @@ fn trapped(class: Class, r: &mut [u64; 58], out: &mut [u64; 8], t: Trap) -> u64
     }
 }
 
-fn sbi(r: &mut [u64; 58], out: &mut [u64; 8], room: u64) -> u64
-    ensures { λ w. ⌜ Made (trapLeaves (now (r .entry))) (now (out .entry)) (applied (viewOf (now (r .entry))) (sbiOf (viewOf (now (r .entry)) .csrs) (getD (viewOf (now (r .entry)) .x) 17 0) (getD (viewOf (now (r .entry)) .x) 16 0) (argumentsOf (viewOf (now (r .entry)) .x)) room)) (now (r .exit)) (now (out .exit)) w ⌝ }
+fn ecall(r: &mut [u64; 58], out: &mut [u64; 8], room: u64) -> u64
+    ensures { λ w. ⌜ Made (trapLeaves (now (r .entry))) (now (out .entry)) (applied (viewOf (now (r .entry))) (ecallEffect (viewOf (now (r .entry)) .csrs) (getD (viewOf (now (r .entry)) .x) 17 0) (getD (viewOf (now (r .entry)) .x) 16 0) (argumentsOf (viewOf (now (r .entry)) .x)) room)) (now (r .exit)) (now (out .exit)) w ⌝ }
 {
     in_place_record::sized(r);
     let a = in_place_read::args(r);
@@ -117,16 +86,16 @@ fn sbi(r: &mut [u64; 58], out: &mut [u64; 8], room: u64) -> u64
     in_place_ecall::do_call(r, out, d)
 }
 
-fn stimecmp(r: &mut [u64; 58], out: &mut [u64; 8], stval: u64) -> u64
-    ensures { λ w. ⌜ Made (trapLeaves (now (r .entry))) (now (out .entry)) (applied (viewOf (now (r .entry))) (stimecmpOf (viewOf (now (r .entry)) .csrs) stval (valueOf (viewOf (now (r .entry)) .x) (rs1Field (stval % 2 ^ 32))))) (now (r .exit)) (now (out .exit)) w ⌝ }
+fn virtual_inst(r: &mut [u64; 58], out: &mut [u64; 8], stval: u64) -> u64
+    ensures { λ w. ⌜ Made (trapLeaves (now (r .entry))) (now (out .entry)) (applied (viewOf (now (r .entry))) (virtualEffect (viewOf (now (r .entry)) .csrs) stval (valueOf (viewOf (now (r .entry)) .x) (rs1Field (stval % 2 ^ 32))))) (now (r .exit)) (now (out .exit)) w ⌝ }
 {
     in_place_record::sized(r);
     let rs1 = in_place_read::read(r, isa_fields::rs1(stval % 0x1_0000_0000));
-    let d = decide_virtual_inst::start(stval, r[in_place_record::VSTIMECMP], rs1);
+    let d = decide_virtual_inst::decide_stval(stval, r[in_place_record::VSTIMECMP], rs1);
     in_place_classes::do_csr(r, out, d)
 }
 
-fn page_fault_trap(r: &mut [u64; 58], out: &mut [u64; 8], t: Trap, access: Access) -> u64
+fn page_fault(r: &mut [u64; 58], out: &mut [u64; 8], t: Trap, access: Access) -> u64
     ensures { λ w. ⌜ Made (trapLeaves (now (r .entry))) (now (out .entry)) (applied (viewOf (now (r .entry))) (pageFaultOf (viewOf (now (r .entry)) .x) (viewOf (now (r .entry)) .csrs) t access)) (now (r .exit)) (now (out .exit)) w ⌝ }
 {
     let at = isa_registers::guest_page_fault_addr(t.htval, t.stval);

@@ -1,4 +1,5 @@
--- Ecalls: each SBI call by its numbers, its effect, and what the answers to its asks do. 01, Ecalls.
+-- Ecalls: each SBI call by its numbers, with its effect, and what the answers to its asks do. 01, Ecalls.
+-- eid is a7, fid a6. c is the CSRs, a the arguments a0 to a5.
 use Prim.Native.Nat.{ℕ, _%_}
 use mathlib.Core.Bool.{false, Bool, true}
 use lib.Dec.{eqb, leb}
@@ -7,48 +8,29 @@ use Rattle.isa_consts.specs.Csr.{vssip, consoleRoom}
 use Rattle.isa_consts.specs.Sbi.{hartMaskBytes, success, failed, invalidParam, notSupported, legacySetTimer, legacyPutchar, legacyGetchar, legacyClearIpi, legacySendIpi, legacyFenceI, legacySfenceVma, legacySfenceVmaAsid, legacyShutdown, eidTime, eidSpi, eidHsm, eidHvc, eidSrst, eidDbcn, eidRfnc}
 use Rattle.isa_registers.specs.Bits.{withBits}
 use Rattle.isa_types.specs.Pick.{pick}
-use Rattle.scope.specs.declared.decided.Answered.the-variants as answered
-use Rattle.scope.specs.declared.decided.Answered.{Answered}
 use Rattle.scope.specs.declared.decided.IpiCompletion.the-variants as completion
 use Rattle.scope.specs.declared.decided.IpiCompletion.{IpiCompletion}
 use Rattle.scope.specs.declared.decided.LegacyRequest.the-variants as legacy
 use Rattle.scope.specs.declared.decided.LegacyRequest.{LegacyRequest}
 use Rattle.scope.specs.declared.machine.Csrs.{Csrs}
+use Rattle.scope.specs.declared.machine.EcallAsk.the-variants as asked
+use Rattle.scope.specs.declared.machine.EcallAsk.{EcallAsk}
 use Rattle.scope.specs.declared.machine.Effect.{Effect}
 use Rattle.scope.specs.declared.machine.Event.the-variants as event
 use Rattle.scope.specs.declared.machine.Event.{Event}
 use Rattle.scope.specs.declared.machine.Waiting.the-variants as waiting
-use Rattle.scope.specs.declared.machine.Waiting.{Waiting}
 use Rattle.scope.specs.declared.machine.Writes.the-variants as writes
 use Rattle.scope.specs.declared.machine.Writes.{Writes}
 use Rattle.scope.specs.declared.traps.Args.{Args}
 use Rattle.scope.specs.declared.traps.Ask.the-variants as ask
 use Rattle.scope.specs.declared.traps.Ask.{Ask}
-use Rattle.scope.specs.declared.traps.Error.the-variants as error
 use Rattle.scope.specs.declared.traps.Exit.the-variants as exit
 use Rattle.scope.specs.declared.traps.Exit.{Exit}
 use Rattle.scope.specs.declared.traps.IpiAbi.the-variants as abi
 use Rattle.scope.specs.declared.traps.IpiRequest.{IpiRequest}
 use Rattle.scope.specs.declared.traps.Reply.the-variants as reply
 use Rattle.scope.specs.Record.{moved, timed, pended}
-use Rattle.scope.specs.Refusals.{finishedOf, askingOf, refusedOf}
-
--- sPI fid 0: SendIpi(a0, a1, v0.2)
-unfoldable pub standardRequest : ℕ → ℕ → IpiRequest
-standardRequest mask base = record { mask = mask; base = base; abi = abi.SbiV02 }
-
--- legacy 4: a count of 8 gives SendIpi(mask, base 0, legacy), any other count is a short read
-unfoldable pub legacyRequest : ℕ → ℕ → LegacyRequest
-legacyRequest count bytes =
-    pick (eqb count hartMaskBytes)
-    (legacy.Request (record { mask = bytes; base = 0; abi = abi.Legacy }))
-    legacy.ShortRead
-
--- IPI completion: 0, -3, -1
-unfoldable pub completionNumber : IpiCompletion → ℕ
-completionNumber completion.Success = success
-completionNumber completion.InvalidParameter = invalidParam
-completionNumber completion.Failed = failed
+use Rattle.scope.specs.Refusals.{finishedOf, askingOf}
 
 -- "return e, v": a0 = e, a1 = v; sepc moves on by 4; exit Nothing
 unfoldable pub returnsOf : Csrs → ℕ → ℕ → Effect
@@ -58,12 +40,17 @@ returnsOf c e v = finishedOf (moved c 4) event.Quiet (writes.Pair e v) exit.Noth
 unfoldable pub movesOf : Csrs → Exit → Effect
 movesOf c x = finishedOf (moved c 4) event.Quiet writes.Keep x
 
+-- a0 is the number, sepc moves on by 4
+unfoldable pub givesOf : Csrs → ℕ → Effect
+givesOf c n = finishedOf (moved c 4) event.Quiet (writes.One 10 n) exit.Nothing
+
 -- sepc unmoved
 unfoldable pub staysOf : Csrs → Exit → Effect
 staysOf c x = finishedOf c event.Quiet writes.Keep x
 
-unfoldable pub asksOf : Csrs → Waiting → Ask → Effect
-asksOf c n a = askingOf c event.Quiet n a
+-- an ask, which waits with what its answer needs
+unfoldable pub asksOf : Csrs → EcallAsk → Ask → Effect
+asksOf c n a = askingOf c event.Quiet (waiting.Ecall n) a
 
 -- event 1, vstimecmp = deadline, then the registers; sepc moves on by 4
 unfoldable pub setTimerOf : Csrs → ℕ → Writes → Effect
@@ -95,11 +82,15 @@ notSupportedEffect c = returnsOf c notSupported 0
 
 -- ask 9 with the call's numbers; the event is counted before the ask
 unfoldable pub forwardEffect : Csrs → Event → ℕ → ℕ → Args → Effect
-forwardEffect c e eid fid a = askingOf c e waiting.Forward (ask.Forward eid fid a)
+forwardEffect c e eid fid a = askingOf c e (waiting.Ecall asked.Forward) (ask.Forward eid fid a)
 
 -- SBI, 'Timer Extension'. fid 0: event 1, vstimecmp = a0, return 0, 0
 unfoldable pub timeEffect : Csrs → ℕ → Args → Effect
 timeEffect c fid a = pick (eqb fid 0) (setTimerOf c (a .a0) (writes.Pair 0 0)) (notSupportedEffect c)
+
+-- an IPI request of extension sPI: mask and base as given
+unfoldable pub standardRequest : ℕ → ℕ → IpiRequest
+standardRequest mask base = record { mask = mask; base = base; abi = abi.SbiV02 }
 
 -- SBI, 'IPI Extension'. fid 0: move on, SendIpi(a0, a1, v0.2)
 unfoldable pub spiEffect : Csrs → ℕ → Args → Effect
@@ -122,8 +113,8 @@ srstEffect c fid a =
 unfoldable pub spanEffect : Csrs → Bool → GuestPhysAddr → ℕ → Effect
 spanEffect c write at n =
     pick (eqb n 0) (returnsOf c success 0)
-    (pick write (asksOf c (waiting.CopyIn n) (ask.CopyIn at n))
-    (asksOf c (waiting.ReadConsole n at) (ask.ReadConsole n)))
+    (pick write (asksOf c (asked.CopyIn n) (ask.CopyIn at n))
+    (asksOf c (asked.ReadConsole n at) (ask.ReadConsole n)))
 
 -- a0 = 0 returns 0, 0 and asks nothing; then a2 not 0 returns INVALID_PARAM, 0; n is the lesser of a0 and room
 unfoldable pub consoleEffect : Csrs → Bool → Args → ℕ → Effect
@@ -137,7 +128,7 @@ unfoldable pub dbcnEffect : Csrs → ℕ → Args → ℕ → Effect
 dbcnEffect c fid a room =
     pick (eqb fid 0) (consoleEffect c true a room)
     (pick (eqb fid 1) (consoleEffect c false a room)
-    (pick (eqb fid 2) (asksOf c waiting.PutByte (ask.Emit (a .a0 % 256)))
+    (pick (eqb fid 2) (asksOf c asked.PutByte (ask.Emit (a .a0 % 256)))
     (notSupportedEffect c)))
 
 -- SBI, 'RFENCE Extension'. fids 0 to 6 count events 3 to 9 in order; with any fid, ask 9
@@ -156,10 +147,10 @@ rfncEffect c eid fid a =
 unfoldable pub ecallEffect : Csrs → ℕ → ℕ → Args → ℕ → Effect
 ecallEffect c eid fid a room =
     pick (eqb eid legacySetTimer) (setTimerOf c (a .a0) (writes.One 10 0))
-    (pick (eqb eid legacyPutchar) (asksOf c waiting.PutChar (ask.Emit (a .a0)))
-    (pick (eqb eid legacyGetchar) (asksOf c waiting.GetChar ask.GetChar)
+    (pick (eqb eid legacyPutchar) (asksOf c asked.PutChar (ask.Emit (a .a0)))
+    (pick (eqb eid legacyGetchar) (asksOf c asked.GetChar ask.GetChar)
     (pick (eqb eid legacyClearIpi) (clearIpiOf c)
-    (pick (eqb eid legacySendIpi) (asksOf c waiting.CopyMask (ask.CopyMask (record { 0 = a .a0 })))
+    (pick (eqb eid legacySendIpi) (asksOf c asked.CopyMask (ask.CopyMask (record { 0 = a .a0 })))
     (pick (eqb eid legacyFenceI) (movesOf c exit.Nothing)
     (pick (eqb eid legacySfenceVma) (movesOf c exit.Nothing)
     (pick (eqb eid legacySfenceVmaAsid) (movesOf c exit.Nothing)
@@ -173,55 +164,54 @@ ecallEffect c eid fid a room =
     (pick (eqb eid eidRfnc) (rfncEffect c eid fid a)
     (forwardEffect c event.Quiet eid fid a))))))))))))))))
 
--- legacy 4: SendIpi, or a short copy returns FAILED, 0
-unfoldable pub maskOf : LegacyRequest → Answered
-maskOf (legacy.Request r) = answered.SendIpi r
-maskOf legacy.ShortRead = answered.Returns failed 0
+-- legacy 4, ask 2: a count of 8 is a mask with base 0, any other count a short read
+unfoldable pub legacyRequest : ℕ → ℕ → LegacyRequest
+legacyRequest count bytes =
+    pick (eqb count hartMaskBytes)
+    (legacy.Request (record { mask = bytes; base = 0; abi = abi.Legacy }))
+    legacy.ShortRead
+
+-- SendIpi(mask, base 0, legacy); a short read returns FAILED, 0
+unfoldable pub maskEffect : Csrs → LegacyRequest → Effect
+maskEffect c (legacy.Request r) = movesOf c (exit.SendIpi r)
+maskEffect c legacy.ShortRead = returnsOf c failed 0
 
 -- DBCN fid 0, ask 3: count n leads to ask 4; else FAILED, 0
-unfoldable pub copiedOf : ℕ → ℕ → Answered
-copiedOf n got = pick (eqb got n) (answered.Print n) (answered.Returns failed 0)
+unfoldable pub copiedEffect : Csrs → ℕ → ℕ → Effect
+copiedEffect c n got = pick (eqb got n) (asksOf c (asked.Print n) (ask.Print n)) (returnsOf c failed 0)
 
 -- DBCN fid 1, ask 5: error 0 and a value from 1 to n leads to ask 6; every other pair is returned as given
-unfoldable pub readOf : ℕ → GuestPhysAddr → ℕ → ℕ → Answered
-readOf n at error value =
+unfoldable pub consoleReadEffect : Csrs → ℕ → GuestPhysAddr → ℕ → ℕ → Effect
+consoleReadEffect c n at error value =
     pick (eqb error 0)
-    (pick (eqb value 0) (answered.Returns error value)
-    (pick (leb value n) (answered.CopyOut at value)
-    (answered.Returns error value)))
-    (answered.Returns error value)
+    (pick (eqb value 0) (returnsOf c error value)
+    (pick (leb value n) (asksOf c (asked.CopyOut value) (ask.CopyOut at value))
+    (returnsOf c error value)))
+    (returnsOf c error value)
 
 -- DBCN fid 1, ask 6: count v returns 0, v; other counts FAILED, 0
-unfoldable pub copiedOutOf : ℕ → ℕ → Answered
-copiedOutOf v got = pick (eqb got v) (answered.Returns success v) (answered.Returns failed 0)
+unfoldable pub copiedOutEffect : Csrs → ℕ → ℕ → Effect
+copiedOutEffect c v got = pick (eqb got v) (returnsOf c success v) (returnsOf c failed 0)
 
--- an answer's numbers, by the ask that waits. Word and more are: ask 2 count and bytes; 3 and 6 count; 4, 5 and 9 error
--- and value; 7 none; 8 the number. (A fetch's answer is not taken here.)
-unfoldable pub answeredOf : Waiting → ℕ → ℕ → Answered
-answeredOf waiting.Idle word more = answered.Wrong
-answeredOf (waiting.Load rd w s) word more = answered.Wrong
-answeredOf waiting.FetchCsr word more = answered.Wrong
-answeredOf (waiting.FetchFault at k) word more = answered.Wrong
-answeredOf waiting.CopyMask word more = maskOf (legacyRequest word more)
-answeredOf (waiting.CopyIn n) word more = copiedOf n word
-answeredOf (waiting.Print n) word more = answered.Returns word more
-answeredOf (waiting.ReadConsole n at) word more = readOf n at word more
-answeredOf (waiting.CopyOut v) word more = copiedOutOf v word
+-- the answer to an ecall's ask, by its two numbers: ask 2 count and bytes; 3 and 6 count; 4, 5 and 9 error and value; 7 none;
+-- 8 the number
+unfoldable pub ecallAnswer : Csrs → EcallAsk → ℕ → ℕ → Effect
+ecallAnswer c asked.CopyMask word more = maskEffect c (legacyRequest word more)
+ecallAnswer c (asked.CopyIn n) word more = copiedEffect c n word
+ecallAnswer c (asked.Print n) word more = returnsOf c word more
+ecallAnswer c (asked.ReadConsole n at) word more = consoleReadEffect c n at word more
+ecallAnswer c (asked.CopyOut v) word more = copiedOutEffect c v word
 -- legacy 1: no register written
-answeredOf waiting.PutChar word more = answered.Moves
+ecallAnswer c asked.PutChar word more = movesOf c exit.Nothing
 -- DBCN fid 2: return 0, 0
-answeredOf waiting.PutByte word more = answered.Returns success 0
+ecallAnswer c asked.PutByte word more = returnsOf c success 0
 -- legacy 2: into a0
-answeredOf waiting.GetChar word more = answered.Gives word
+ecallAnswer c asked.GetChar word more = givesOf c word
 -- forwarded: the pair is returned
-answeredOf waiting.Forward word more = answered.Returns word more
+ecallAnswer c asked.Forward word more = returnsOf c word more
 
--- sepc moves on by 4 where the call is finished
-unfoldable pub answeredEffect : Csrs → Waiting → Answered → Effect
-answeredEffect c n answered.Wrong = refusedOf c n error.WrongAnswer
-answeredEffect c n answered.Moves = finishedOf (moved c 4) event.Quiet writes.Keep exit.Nothing
-answeredEffect c n (answered.Gives v) = finishedOf (moved c 4) event.Quiet (writes.One 10 v) exit.Nothing
-answeredEffect c n (answered.Returns e v) = finishedOf (moved c 4) event.Quiet (writes.Pair e v) exit.Nothing
-answeredEffect c n (answered.SendIpi r) = finishedOf (moved c 4) event.Quiet writes.Keep (exit.SendIpi r)
-answeredEffect c n (answered.Print k) = askingOf c event.Quiet (waiting.Print k) (ask.Print k)
-answeredEffect c n (answered.CopyOut at k) = askingOf c event.Quiet (waiting.CopyOut k) (ask.CopyOut at k)
+-- IPI completion: 0, -3, -1
+unfoldable pub completionNumber : IpiCompletion → ℕ
+completionNumber completion.Success = success
+completionNumber completion.InvalidParameter = invalidParam
+completionNumber completion.Failed = failed

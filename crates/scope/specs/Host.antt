@@ -66,15 +66,12 @@ pagingEffect c w levels mode root =
     (refusedOf c w error.InvalidInput))
 
 -- interrupt pending: 2^63+1 is hvip bit 2, 2^63+5 bit 6, 9 and 2^63+9 bit 10; any other vector is refusal 1
-unfoldable pub pendingBy : Csrs → Waiting → ℕ → Bool → Bool → Effect
-pendingBy c w vector external on =
+unfoldable pub pendingEffect : Csrs → Waiting → ℕ → Bool → Effect
+pendingEffect c w vector on =
     pick (eqb vector supervisorSoft) (doneOf (pended c (withBits (c .hs .hvip) vssip on)) writes.Keep w)
     (pick (eqb vector supervisorTimer) (doneOf (pended c (withBits (c .hs .hvip) vstip on)) writes.Keep w)
-    (pick external (doneOf (pended c (withBits (c .hs .hvip) vseip on)) writes.Keep w)
+    (pick (supervisorExternal vector) (doneOf (pended c (withBits (c .hs .hvip) vseip on)) writes.Keep w)
     (refusedOf c w error.InvalidInput)))
-
-unfoldable pub pendingEffect : Csrs → Waiting → ℕ → Bool → Effect
-pendingEffect c w vector on = pendingBy c w vector (supervisorExternal vector) on
 
 -- IPI completion: legacy writes a0; v0.2 writes a0 and a1 = 0
 unfoldable pub ipiWrites : IpiAbi → ℕ → Writes

@@ -6,6 +6,8 @@ use lib.Dec.{eqb, ltb}
 use lib.ListN.{getD, set}
 use Rattle.isa_types.specs.Pick.{pick, wrapped}
 use Rattle.scope.specs.declared.machine.Csrs.{Csrs}
+use Rattle.scope.specs.declared.machine.EcallAsk.the-variants as asked
+use Rattle.scope.specs.declared.machine.EcallAsk.{EcallAsk}
 use Rattle.scope.specs.declared.machine.Effect.{Effect}
 use Rattle.scope.specs.declared.machine.Event.the-variants as event
 use Rattle.scope.specs.declared.machine.Event.{Event}
@@ -16,7 +18,6 @@ use Rattle.scope.specs.declared.machine.Waiting.{Waiting}
 use Rattle.scope.specs.declared.machine.Writes.the-variants as writes
 use Rattle.scope.specs.declared.machine.Writes.{Writes}
 use Rattle.scope.specs.declared.traps.Args.{Args}
-use Rattle.scope.specs.declared.traps.Reply.the-variants as reply
 
 -- register i; x0 reads 0
 unfoldable pub valueOf : List ℕ → ℕ → ℕ
@@ -83,21 +84,25 @@ bumped k n = pick (eqb n 0) k (pick (ltb n 10) (set k (n - 1) (wrapped (getD k (
 unfoldable pub counted : List ℕ → Event → List ℕ
 counted k e = bumped k (eventNumber e)
 
--- 01, One trap: the number of the ask that waits; 0 where none does
+-- 01, One trap: the number of an ecall's ask
+unfoldable pub ecallAskNumber : EcallAsk → ℕ
+ecallAskNumber asked.CopyMask = 2
+ecallAskNumber (asked.CopyIn n) = 3
+ecallAskNumber (asked.Print n) = 4
+ecallAskNumber (asked.ReadConsole n a) = 5
+ecallAskNumber (asked.CopyOut n) = 6
+ecallAskNumber asked.PutChar = 7
+ecallAskNumber asked.PutByte = 7
+ecallAskNumber asked.GetChar = 8
+ecallAskNumber asked.Forward = 9
+
+-- the number of the ask that waits; 0 where none does
 unfoldable pub waitingAsk : Waiting → ℕ
 waitingAsk waiting.Idle = 0
 waitingAsk (waiting.Load r w s) = 0
 waitingAsk waiting.FetchCsr = 1
 waitingAsk (waiting.FetchFault a k) = 1
-waitingAsk waiting.CopyMask = 2
-waitingAsk (waiting.CopyIn n) = 3
-waitingAsk (waiting.Print n) = 4
-waitingAsk (waiting.ReadConsole n a) = 5
-waitingAsk (waiting.CopyOut n) = 6
-waitingAsk waiting.PutChar = 7
-waitingAsk waiting.PutByte = 7
-waitingAsk waiting.GetChar = 8
-waitingAsk waiting.Forward = 9
+waitingAsk (waiting.Ecall a) = ecallAskNumber a
 
 -- neither an ask nor a load waits
 unfoldable pub isIdle : Waiting → Bool
@@ -105,15 +110,7 @@ isIdle waiting.Idle = true
 isIdle (waiting.Load r w s) = false
 isIdle waiting.FetchCsr = false
 isIdle (waiting.FetchFault a k) = false
-isIdle waiting.CopyMask = false
-isIdle (waiting.CopyIn n) = false
-isIdle (waiting.Print n) = false
-isIdle (waiting.ReadConsole n a) = false
-isIdle (waiting.CopyOut n) = false
-isIdle waiting.PutChar = false
-isIdle waiting.PutByte = false
-isIdle waiting.GetChar = false
-isIdle waiting.Forward = false
+isIdle (waiting.Ecall a) = false
 
 -- the six arguments in order
 unfoldable pub listed : Args → List ℕ

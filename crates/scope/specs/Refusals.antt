@@ -6,7 +6,6 @@ use Rattle.scope.specs.declared.machine.Csrs.{Csrs}
 use Rattle.scope.specs.declared.machine.Effect.{Effect}
 use Rattle.scope.specs.declared.machine.Event.the-variants as event
 use Rattle.scope.specs.declared.machine.Event.{Event}
-use Rattle.scope.specs.declared.machine.Outcome.{Outcome}
 use Rattle.scope.specs.declared.machine.Vcpu.{Vcpu}
 use Rattle.scope.specs.declared.machine.Waiting.the-variants as waiting
 use Rattle.scope.specs.declared.machine.Waiting.{Waiting}
@@ -17,7 +16,8 @@ use Rattle.scope.specs.declared.traps.Error.the-variants as error
 use Rattle.scope.specs.declared.traps.Error.{Error}
 use Rattle.scope.specs.declared.traps.Exit.{Exit}
 use Rattle.scope.specs.declared.traps.Reply.the-variants as reply
-use Rattle.scope.specs.Record.{noArgs, waitingAsk, applied}
+use Rattle.scope.specs.declared.traps.Reply.{Reply}
+use Rattle.scope.specs.Record.{noArgs, waitingAsk}
 
 -- 01, Refusals and errors by number
 unfoldable pub errorNumber : Error → ℕ
@@ -43,20 +43,20 @@ unfoldable pub failedOf : Csrs → Event → Error → Effect
 failedOf c e x =
     record { csrs = c; event = e; writes = writes.Keep; waiting = waiting.Idle; reply = reply.Error x; args = noArgs }
 
+-- all unchanged, and this reply
+unfoldable pub leavesOf : Csrs → Waiting → Reply → Effect
+leavesOf c n r =
+    record { csrs = c; event = event.Quiet; writes = writes.Keep; waiting = n; reply = r; args = noArgs }
+
 -- a refusal: all unchanged
 unfoldable pub refusedOf : Csrs → Waiting → Error → Effect
-refusedOf c n x =
-    record { csrs = c; event = event.Quiet; writes = writes.Keep; waiting = n; reply = reply.Error x; args = noArgs }
+refusedOf c n x = leavesOf c n (reply.Error x)
 
 -- a call that gives nothing: what waits goes on waiting
 unfoldable pub doneOf : Csrs → Writes → Waiting → Effect
 doneOf c w n =
     record { csrs = c; event = event.Quiet; writes = w; waiting = n; reply = reply.Done; args = noArgs }
 
--- 01, Refusals: any changing call but an answer while an ask waits is refusal 2
-unfoldable pub guardedOf : ℕ → Csrs → Waiting → Effect → Effect
-guardedOf ask c n e = pick (eqb ask 0) e (refusedOf c n error.BadState)
-
--- a changing call other than an answer, a start or a load's completion: refused with 2 while an ask waits
-unfoldable pub unlessAsking : Vcpu → Effect → Outcome
-unlessAsking v e = applied v (guardedOf (waitingAsk (v .waiting)) (v .csrs) (v .waiting) e)
+-- any changing call but an answer while an ask waits: refusal 2. (A start and a load's completion have their own rule.)
+unfoldable pub unlessAsking : Vcpu → Effect → Effect
+unlessAsking v e = pick (eqb (waitingAsk (v .waiting)) 0) e (refusedOf (v .csrs) (v .waiting) error.BadState)

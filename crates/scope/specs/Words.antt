@@ -1,8 +1,8 @@
--- What the words of a record and of a call mean.
-use Prim.Native.Nat.{ℕ, _%_, _^_}
+-- What the words of a record and of a call mean, where they cross the boundary of the library. Not of 01: docs/DECISIONS.md.
+use Prim.Native.Nat.{ℕ}
 use mathlib.Core.Bool.{Bool, true, false}
 use mathlib.Core.List.{List, [], _∷_}
-use lib.Dec.{eqb}
+use lib.Dec.{eqb, leb}
 use lib.ListN.{getD}
 use Rattle.isa_types.specs.declared.Width.the-variants as width
 use Rattle.isa_types.specs.declared.Width.{Width}
@@ -12,18 +12,17 @@ use Rattle.scope.specs.declared.decided.IpiCompletion.{IpiCompletion}
 use Rattle.scope.specs.declared.hosts.HostCall.the-variants as hostCall
 use Rattle.scope.specs.declared.hosts.HostCall.{HostCall}
 use Rattle.scope.specs.declared.machine.Csrs.{Csrs}
+use Rattle.scope.specs.declared.machine.EcallAsk.the-variants as asked
+use Rattle.scope.specs.declared.machine.EcallAsk.{EcallAsk}
 use Rattle.scope.specs.declared.machine.Record.{Record}
 use Rattle.scope.specs.declared.machine.Vcpu.{Vcpu}
 use Rattle.scope.specs.declared.machine.Waiting.the-variants as waiting
 use Rattle.scope.specs.declared.machine.Waiting.{Waiting}
 use Rattle.scope.specs.declared.traps.Access.the-variants as access
 use Rattle.scope.specs.declared.traps.Access.{Access}
-use Rattle.scope.specs.declared.traps.Answer.the-variants as answer
-use Rattle.scope.specs.declared.traps.Fetch.the-variants as fetch
-use Rattle.scope.specs.declared.traps.Fetch.{Fetch}
 use Rattle.scope.specs.declared.traps.IpiAbi.the-variants as abi
 use Rattle.scope.specs.declared.traps.IpiAbi.{IpiAbi}
-use Rattle.scope.specs.Trap.{accessNumber, flagOf, widthBytes}
+use Rattle.scope.specs.OneTrap.{accessNumber, answerFor, flagOf, widthBytes}
 
 -- 0 is no, every other word yes
 unfoldable pub tested : ℕ → Bool
@@ -45,34 +44,37 @@ abiOf n = pick (eqb n 0) abi.Legacy abi.SbiV02
 unfoldable pub completionOf : ℕ → IpiCompletion
 completionOf n = pick (eqb n 0) completion.Success (pick (eqb n 1) completion.InvalidParameter completion.Failed)
 
--- 0 for a word (its low 32 bits), 1 to 4 for the faults with an address; any other number is the unhandled fault
-unfoldable pub fetchOf : ℕ → ℕ → Fetch
-fetchOf word fault =
-    pick (eqb fault 0) (fetch.Word (word % 2 ^ 32))
-    (pick (eqb fault 1) (fetch.Page (record { 0 = word }))
-    (pick (eqb fault 2) (fetch.Access (record { 0 = word }))
-    (pick (eqb fault 3) (fetch.Misaligned (record { 0 = word }))
-    (pick (eqb fault 4) (fetch.GuestPage (record { 0 = word })) fetch.Unhandled))))
-
 -- what waits, by its kind; an unknown kind is nothing waiting
 unfoldable pub waitingBy : ℕ → ℕ → ℕ → ℕ → Waiting
 waitingBy kind a b c =
     pick (eqb kind 1) (waiting.Load a (widthOf b) (tested c))
     (pick (eqb kind 2) waiting.FetchCsr
     (pick (eqb kind 3) (waiting.FetchFault (record { 0 = a }) (accessOf b))
-    (pick (eqb kind 4) waiting.CopyMask
-    (pick (eqb kind 5) (waiting.CopyIn a)
-    (pick (eqb kind 6) (waiting.Print a)
-    (pick (eqb kind 7) (waiting.ReadConsole a (record { 0 = b }))
-    (pick (eqb kind 8) (waiting.CopyOut a)
-    (pick (eqb kind 9) waiting.PutChar
-    (pick (eqb kind 10) waiting.PutByte
-    (pick (eqb kind 11) waiting.GetChar
-    (pick (eqb kind 12) waiting.Forward waiting.Idle)))))))))))
+    (pick (eqb kind 4) (waiting.Ecall asked.CopyMask)
+    (pick (eqb kind 5) (waiting.Ecall (asked.CopyIn a))
+    (pick (eqb kind 6) (waiting.Ecall (asked.Print a))
+    (pick (eqb kind 7) (waiting.Ecall (asked.ReadConsole a (record { 0 = b })))
+    (pick (eqb kind 8) (waiting.Ecall (asked.CopyOut a))
+    (pick (eqb kind 9) (waiting.Ecall asked.PutChar)
+    (pick (eqb kind 10) (waiting.Ecall asked.PutByte)
+    (pick (eqb kind 11) (waiting.Ecall asked.GetChar)
+    (pick (eqb kind 12) (waiting.Ecall asked.Forward) waiting.Idle)))))))))))
 
 -- the waiting part that words stand for: a kind and three numbers
 unfoldable pub waitingOf : List ℕ → Waiting
 waitingOf w = waitingBy (getD w 0 0) (getD w 1 0) (getD w 2 0) (getD w 3 0)
+
+-- the words of an ecall's ask
+unfoldable pub askedWords : EcallAsk → List ℕ
+askedWords asked.CopyMask = 4 ∷ 0 ∷ 0 ∷ 0 ∷ []
+askedWords (asked.CopyIn n) = 5 ∷ n ∷ 0 ∷ 0 ∷ []
+askedWords (asked.Print n) = 6 ∷ n ∷ 0 ∷ 0 ∷ []
+askedWords (asked.ReadConsole n a) = 7 ∷ n ∷ a .0 ∷ 0 ∷ []
+askedWords (asked.CopyOut n) = 8 ∷ n ∷ 0 ∷ 0 ∷ []
+askedWords asked.PutChar = 9 ∷ 0 ∷ 0 ∷ 0 ∷ []
+askedWords asked.PutByte = 10 ∷ 0 ∷ 0 ∷ 0 ∷ []
+askedWords asked.GetChar = 11 ∷ 0 ∷ 0 ∷ 0 ∷ []
+askedWords asked.Forward = 12 ∷ 0 ∷ 0 ∷ 0 ∷ []
 
 -- the words of what waits
 unfoldable pub waitingWords : Waiting → List ℕ
@@ -80,15 +82,7 @@ waitingWords waiting.Idle = 0 ∷ 0 ∷ 0 ∷ 0 ∷ []
 waitingWords (waiting.Load r w s) = 1 ∷ r ∷ widthBytes w ∷ flagOf s ∷ []
 waitingWords waiting.FetchCsr = 2 ∷ 0 ∷ 0 ∷ 0 ∷ []
 waitingWords (waiting.FetchFault a k) = 3 ∷ a .0 ∷ accessNumber k ∷ 0 ∷ []
-waitingWords waiting.CopyMask = 4 ∷ 0 ∷ 0 ∷ 0 ∷ []
-waitingWords (waiting.CopyIn n) = 5 ∷ n ∷ 0 ∷ 0 ∷ []
-waitingWords (waiting.Print n) = 6 ∷ n ∷ 0 ∷ 0 ∷ []
-waitingWords (waiting.ReadConsole n a) = 7 ∷ n ∷ a .0 ∷ 0 ∷ []
-waitingWords (waiting.CopyOut n) = 8 ∷ n ∷ 0 ∷ 0 ∷ []
-waitingWords waiting.PutChar = 9 ∷ 0 ∷ 0 ∷ 0 ∷ []
-waitingWords waiting.PutByte = 10 ∷ 0 ∷ 0 ∷ 0 ∷ []
-waitingWords waiting.GetChar = 11 ∷ 0 ∷ 0 ∷ 0 ∷ []
-waitingWords waiting.Forward = 12 ∷ 0 ∷ 0 ∷ 0 ∷ []
+waitingWords (waiting.Ecall a) = askedWords a
 
 -- the CSRs in the order of the record's own groups
 unfoldable pub csrsOf : List ℕ → Csrs
@@ -127,18 +121,10 @@ packOf v =
 abbrev pub nowhere : HostCall
 nowhere = hostCall.GetGpr 32
 
--- the answer to the ask of this number
+-- the answer to the ask of this number; a number that is no ask's is no call
 unfoldable pub answerBy : ℕ → ℕ → ℕ → HostCall
 answerBy ask a b =
-    pick (eqb ask 1) (hostCall.Answer (answer.Fetched (fetchOf a b)))
-    (pick (eqb ask 2) (hostCall.Answer (answer.MaskCopied a b))
-    (pick (eqb ask 3) (hostCall.Answer (answer.CopiedIn a))
-    (pick (eqb ask 4) (hostCall.Answer (answer.Printed a b))
-    (pick (eqb ask 5) (hostCall.Answer (answer.ConsoleRead a b))
-    (pick (eqb ask 6) (hostCall.Answer (answer.CopiedOut a))
-    (pick (eqb ask 7) (hostCall.Answer answer.Emitted)
-    (pick (eqb ask 8) (hostCall.Answer (answer.Char a))
-    (pick (eqb ask 9) (hostCall.Answer (answer.Forwarded a b)) nowhere))))))))
+    pick (eqb ask 0) nowhere (pick (leb ask 9) (hostCall.Answer (answerFor ask a b)) nowhere)
 
 -- the call by its kind, from its numbers in order
 unfoldable pub callBy : ℕ → ℕ → ℕ → ℕ → ℕ → ℕ → HostCall

@@ -4,13 +4,15 @@ use mathlib.Core.Path.{_≡_, refl}
 use Rattle.isa_types.specs.declared.Width.the-variants as width
 use Rattle.isa_types.specs.declared.Width.{Width}
 use Rattle.scope.specs.declared.machine.Csrs.{Csrs}
+use Rattle.scope.specs.declared.machine.EcallAsk.the-variants as asked
+use Rattle.scope.specs.declared.machine.EcallAsk.{EcallAsk}
 use Rattle.scope.specs.declared.machine.Vcpu.{Vcpu}
 use Rattle.scope.specs.declared.machine.Waiting.the-variants as waiting
 use Rattle.scope.specs.declared.machine.Waiting.{Waiting}
 use Rattle.scope.specs.declared.traps.Access.the-variants as access
 use Rattle.scope.specs.declared.traps.Access.{Access}
-use Rattle.scope.specs.Trap.{widthBytes, accessNumber, flagOf}
-use Rattle.scope.specs.Words.{widthOf, accessOf, tested, waitingBy, waitingOf, waitingWords, csrsOf, csrsWords, packOf, unpackOf}
+use Rattle.scope.specs.OneTrap.{widthBytes, accessNumber, flagOf}
+use Rattle.scope.specs.Words.{askedWords, widthOf, accessOf, tested, waitingBy, waitingOf, waitingWords, csrsOf, csrsWords, packOf, unpackOf}
 
 -- a width is that of its bytes
 pub width-back : (w : Width) → widthOf (widthBytes w) ≡ w
@@ -34,21 +36,25 @@ flag-back true = refl
 flag-back false = refl
 
 -- whatever waits, its words read back as it
+asked-back : (a : EcallAsk) → waitingOf (askedWords a) ≡ waiting.Ecall a
+unfolding waitingOf askedWords waitingBy
+asked-back asked.CopyMask = refl
+asked-back (asked.CopyIn n) = refl
+asked-back (asked.Print n) = refl
+asked-back (asked.ReadConsole n a) = refl
+asked-back (asked.CopyOut n) = refl
+asked-back asked.PutChar = refl
+asked-back asked.PutByte = refl
+asked-back asked.GetChar = refl
+asked-back asked.Forward = refl
+
 pub waiting-back : (w : Waiting) → waitingOf (waitingWords w) ≡ w
 unfolding waitingOf waitingWords waitingBy
 waiting-back waiting.Idle = refl
 waiting-back (waiting.Load r w s) = λ i. waiting.Load r (width-back w i) (flag-back s i)
 waiting-back waiting.FetchCsr = refl
 waiting-back (waiting.FetchFault a k) = λ i. waiting.FetchFault a (access-back k i)
-waiting-back waiting.CopyMask = refl
-waiting-back (waiting.CopyIn n) = refl
-waiting-back (waiting.Print n) = refl
-waiting-back (waiting.ReadConsole n a) = refl
-waiting-back (waiting.CopyOut n) = refl
-waiting-back waiting.PutChar = refl
-waiting-back waiting.PutByte = refl
-waiting-back waiting.GetChar = refl
-waiting-back waiting.Forward = refl
+waiting-back (waiting.Ecall a) = asked-back a
 
 -- the CSRs are those of their words
 pub csrs-back : (c : Csrs) → csrsOf (csrsWords c) ≡ c

@@ -1,13 +1,24 @@
 // What a decision gives: an enum for each class of trap. Code shares these; specs/ says what each does.
 use crate::machine::Event;
-use crate::traps::Fetch;
+use crate::traps::Access;
 use crate::traps::IpiRequest;
 use isa_types::GuestPhysAddr;
 use isa_types::GuestVirtAddr;
 use isa_types::Width;
 
+// What a trap is handled as, by scause.
+pub enum Class {
+    Ecall,
+    VirtualInstruction,
+    PageFault(Access),
+    Interrupt,
+    // A code that is known and not handled.
+    NotHandled,
+    Unknown,
+}
+
 // What an SBI call does. Each case is a row of document 01's list.
-pub enum Call {
+pub enum SbiCall {
     // a0 and a1 are these, sepc moves on.
     Returns(u64, u64),
     // sepc moves on and no register is written.
@@ -30,8 +41,8 @@ pub enum Call {
     Forward(Event),
 }
 
-// What a virtual instruction does.
-pub enum Csr {
+// What a virtual instruction, on stimecmp or not, does.
+pub enum Stimecmp {
     // The trap ends in an error and is counted.
     Illegal,
     // The word has to be fetched.
@@ -73,10 +84,8 @@ pub enum Missed {
     Unhandled,
 }
 
-// What an answer does.
+// What the answer to an ecall's ask does.
 pub enum Answered {
-    // No ask of these kinds waits.
-    Wrong,
     // sepc moves on and no register is written.
     Moves,
     // a0 is this, sepc moves on.

@@ -5,14 +5,16 @@ pub mod machine;
 pub mod traps;
 
 pub use decided::Answered;
-pub use decided::Call;
-pub use decided::Csr;
+pub use decided::Class;
 pub use decided::Fault;
 pub use decided::IpiCompletion;
 pub use decided::LegacyRequest;
 pub use decided::Missed;
+pub use decided::SbiCall;
+pub use decided::Stimecmp;
 pub use hosts::HostCall;
 pub use machine::Csrs;
+pub use machine::EcallAsk;
 pub use machine::Effect;
 pub use machine::Event;
 pub use machine::GuestCsrs;

@@ -51,25 +51,22 @@ pub enum Waiting {
         at: GuestPhysAddr,
         access: Access,
     },
+    // An ecall's ask.
+    Ecall(EcallAsk),
+}
+
+// The ask of an ecall, with what its answer needs.
+pub enum EcallAsk {
     // Ask 2.
     CopyMask,
     // Ask 3: the bytes asked for.
-    CopyIn {
-        count: u64,
-    },
+    CopyIn { count: u64 },
     // Ask 4.
-    Print {
-        count: u64,
-    },
+    Print { count: u64 },
     // Ask 5: the bytes asked for, and where they go.
-    ReadConsole {
-        count: u64,
-        at: GuestPhysAddr,
-    },
+    ReadConsole { count: u64, at: GuestPhysAddr },
     // Ask 6: the bytes that the console gave.
-    CopyOut {
-        count: u64,
-    },
+    CopyOut { count: u64 },
     // Ask 7, of legacy put character.
     PutChar,
     // Ask 7, of DBCN write byte.

@@ -1,13 +1,14 @@
 -- 01, Marked cases: one table, computed by the checker over the definitions that the calls are proved equal to.
 use Prim.Native.Nat.{ℕ, _+_, _-_, _^_}
 use mathlib.Core.Bool.{Bool, true, false}
-use mathlib.Core.List.{List, [], _∷_, _++_}
+use mathlib.Core.List.{List, [], _∷_}
 use lib.ListN.{getD, set, replicate}
 use lib.Dec.{eqb, T}
 use Rattle.isa_types.specs.Pick.{and}
-use Rattle.scope.specs.Ecalls.{ecallEffect, timeEffect, spiEffect, hsmEffect, srstEffect, spanEffect, consoleEffect, dbcnEffect, rfncEffect, forwardEffect, notSupportedEffect}
-use Rattle.scope.specs.Trap.{abiNumber, accessNumber, answerNumber, askNumber, exitNumber, widthBytes, exitValues}
-use Rattle.scope.specs.Refusals.{errorNumber, askingOf, doneOf, failedOf, finishedOf, guardedOf, refusedOf, unlessAsking}
+use Rattle.scope.specs.declared.hosts.HostCall.the-variants as hostCall
+use Rattle.scope.specs.Ecalls.{ecallEffect, timeEffect, spiEffect, hsmEffect, srstEffect, spanEffect, consoleEffect, dbcnEffect, rfncEffect, forwardEffect, notSupportedEffect, movesOf, setTimerOf, staysOf}
+use Rattle.scope.specs.OneTrap.{abiNumber, accessNumber, answerNumber, askNumber, exitNumber, widthBytes, exitValues}
+use Rattle.scope.specs.Refusals.{errorNumber, askingOf, doneOf, failedOf, finishedOf, refusedOf, unlessAsking, leavesOf}
 use Rattle.scope.specs.declared.traps.Answer.the-variants as answer
 use Rattle.scope.specs.declared.traps.Fetch.the-variants as fetch
 use Rattle.scope.specs.declared.traps.Reply.{Reply}
@@ -22,21 +23,18 @@ use Rattle.isa_decoder.specs.Length as length
 use Rattle.isa_extension.specs.Extend.{cutOf, extendBy, extendOf, signedBy, widthBits}
 use Rattle.scope.specs.declared.machine.Outcome.{Outcome}
 use Rattle.scope.specs.declared.machine.Vcpu.{Vcpu}
-use Rattle.scope.specs.Record.{bumped, counted, eventNumber, isIdle, listed, moved, pended, stored, timed, valueOf, waitingAsk, applied, noArgs}
-use Rattle.scope.specs.Decided.{callOf, timeOf, callEffect}
-use Rattle.scope.specs.Ecalls.{movesOf, setTimerOf, staysOf}
-use Rattle.scope.specs.FetchFaults.{askFetchOf, injectedOf, missedEffect, missedOf, trapStatusOf}
-use Rattle.scope.specs.VirtualInstruction as virt
-use Rattle.scope.specs.GuestPageFault.{faultEffect, faultOf, loadOf, storeOf, completedOf}
+use Rattle.scope.specs.Record.{bumped, counted, eventNumber, isIdle, listed, moved, pended, stored, timed, valueOf, waitingAsk, applied, noArgs, ecallAskNumber}
+use Rattle.scope.specs.VirtualInstruction.{askFetchOf, injectedOf, missedEffect, missedOf, trapStatusOf, virtualEffect, clearBits, setBits, stimecmpBy, stimecmpEffect, stimecmpStval, stimecmpWord}
+use Rattle.scope.specs.GuestPageFault.{faultEffect, faultOf, loadUnder, storeUnder, completedOf, mmioOf, pageFaultOf}
 use Rattle.scope.specs.Host.{pagingBy, pagingEffect, setupCsrs, tableCsrs}
-use Rattle.scope.specs.Classes.{argumentsOf, mmioOf, pageFaultOf, sbiOf, startEffect, stimecmpOf, trapOf}
-use Rattle.scope.specs.Resume.{answerEffect, continuedOf, fetchedOf, resumedOf}
-use Rattle.scope.specs.Calls.{answerOf, completeLoadOf, newOf, pagingOf, setupOf, startOf}
+use Rattle.scope.specs.Classes.{argumentsOf, startEffect, classOf, classEffect}
+use Rattle.scope.specs.Answers.{answerEffect, fittingEffect, fetchEffect, wordEffect}
+use Rattle.scope.specs.Calls.{newOf, calledOf, effectOf}
 
 -- a record as new and setup leave it, but for sepc, the timer and the registers given
 unfoldable base : ℕ → ℕ → List ℕ → Vcpu
 base sepc timer x =
-    let v = setupOf (newOf 0 0) .vcpu in
+    let v = calledOf (newOf 0 0) hostCall.Setup .vcpu in
     record {
       x = x;
       csrs =
@@ -77,15 +75,15 @@ register o i = getD (o .vcpu .x) i 0
 
 -- a virtual instruction, with vstimecmp 7
 abbrev csrTrap : List ℕ → ℕ → Outcome
-csrTrap x word = startOf (base 0x1000 7 x) (trap 22 word 0 0)
+csrTrap x word = calledOf (base 0x1000 7 x) (hostCall.Start (trap 22 word 0 0))
 
 -- a guest page fault at 0x10000000
 abbrev fault : ℕ → List ℕ → ℕ → Outcome
-fault scause x htinst = startOf (base 0x1000 7 x) (trap scause 0 0x400_0000 htinst)
+fault scause x htinst = calledOf (base 0x1000 7 x) (hostCall.Start (trap scause 0 0x400_0000 htinst))
 
 -- a load's completion
 abbrev loaded : ℕ → Outcome
-loaded htinst = completeLoadOf (fault 21 (replicate 32 0) htinst .vcpu) 0x8000_0000
+loaded htinst = calledOf (fault 21 (replicate 32 0) htinst .vcpu) (hostCall.CompleteLoad 0x8000_0000)
 
 -- the record of case 12, in the middle of a virtual instruction whose word has to be fetched
 unfoldable twelve : Vcpu
@@ -106,7 +104,7 @@ twelve =
     }
 
 abbrev injected : Outcome
-injected = answerOf (startOf twelve (trap 22 0 0 0) .vcpu) (answer.Fetched (fetch.Page (record { 0 = 0x1000 })))
+injected = calledOf (calledOf twelve (hostCall.Start (trap 22 0 0 0)) .vcpu) (hostCall.Answer (answer.Fetched (fetch.Page (record { 0 = 0x1000 }))))
 
 -- what was got, beside what 01 says
 record Row : Type 0 where
@@ -119,11 +117,11 @@ row g w = record { got = g; wanted = w }
 marked : List Row
 marked =
     -- 1. TIME, a0 = 5, sepc 2^64 - 4: vstimecmp 5, sepc 0
-    row (shown (startOf (base (2 ^ 64 - 4) 7 (ecall 0x5449_4D45 5)) (trap 10 0 0 0))) (0 ∷ 5 ∷ 0 ∷ 0 ∷ 0 ∷ 0 ∷ [])
+    row (shown (calledOf (base (2 ^ 64 - 4) 7 (ecall 0x5449_4D45 5)) (hostCall.Start (trap 10 0 0 0)))) (0 ∷ 5 ∷ 0 ∷ 0 ∷ 0 ∷ 0 ∷ [])
     -- 2. legacy 6: a0 kept
-    ∷ row (register (startOf (base 0x1000 7 (ecall 6 77)) (trap 10 0 0 0)) 10 ∷ []) (77 ∷ [])
+    ∷ row (register (calledOf (base 0x1000 7 (ecall 6 77)) (hostCall.Start (trap 10 0 0 0))) 10 ∷ []) (77 ∷ [])
     -- 3. legacy 8: SystemDown
-    ∷ row (shown (startOf (base 0x1000 7 (ecall 8 0)) (trap 10 0 0 0))) (0x1000 ∷ 7 ∷ 7 ∷ 0 ∷ 0 ∷ 0 ∷ [])
+    ∷ row (shown (calledOf (base 0x1000 7 (ecall 8 0)) (hostCall.Start (trap 10 0 0 0)))) (0x1000 ∷ 7 ∷ 7 ∷ 0 ∷ 0 ∷ 0 ∷ [])
     -- 4. 0x14D292F3, vstimecmp 7, x5 = 9: x5 = 7, vstimecmp 9
     ∷ row (register (csrTrap (one 5 9) 0x14D2_92F3) 5 ∷ shown (csrTrap (one 5 9) 0x14D2_92F3)) (7 ∷ 0x1004 ∷ 9 ∷ 0 ∷ 0 ∷ 0 ∷ 0 ∷ [])
     -- 5. 0x14D02373: x6 gets old, no write
@@ -142,7 +140,7 @@ marked =
     ∷ row (register (loaded 0x2383) 7 ∷ []) (0xFFFF_FFFF_8000_0000 ∷ [])
     ∷ row (register (loaded 0x6383) 7 ∷ []) (0x8000_0000 ∷ [])
     -- 11. levels 3, mode 8, root 0x80004000: hgatp 0x8000000000080004
-    ∷ row (pagingOf (base 0 0 (replicate 32 0)) 3 8 0x8000_4000 .vcpu .csrs .hs .hgatp ∷ []) (0x8000_0000_0008_0004 ∷ [])
+    ∷ row (calledOf (base 0 0 (replicate 32 0)) (hostCall.SetNestedPageTable 3 8 0x8000_4000) .vcpu .csrs .hs .hgatp ∷ []) (0x8000_0000_0008_0004 ∷ [])
     -- 12. vstvec 0x80200001, vsstatus 2, hstatus bit 8 set, page fault: vsstatus 0x120, sepc 0x80200000
     ∷ row (injected .vcpu .csrs .vs .vsstatus ∷ shown injected) (0x120 ∷ 0x8020_0000 ∷ 7 ∷ 0 ∷ 0 ∷ 0 ∷ 0 ∷ [])
     ∷ []
@@ -159,5 +157,5 @@ all (r ∷ rs) = and (equal (r .got) (r .wanted)) (all rs)
 
 -- the whole table
 cases : T (all marked)
-unfolding all equal marked row shown code base twelve startOf answerOf completeLoadOf newOf pagingOf setupOf unlessAsking startEffect trapOf sbiOf stimecmpOf mmioOf pageFaultOf argumentsOf answerEffect continuedOf fetchedOf resumedOf pagingBy pagingEffect setupCsrs tableCsrs completedOf faultEffect faultOf loadOf storeOf virt.startOf virt.startBy virt.csrOf virt.csrBy virt.stimecmpOf virt.setOf virt.clearedOf virt.csrEffect askFetchOf injectedOf missedEffect missedOf trapStatusOf callOf timeOf callEffect movesOf setTimerOf staysOf applied askingOf doneOf failedOf finishedOf guardedOf noArgs refusedOf bumped counted eventNumber isIdle listed moved pended stored timed valueOf waitingAsk cutOf extendBy extendOf signedBy widthBits decode.decodeOf decode.decodeBy decode.loadOf decode.storeOf length.htinstOf length.transformedOf length.storeSource length.opSource csrField funct3Field opcodeField rdField rs1Field rs2Field sieOf spvpOf withBits guestPageFaultAddr hgatpOf knownCause knownException knownInterrupt exitValues exitNumber askNumber errorNumber answerNumber accessNumber widthBytes abiNumber ecallEffect timeEffect spiEffect hsmEffect srstEffect spanEffect consoleEffect dbcnEffect rfncEffect forwardEffect notSupportedEffect
+unfolding all equal marked row shown code base twelve calledOf effectOf newOf unlessAsking startEffect classOf classEffect ecallEffect virtualEffect mmioOf pageFaultOf argumentsOf answerEffect fittingEffect fetchEffect wordEffect pagingBy pagingEffect setupCsrs tableCsrs completedOf faultEffect faultOf loadUnder storeUnder askFetchOf injectedOf missedEffect missedOf trapStatusOf movesOf setTimerOf staysOf applied askingOf doneOf failedOf finishedOf noArgs refusedOf bumped counted eventNumber isIdle listed moved pended stored timed valueOf waitingAsk cutOf extendBy extendOf signedBy widthBits decode.decodeOf decode.decodeBy decode.loadOf decode.storeOf length.htinstOf length.transformedOf length.storeSource length.opSource csrField funct3Field opcodeField rdField rs1Field rs2Field sieOf spvpOf withBits guestPageFaultAddr hgatpOf knownCause knownException knownInterrupt exitValues exitNumber askNumber errorNumber answerNumber accessNumber widthBytes abiNumber timeEffect spiEffect hsmEffect srstEffect spanEffect consoleEffect dbcnEffect rfncEffect forwardEffect notSupportedEffect stimecmpStval stimecmpWord stimecmpBy setBits clearBits stimecmpEffect leavesOf ecallAskNumber
 cases = tt

@@ -5,7 +5,7 @@ use mathlib.Core.List.{List, [], _∷_, _++_}
 use lib.Dec.{eqb, T}
 use lib.ListN.{replicate}
 use Rattle.isa_types.specs.Pick.{and}
-use Rattle.scope.specs.Trap.{abiNumber, accessNumber, answerNumber, exitNumber, fetchNumber, flagOf, widthBytes, answerValues, askValues, exitValues, fetchValue}
+use Rattle.scope.specs.OneTrap.{abiNumber, accessNumber, answerNumber, exitNumber, fetchNumber, flagOf, widthBytes, answerValues, askValues, exitValues, fetchValue}
 use Rattle.scope.specs.Refusals.{errorNumber}
 use Rattle.scope.specs.declared.traps.Access.the-variants as access
 use Rattle.scope.specs.declared.traps.Answer.{Answer}

@@ -6,7 +6,7 @@ use Rattle.isa_fields.specs.Fields as theFieldsFields
 use Rattle.isa_extension.specs.Extend as theExtensionExtend
 use Rattle.isa_decoder.specs.Decode as theDecoderDecode
 use Rattle.isa_decoder.specs.Length as theDecoderLength
-use Rattle.scope.specs.Trap.{widthBytes}
+use Rattle.scope.specs.OneTrap.{widthBytes}
 use Rattle.isa_types.specs.declared.Width.the-variants as width
 use Rattle.isa_decoder.specs.declared.Decoded.{Decoded}
 use Rattle.isa_decoder.specs.declared.Decoded.the-variants as decoded

@@ -2,7 +2,7 @@
 use Prim.Native.Nat.{ℕ}
 use mathlib.Core.List.{List, [], _∷_}
 use lib.ListN.{getD}
-use Rattle.scope.specs.Trap.{askNumber, exitNumber, askValues, exitValues}
+use Rattle.scope.specs.OneTrap.{askNumber, exitNumber, askValues, exitValues}
 use Rattle.scope.specs.Refusals.{errorNumber}
 use Rattle.scope.specs.declared.traps.Reply.{Reply}
 use Rattle.scope.specs.declared.traps.Reply.the-variants as reply
@@ -10,7 +10,6 @@ use Rattle.scope.specs.declared.machine.Outcome.{Outcome}
 use Rattle.scope.specs.declared.hosts.HostCall.{HostCall}
 use Rattle.words_call.specs.declared.After.{After}
 use Rattle.words_call.specs.declared.CallWords.{CallWords}
-use Rattle.words_call.specs.declared.ReplyWords.{ReplyWords}
 use Rattle.scope.specs.Words.{packOf, callBy}
 
 -- the call that words stand for

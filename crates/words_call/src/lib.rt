@@ -2,6 +2,7 @@
 ghost use mathlib.Core.Path.{_≡_};
 ghost use Rattle.scope.specs.Words.{answerBy, callBy};
 ghost use Rattle.words_call.specs.Words.{callOf, replyKind, replyNumber, replyValues};
+ghost use Rattle.scope.specs.OneTrap.{answerFor};
 use isa_types::GuestPhysAddr;
 use scope::Answer;
 use scope::HostCall;
@@ -80,21 +81,45 @@ fn call_by(kind: u64, a: u64, b: u64, d: u64, e: u64, f: u64) -> HostCall
     }
 }
 
-// The answer to the ask of this number. An unknown number is read as the read of a register that isn't there.
+// The answer to the ask of this number. A number that is no ask's is read as the read of a register that isn't there.
 pub fn answer_of(ask: u64, a: u64, b: u64) -> HostCall
     ensures { λ r. ⌜ r ≡ answerBy ask a b ⌝ }
 {
+    if ask == 0 {
+        return HostCall::GetGpr { index: 32 };
+    }
+    if ask <= 9 {
+        return HostCall::Answer(answer_for(ask, a, b));
+    }
+    HostCall::GetGpr { index: 32 }
+}
+
+// The answer to ask 1 to 9, by its two numbers.
+fn answer_for(ask: u64, word: u64, more: u64) -> Answer
+    ensures { λ r. ⌜ r ≡ answerFor ask word more ⌝ }
+{
     match ask {
-        1 => HostCall::Answer(Answer::Fetched(words_record::fetch_of(a, b))),
-        2 => HostCall::Answer(Answer::MaskCopied { count: a, bytes: b }),
-        3 => HostCall::Answer(Answer::CopiedIn { count: a }),
-        4 => HostCall::Answer(Answer::Printed { error: a, value: b }),
-        5 => HostCall::Answer(Answer::ConsoleRead { error: a, value: b }),
-        6 => HostCall::Answer(Answer::CopiedOut { count: a }),
-        7 => HostCall::Answer(Answer::Emitted),
-        8 => HostCall::Answer(Answer::Char { number: a }),
-        9 => HostCall::Answer(Answer::Forwarded { error: a, value: b }),
-        _ => HostCall::GetGpr { index: 32 },
+        1 => Answer::Fetched(words_record::fetch_of(word, more)),
+        2 => Answer::MaskCopied {
+            count: word,
+            bytes: more,
+        },
+        3 => Answer::CopiedIn { count: word },
+        4 => Answer::Printed {
+            error: word,
+            value: more,
+        },
+        5 => Answer::ConsoleRead {
+            error: word,
+            value: more,
+        },
+        6 => Answer::CopiedOut { count: word },
+        7 => Answer::Emitted,
+        8 => Answer::Char { number: word },
+        _ => Answer::Forwarded {
+            error: word,
+            value: more,
+        },
     }
 }
 

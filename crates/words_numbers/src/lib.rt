@@ -1,7 +1,7 @@
 // The numbers that 01 gives to exits, asks, answers and errors, and those that they carry. scope/specs/OneTrap.antt and
 // Refusals.antt define them.
 ghost use mathlib.Core.Path.{_≡_};
-ghost use Rattle.scope.specs.Trap.{answerNumber, askNumber, exitNumber, abiNumber, accessNumber, fetchNumber, widthBytes, askValues, exitValues, flagOf};
+ghost use Rattle.scope.specs.OneTrap.{answerNumber, askNumber, exitNumber, abiNumber, accessNumber, fetchNumber, widthBytes, askValues, exitValues, flagOf};
 ghost use Rattle.scope.specs.Refusals.{errorNumber};
 use isa_types::Width;
 use scope::Access;

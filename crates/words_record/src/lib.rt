@@ -1,12 +1,13 @@
 // The vCPU record in words, and the numbers of what a call is given, as the host's compiler sees them.
 ghost use mathlib.Core.Path.{_≡_};
-ghost use Rattle.scope.specs.Trap.{flagOf};
-ghost use Rattle.scope.specs.Words.{abiOf, accessOf, completionOf, csrsOf, csrsWords, fetchOf, packOf, tested, unpackOf, waitingBy, waitingOf, waitingWords, widthOf};
+ghost use Rattle.scope.specs.OneTrap.{flagOf, fetchOf};
+ghost use Rattle.scope.specs.Words.{abiOf, accessOf, completionOf, csrsOf, csrsWords, packOf, tested, unpackOf, waitingBy, waitingOf, waitingWords, widthOf, askedWords};
 use isa_types::GuestPhysAddr;
 use isa_types::GuestVirtAddr;
 use isa_types::Width;
 use scope::Access;
 use scope::Csrs;
+use scope::EcallAsk;
 use scope::Fetch;
 use scope::GuestCsrs;
 use scope::HsCsrs;
@@ -118,18 +119,18 @@ pub fn waiting_by(kind: u64, a: u64, b: u64, c: u64) -> Waiting
             at: GuestPhysAddr(a),
             access: access_of(b),
         },
-        4 => Waiting::CopyMask,
-        5 => Waiting::CopyIn { count: a },
-        6 => Waiting::Print { count: a },
-        7 => Waiting::ReadConsole {
+        4 => Waiting::Ecall(EcallAsk::CopyMask),
+        5 => Waiting::Ecall(EcallAsk::CopyIn { count: a }),
+        6 => Waiting::Ecall(EcallAsk::Print { count: a }),
+        7 => Waiting::Ecall(EcallAsk::ReadConsole {
             count: a,
             at: GuestPhysAddr(b),
-        },
-        8 => Waiting::CopyOut { count: a },
-        9 => Waiting::PutChar,
-        10 => Waiting::PutByte,
-        11 => Waiting::GetChar,
-        12 => Waiting::Forward,
+        }),
+        8 => Waiting::Ecall(EcallAsk::CopyOut { count: a }),
+        9 => Waiting::Ecall(EcallAsk::PutChar),
+        10 => Waiting::Ecall(EcallAsk::PutByte),
+        11 => Waiting::Ecall(EcallAsk::GetChar),
+        12 => Waiting::Ecall(EcallAsk::Forward),
         _ => Waiting::Idle,
     }
 }
@@ -148,15 +149,24 @@ pub fn waiting_words(w: Waiting) -> [u64; 4]
         ],
         Waiting::FetchCsr => [2, 0, 0, 0],
         Waiting::FetchFault { at, access } => [3, at.0, words_numbers::access_number(access), 0],
-        Waiting::CopyMask => [4, 0, 0, 0],
-        Waiting::CopyIn { count } => [5, count, 0, 0],
-        Waiting::Print { count } => [6, count, 0, 0],
-        Waiting::ReadConsole { count, at } => [7, count, at.0, 0],
-        Waiting::CopyOut { count } => [8, count, 0, 0],
-        Waiting::PutChar => [9, 0, 0, 0],
-        Waiting::PutByte => [10, 0, 0, 0],
-        Waiting::GetChar => [11, 0, 0, 0],
-        Waiting::Forward => [12, 0, 0, 0],
+        Waiting::Ecall(a) => asked_words(a),
+    }
+}
+
+// The words of an ecall's ask.
+fn asked_words(a: EcallAsk) -> [u64; 4]
+    ensures { λ r. ⌜ r ≡ askedWords a ⌝ }
+{
+    match a {
+        EcallAsk::CopyMask => [4, 0, 0, 0],
+        EcallAsk::CopyIn { count } => [5, count, 0, 0],
+        EcallAsk::Print { count } => [6, count, 0, 0],
+        EcallAsk::ReadConsole { count, at } => [7, count, at.0, 0],
+        EcallAsk::CopyOut { count } => [8, count, 0, 0],
+        EcallAsk::PutChar => [9, 0, 0, 0],
+        EcallAsk::PutByte => [10, 0, 0, 0],
+        EcallAsk::GetChar => [11, 0, 0, 0],
+        EcallAsk::Forward => [12, 0, 0, 0],
     }
 }
 

@@ -1,8 +1,8 @@
 -- `by_value_answer::answer` meets its contract.
-use Rattle.scope.specs.Resume.{answerEffect}
+use Rattle.scope.specs.Answers.{answerEffect}
+use borrow.Author.Needs.{needs}
 use Rattle.by_value_answer.proofs.answer.Statement.{statement}
 use Rattle.by_value_answer.proofs.answer.Tie as tie
-use borrow.Author.Needs.{needs}
 
 ask-of-requires : tie.Need-ask-of-requires
 ask-of-requires c κs = search needs

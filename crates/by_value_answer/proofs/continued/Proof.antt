@@ -1,8 +1,8 @@
 -- `by_value_answer::continued` meets its contract.
-use Rattle.scope.specs.Resume.{continuedOf}
+use Rattle.scope.specs.Answers.{fittingEffect}
+use borrow.Author.Needs.{needs}
 use Rattle.by_value_answer.proofs.continued.Statement.{statement}
 use Rattle.by_value_answer.proofs.continued.Tie as tie
-use borrow.Author.Needs.{needs}
 
 enum-known-a : tie.Need-enum-known-a
 enum-known-a c = search needs
@@ -13,86 +13,86 @@ fetched-requires c κs = search needs
 enum-known-a-2 : tie.Need-enum-known-a-2
 enum-known-a-2 c = search needs
 
-plain-requires : tie.Need-plain-requires
-plain-requires c κs = search needs
+numbers-requires : tie.Need-numbers-requires
+numbers-requires c κs = search needs
 
 enum-known-a-3 : tie.Need-enum-known-a-3
 enum-known-a-3 c = search needs
 
-plain-requires-2 : tie.Need-plain-requires-2
-plain-requires-2 c κs = search needs
+numbers-requires-2 : tie.Need-numbers-requires-2
+numbers-requires-2 c κs = search needs
 
 enum-known-a-4 : tie.Need-enum-known-a-4
 enum-known-a-4 c = search needs
 
-plain-requires-3 : tie.Need-plain-requires-3
-plain-requires-3 c κs = search needs
+numbers-requires-3 : tie.Need-numbers-requires-3
+numbers-requires-3 c κs = search needs
 
 enum-known-a-5 : tie.Need-enum-known-a-5
 enum-known-a-5 c = search needs
 
-plain-requires-4 : tie.Need-plain-requires-4
-plain-requires-4 c κs = search needs
+numbers-requires-4 : tie.Need-numbers-requires-4
+numbers-requires-4 c κs = search needs
 
 enum-known-a-6 : tie.Need-enum-known-a-6
 enum-known-a-6 c = search needs
 
-plain-requires-5 : tie.Need-plain-requires-5
-plain-requires-5 c κs = search needs
+numbers-requires-5 : tie.Need-numbers-requires-5
+numbers-requires-5 c κs = search needs
 
 enum-told : tie.Need-enum-told
 enum-told c = search needs
 
-plain-requires-6 : tie.Need-plain-requires-6
-plain-requires-6 c κs = search needs
+numbers-requires-6 : tie.Need-numbers-requires-6
+numbers-requires-6 c κs = search needs
 
 enum-known-a-7 : tie.Need-enum-known-a-7
 enum-known-a-7 c = search needs
 
-plain-requires-7 : tie.Need-plain-requires-7
-plain-requires-7 c κs = search needs
+numbers-requires-7 : tie.Need-numbers-requires-7
+numbers-requires-7 c κs = search needs
 
 enum-known-a-8 : tie.Need-enum-known-a-8
 enum-known-a-8 c = search needs
 
-plain-requires-8 : tie.Need-plain-requires-8
-plain-requires-8 c κs = search needs
+numbers-requires-8 : tie.Need-numbers-requires-8
+numbers-requires-8 c κs = search needs
 
 returns : tie.Need-returns
-unfolding continuedOf
+unfolding fittingEffect
 returns c = simp (c .fetched .ensures, c .before .before .a .given .1)
 
 returns-2 : tie.Need-returns-2
-unfolding continuedOf
-returns-2 c = simp (c .plain .ensures, c .before .before .a2 .given .1)
+unfolding fittingEffect
+returns-2 c = simp (c .numbers .ensures, c .before .before .a2 .given .1)
 
 returns-3 : tie.Need-returns-3
-unfolding continuedOf
-returns-3 c = simp (c .plain2 .ensures, c .before .before .a3 .given .1)
+unfolding fittingEffect
+returns-3 c = simp (c .numbers2 .ensures, c .before .before .a3 .given .1)
 
 returns-4 : tie.Need-returns-4
-unfolding continuedOf
-returns-4 c = simp (c .plain3 .ensures, c .before .before .a4 .given .1)
+unfolding fittingEffect
+returns-4 c = simp (c .numbers3 .ensures, c .before .before .a4 .given .1)
 
 returns-5 : tie.Need-returns-5
-unfolding continuedOf
-returns-5 c = simp (c .plain4 .ensures, c .before .before .a5 .given .1)
+unfolding fittingEffect
+returns-5 c = simp (c .numbers4 .ensures, c .before .before .a5 .given .1)
 
 returns-6 : tie.Need-returns-6
-unfolding continuedOf
-returns-6 c = simp (c .plain5 .ensures, c .before .before .a6 .given .1)
+unfolding fittingEffect
+returns-6 c = simp (c .numbers5 .ensures, c .before .before .a6 .given .1)
 
 returns-7 : tie.Need-returns-7
-unfolding continuedOf
-returns-7 c = simp (c .plain6 .ensures, c .before .enum-told .given .1)
+unfolding fittingEffect
+returns-7 c = simp (c .numbers6 .ensures, c .before .enum-told .given .1)
 
 returns-8 : tie.Need-returns-8
-unfolding continuedOf
-returns-8 c = simp (c .plain7 .ensures, c .before .before .a7 .given .1)
+unfolding fittingEffect
+returns-8 c = simp (c .numbers7 .ensures, c .before .before .a7 .given .1)
 
 returns-9 : tie.Need-returns-9
-unfolding continuedOf
-returns-9 c = simp (c .plain8 .ensures, c .before .before .a8 .given .1)
+unfolding fittingEffect
+returns-9 c = simp (c .numbers8 .ensures, c .before .before .a8 .given .1)
 
 pub continued-spec : {M : Type 1} → statement M
 continued-spec =
@@ -101,21 +101,21 @@ continued-spec =
     enum-known-a
     fetched-requires
     enum-known-a-2
-    plain-requires
+    numbers-requires
     enum-known-a-3
-    plain-requires-2
+    numbers-requires-2
     enum-known-a-4
-    plain-requires-3
+    numbers-requires-3
     enum-known-a-5
-    plain-requires-4
+    numbers-requires-4
     enum-known-a-6
-    plain-requires-5
+    numbers-requires-5
     enum-told
-    plain-requires-6
+    numbers-requires-6
     enum-known-a-7
-    plain-requires-7
+    numbers-requires-7
     enum-known-a-8
-    plain-requires-8
+    numbers-requires-8
     returns
     returns-2
     returns-3

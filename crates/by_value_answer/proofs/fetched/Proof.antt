@@ -1,9 +1,9 @@
 -- `by_value_answer::fetched` meets its contract.
-use Rattle.scope.specs.Resume.{fetchedOf}
+use Rattle.scope.specs.Answers.{fetchEffect}
 use Rattle.by_value_answer.proofs.Faults.{no-word}
+use borrow.Author.Needs.{needs}
 use Rattle.by_value_answer.proofs.fetched.Statement.{statement}
 use Rattle.by_value_answer.proofs.fetched.Tie as tie
-use borrow.Author.Needs.{needs}
 
 enum-known-f : tie.Need-enum-known-f
 enum-known-f c = search needs
@@ -15,14 +15,14 @@ missed-requires : tie.Need-missed-requires
 missed-requires c κs = search needs
 
 returns : tie.Need-returns
-unfolding fetchedOf
+unfolding fetchEffect
 returns c = simp (c .missed .ensures, c .before .decide .ensures) (no-word _ _ _ _ (c .before .before .match .keys2))
 
 resumed-requires : tie.Need-resumed-requires
 resumed-requires c κs = search needs
 
 returns-2 : tie.Need-returns-2
-unfolding fetchedOf
+unfolding fetchEffect
 returns-2 c = simp (c .resumed .ensures, c .before .before .f .given .1)
 
 pub fetched-spec : {M : Type 1} → statement M

@@ -1,8 +1,8 @@
 -- `by_value_answer::matched` meets its contract.
 use borrow.Author.Tests.{eq-eqb, ne-eqb}
+use borrow.Author.Needs.{needs}
 use Rattle.by_value_answer.proofs.matched.Statement.{statement}
 use Rattle.by_value_answer.proofs.matched.Tie as tie
-use borrow.Author.Needs.{needs}
 
 continued-requires : tie.Need-continued-requires
 continued-requires c κs = search needs

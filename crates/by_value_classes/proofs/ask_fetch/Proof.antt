@@ -1,8 +1,8 @@
 -- `by_value_classes::ask_fetch` meets its contract.
-use Rattle.scope.specs.FetchFaults.{askFetchOf}
+use Rattle.scope.specs.VirtualInstruction.{askFetchOf}
+use borrow.Author.Needs.{needs}
 use Rattle.by_value_classes.proofs.ask_fetch.Statement.{statement}
 use Rattle.by_value_classes.proofs.ask_fetch.Tie as tie
-use borrow.Author.Needs.{needs}
 
 spvp-requires : tie.Need-spvp-requires
 spvp-requires c κs = search needs

@@ -1,8 +1,8 @@
 -- `by_value_classes::complete` meets its contract.
 use Rattle.scope.specs.GuestPageFault.{completedOf}
+use borrow.Author.Needs.{needs}
 use Rattle.by_value_classes.proofs.complete.Statement.{statement}
 use Rattle.by_value_classes.proofs.complete.Tie as tie
-use borrow.Author.Needs.{needs}
 
 enum-told : tie.Need-enum-told
 enum-told c = search needs
@@ -37,54 +37,6 @@ enum-told-4 c = search needs
 refused-requires-4 : tie.Need-refused-requires-4
 refused-requires-4 c κs = search needs
 
-enum-told-5 : tie.Need-enum-told-5
-enum-told-5 c = search needs
-
-refused-requires-5 : tie.Need-refused-requires-5
-refused-requires-5 c κs = search needs
-
-enum-told-6 : tie.Need-enum-told-6
-enum-told-6 c = search needs
-
-refused-requires-6 : tie.Need-refused-requires-6
-refused-requires-6 c κs = search needs
-
-enum-told-7 : tie.Need-enum-told-7
-enum-told-7 c = search needs
-
-refused-requires-7 : tie.Need-refused-requires-7
-refused-requires-7 c κs = search needs
-
-enum-told-8 : tie.Need-enum-told-8
-enum-told-8 c = search needs
-
-refused-requires-8 : tie.Need-refused-requires-8
-refused-requires-8 c κs = search needs
-
-enum-told-9 : tie.Need-enum-told-9
-enum-told-9 c = search needs
-
-refused-requires-9 : tie.Need-refused-requires-9
-refused-requires-9 c κs = search needs
-
-enum-told-10 : tie.Need-enum-told-10
-enum-told-10 c = search needs
-
-refused-requires-10 : tie.Need-refused-requires-10
-refused-requires-10 c κs = search needs
-
-enum-told-11 : tie.Need-enum-told-11
-enum-told-11 c = search needs
-
-refused-requires-11 : tie.Need-refused-requires-11
-refused-requires-11 c κs = search needs
-
-enum-told-12 : tie.Need-enum-told-12
-enum-told-12 c = search needs
-
-refused-requires-12 : tie.Need-refused-requires-12
-refused-requires-12 c κs = search needs
-
 returns : tie.Need-returns
 unfolding completedOf
 returns c = simp (c .refused .ensures, c .before .enum-told .given .1)
@@ -105,38 +57,6 @@ returns-5 : tie.Need-returns-5
 unfolding completedOf
 returns-5 c = simp (c .refused4 .ensures, c .before .enum-told4 .given .1)
 
-returns-6 : tie.Need-returns-6
-unfolding completedOf
-returns-6 c = simp (c .refused5 .ensures, c .before .enum-told5 .given .1)
-
-returns-7 : tie.Need-returns-7
-unfolding completedOf
-returns-7 c = simp (c .refused6 .ensures, c .before .enum-told6 .given .1)
-
-returns-8 : tie.Need-returns-8
-unfolding completedOf
-returns-8 c = simp (c .refused7 .ensures, c .before .enum-told7 .given .1)
-
-returns-9 : tie.Need-returns-9
-unfolding completedOf
-returns-9 c = simp (c .refused8 .ensures, c .before .enum-told8 .given .1)
-
-returns-10 : tie.Need-returns-10
-unfolding completedOf
-returns-10 c = simp (c .refused9 .ensures, c .before .enum-told9 .given .1)
-
-returns-11 : tie.Need-returns-11
-unfolding completedOf
-returns-11 c = simp (c .refused10 .ensures, c .before .enum-told10 .given .1)
-
-returns-12 : tie.Need-returns-12
-unfolding completedOf
-returns-12 c = simp (c .refused11 .ensures, c .before .enum-told11 .given .1)
-
-returns-13 : tie.Need-returns-13
-unfolding completedOf
-returns-13 c = simp (c .refused12 .ensures, c .before .enum-told12 .given .1)
-
 pub complete-spec : {M : Type 1} → statement M
 complete-spec =
     tie.close
@@ -152,32 +72,8 @@ complete-spec =
     refused-requires-3
     enum-told-4
     refused-requires-4
-    enum-told-5
-    refused-requires-5
-    enum-told-6
-    refused-requires-6
-    enum-told-7
-    refused-requires-7
-    enum-told-8
-    refused-requires-8
-    enum-told-9
-    refused-requires-9
-    enum-told-10
-    refused-requires-10
-    enum-told-11
-    refused-requires-11
-    enum-told-12
-    refused-requires-12
     returns
     returns-2
     returns-3
     returns-4
-    returns-5
-    returns-6
-    returns-7
-    returns-8
-    returns-9
-    returns-10
-    returns-11
-    returns-12
-    returns-13)
+    returns-5)

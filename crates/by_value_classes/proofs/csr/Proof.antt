@@ -1,8 +1,8 @@
 -- `by_value_classes::csr` meets its contract.
-use Rattle.scope.specs.VirtualInstruction.{csrEffect}
+use Rattle.scope.specs.VirtualInstruction.{stimecmpEffect}
+use borrow.Author.Needs.{needs}
 use Rattle.by_value_classes.proofs.csr.Statement.{statement}
 use Rattle.by_value_classes.proofs.csr.Tie as tie
-use borrow.Author.Needs.{needs}
 
 enum-told : tie.Need-enum-told
 enum-told c = search needs
@@ -29,15 +29,15 @@ finished-requires : tie.Need-finished-requires
 finished-requires c κs = search needs
 
 returns : tie.Need-returns
-unfolding csrEffect
+unfolding stimecmpEffect
 returns c = simp (c .failed .ensures, c .before .enum-told .given .1)
 
 returns-2 : tie.Need-returns-2
-unfolding csrEffect
+unfolding stimecmpEffect
 returns-2 c = simp (c .ask-fetch .ensures, c .before .enum-told2 .given .1)
 
 returns-3 : tie.Need-returns-3
-unfolding csrEffect
+unfolding stimecmpEffect
 returns-3 c = simp (c .finished .ensures, c .before .advance .ensures, c .before .before .with-timer .ensures, c .before .before .before .before .d .given .1)
 
 pub csr-spec : {M : Type 1} → statement M

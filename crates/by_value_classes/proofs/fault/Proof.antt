@@ -1,8 +1,8 @@
 -- `by_value_classes::fault` meets its contract.
 use Rattle.scope.specs.GuestPageFault.{faultEffect}
+use borrow.Author.Needs.{needs}
 use Rattle.by_value_classes.proofs.fault.Statement.{statement}
 use Rattle.by_value_classes.proofs.fault.Tie as tie
-use borrow.Author.Needs.{needs}
 
 enum-told : tie.Need-enum-told
 enum-told c = search needs

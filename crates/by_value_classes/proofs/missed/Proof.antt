@@ -1,8 +1,8 @@
 -- `by_value_classes::missed` meets its contract.
-use Rattle.scope.specs.FetchFaults.{missedEffect}
+use Rattle.scope.specs.VirtualInstruction.{missedEffect}
+use borrow.Author.Needs.{needs}
 use Rattle.by_value_classes.proofs.missed.Statement.{statement}
 use Rattle.by_value_classes.proofs.missed.Tie as tie
-use borrow.Author.Needs.{needs}
 
 enum-known-m : tie.Need-enum-known-m
 enum-known-m c = search needs

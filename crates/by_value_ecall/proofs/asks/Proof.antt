@@ -1,8 +1,8 @@
 -- `by_value_ecall::asks` meets its contract.
 use Rattle.scope.specs.Ecalls.{asksOf}
+use borrow.Author.Needs.{needs}
 use Rattle.by_value_ecall.proofs.asks.Statement.{statement}
 use Rattle.by_value_ecall.proofs.asks.Tie as tie
-use borrow.Author.Needs.{needs}
 
 asking-requires : tie.Need-asking-requires
 asking-requires c κs = search needs

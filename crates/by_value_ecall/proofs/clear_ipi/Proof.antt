@@ -1,8 +1,8 @@
 -- `by_value_ecall::clear_ipi` meets its contract.
 use Rattle.scope.specs.Ecalls.{clearIpiOf}
+use borrow.Author.Needs.{needs}
 use Rattle.by_value_ecall.proofs.clear_ipi.Statement.{statement}
 use Rattle.by_value_ecall.proofs.clear_ipi.Tie as tie
-use borrow.Author.Needs.{needs}
 
 with-bits-requires : tie.Need-with-bits-requires
 with-bits-requires c κs = search needs

@@ -1,8 +1,8 @@
 -- `by_value_ecall::hypercall` meets its contract.
 use Rattle.scope.specs.Ecalls.{hypercallOf}
+use borrow.Author.Needs.{needs}
 use Rattle.by_value_ecall.proofs.hypercall.Statement.{statement}
 use Rattle.by_value_ecall.proofs.hypercall.Tie as tie
-use borrow.Author.Needs.{needs}
 
 advance-requires : tie.Need-advance-requires
 advance-requires c κs = search needs

@@ -1,8 +1,8 @@
 -- `by_value_ecall::set_timer` meets its contract.
 use Rattle.scope.specs.Ecalls.{setTimerOf}
+use borrow.Author.Needs.{needs}
 use Rattle.by_value_ecall.proofs.set_timer.Statement.{statement}
 use Rattle.by_value_ecall.proofs.set_timer.Tie as tie
-use borrow.Author.Needs.{needs}
 
 with-timer-requires : tie.Need-with-timer-requires
 with-timer-requires c κs = search needs

@@ -1,8 +1,8 @@
 -- `by_value_ecall::stays` meets its contract.
 use Rattle.scope.specs.Ecalls.{staysOf}
+use borrow.Author.Needs.{needs}
 use Rattle.by_value_ecall.proofs.stays.Statement.{statement}
 use Rattle.by_value_ecall.proofs.stays.Tie as tie
-use borrow.Author.Needs.{needs}
 
 finished-requires : tie.Need-finished-requires
 finished-requires c κs = search needs

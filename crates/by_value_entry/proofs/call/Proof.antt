@@ -1,8 +1,8 @@
 -- `by_value_entry::call` meets its contract.
-use Rattle.scope.specs.Calls.{calledOf}
+
+use borrow.Author.Needs.{needs}
 use Rattle.by_value_entry.proofs.call.Statement.{statement}
 use Rattle.by_value_entry.proofs.call.Tie as tie
-use borrow.Author.Needs.{needs}
 
 enum-told : tie.Need-enum-told
 enum-told c = search needs
@@ -77,51 +77,39 @@ complete-load-requires : tie.Need-complete-load-requires
 complete-load-requires c κs = search needs
 
 returns : tie.Need-returns
-unfolding calledOf
 returns c = simp (c .setup .ensures, c .before .enum-told .given .1)
 
 returns-2 : tie.Need-returns-2
-unfolding calledOf
 returns-2 c = simp (c .set-entry .ensures, c .before .before .c .given .1)
 
 returns-3 : tie.Need-returns-3
-unfolding calledOf
 returns-3 c = simp (c .read .ensures, c .before .before .c2 .given .1)
 
 returns-4 : tie.Need-returns-4
-unfolding calledOf
 returns-4 c = simp (c .set-gpr .ensures, c .before .before .c3 .given .1)
 
 returns-5 : tie.Need-returns-5
-unfolding calledOf
 returns-5 c = simp (c .set-return-value .ensures, c .before .before .c4 .given .1)
 
 returns-6 : tie.Need-returns-6
-unfolding calledOf
 returns-6 c = simp (c .set-nested-page-table .ensures, c .before .before .c5 .given .1)
 
 returns-7 : tie.Need-returns-7
-unfolding calledOf
 returns-7 c = simp (c .set-virtual-interrupt-pending .ensures, c .before .before .c6 .given .1)
 
 returns-8 : tie.Need-returns-8
-unfolding calledOf
 returns-8 c = simp (c .latch-hvip .ensures, c .before .before .c7 .given .1)
 
 returns-9 : tie.Need-returns-9
-unfolding calledOf
 returns-9 c = simp (c .complete-ipi .ensures, c .before .before .c8 .given .1)
 
 returns-10 : tie.Need-returns-10
-unfolding calledOf
 returns-10 c = simp (c .start .ensures, c .before .before .c9 .given .1)
 
 returns-11 : tie.Need-returns-11
-unfolding calledOf
 returns-11 c = simp (c .answer .ensures, c .before .before .c10 .given .1)
 
 returns-12 : tie.Need-returns-12
-unfolding calledOf
 returns-12 c = simp (c .complete-load .ensures, c .before .before .c11 .given .1)
 
 pub call-spec : {M : Type 1} → statement M

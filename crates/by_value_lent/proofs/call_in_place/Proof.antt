@@ -109,19 +109,19 @@ outcome-struct = refl
 field-0 : fieldAt zero outcome-tys 0 ≡ some (vcpu-ty, 0)
 field-0 = refl
 
-field-1 : fieldAt zero outcome-tys 1 ≡ some (reply-ty, 456)
+field-1 : fieldAt zero outcome-tys 1 ≡ some (reply-ty, 464)
 field-1 = refl
 
-field-2 : fieldAt zero outcome-tys 2 ≡ some (tyArray (tyInt w64) 6, 536)
+field-2 : fieldAt zero outcome-tys 2 ≡ some (tyArray (tyInt w64) 6, 544)
 field-2 = refl
 
 of-0 : fieldOf outcome-ty 0 ≡ some (vcpu-ty, 0)
 of-0 = ap (λ (τ : Ty). fieldOf τ 0) outcome-struct ∙ field-0
 
-of-1 : fieldOf outcome-ty 1 ≡ some (reply-ty, 456)
+of-1 : fieldOf outcome-ty 1 ≡ some (reply-ty, 464)
 of-1 = ap (λ (τ : Ty). fieldOf τ 1) outcome-struct ∙ field-1
 
-of-2 : fieldOf outcome-ty 2 ≡ some (tyArray (tyInt w64) 6, 536)
+of-2 : fieldOf outcome-ty 2 ≡ some (tyArray (tyInt w64) 6, 544)
 of-2 = ap (λ (τ : Ty). fieldOf τ 2) outcome-struct ∙ field-2
 
 -- A value fits its type. As a record of its own it is compared by its two arguments and never computed, which for types

@@ -1,9 +1,9 @@
 -- `by_value_start::arguments` meets its contract.
 use mathlib.Core.Path.{refl}
 use Rattle.scope.specs.Classes.{argumentsOf}
+use borrow.Author.Needs.{needs}
 use Rattle.by_value_start.proofs.arguments.Statement.{statement}
 use Rattle.by_value_start.proofs.arguments.Tie as tie
-use borrow.Author.Needs.{needs}
 
 array-read-t5 : tie.Need-array-read-t5
 array-read-t5 c = search needs

@@ -1,8 +1,8 @@
 -- `by_value_start::mmio` meets its contract.
-use Rattle.scope.specs.Classes.{mmioOf}
+use Rattle.scope.specs.GuestPageFault.{mmioOf}
+use borrow.Author.Needs.{needs}
 use Rattle.by_value_start.proofs.mmio.Statement.{statement}
 use Rattle.by_value_start.proofs.mmio.Tie as tie
-use borrow.Author.Needs.{needs}
 
 store-source-requires : tie.Need-store-source-requires
 store-source-requires c κs = search needs

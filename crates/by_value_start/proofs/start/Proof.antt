@@ -1,8 +1,8 @@
 -- `by_value_start::start` meets its contract.
 use Rattle.scope.specs.Classes.{startEffect}
+use borrow.Author.Needs.{needs}
 use Rattle.by_value_start.proofs.start.Statement.{statement}
 use Rattle.by_value_start.proofs.start.Tie as tie
-use borrow.Author.Needs.{needs}
 
 is-idle-requires : tie.Need-is-idle-requires
 is-idle-requires c κs = search needs

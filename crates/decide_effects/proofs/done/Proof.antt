@@ -1,8 +1,8 @@
 -- `decide_effects::done` meets its contract.
 use Rattle.scope.specs.Refusals.{doneOf}
+use borrow.Author.Needs.{needs}
 use Rattle.decide_effects.proofs.done.Statement.{statement}
 use Rattle.decide_effects.proofs.done.Tie as tie
-use borrow.Author.Needs.{needs}
 
 no-args-requires : tie.Need-no-args-requires
 no-args-requires c κs = search needs

@@ -1,8 +1,8 @@
 -- `decide_effects::finished` meets its contract.
 use Rattle.scope.specs.Refusals.{finishedOf}
+use borrow.Author.Needs.{needs}
 use Rattle.decide_effects.proofs.finished.Statement.{statement}
 use Rattle.decide_effects.proofs.finished.Tie as tie
-use borrow.Author.Needs.{needs}
 
 no-args-requires : tie.Need-no-args-requires
 no-args-requires c κs = search needs

@@ -1,5 +1,5 @@
 -- `decide_fetch::decide` meets its contract.
-use Rattle.scope.specs.FetchFaults.{missedOf}
+use Rattle.scope.specs.VirtualInstruction.{missedOf}
 use Rattle.decide_fetch.proofs.decide.Statement.{statement}
 use Rattle.decide_fetch.proofs.decide.Tie as tie
 use borrow.Author.Needs.{needs}

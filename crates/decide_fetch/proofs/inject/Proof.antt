@@ -1,5 +1,5 @@
 -- `decide_fetch::inject` meets its contract.
-use Rattle.scope.specs.FetchFaults.{injectedOf}
+use Rattle.scope.specs.VirtualInstruction.{injectedOf}
 use Rattle.decide_fetch.proofs.inject.Statement.{statement}
 use Rattle.decide_fetch.proofs.inject.Tie as tie
 use borrow.Author.Needs.{needs}

@@ -1,5 +1,5 @@
 -- `decide_fetch::trap_status` meets its contract.
-use Rattle.scope.specs.FetchFaults.{trapStatusOf}
+use Rattle.scope.specs.VirtualInstruction.{trapStatusOf}
 use Rattle.decide_fetch.proofs.trap_status.Statement.{statement}
 use Rattle.decide_fetch.proofs.trap_status.Tie as tie
 use borrow.Author.Needs.{needs}

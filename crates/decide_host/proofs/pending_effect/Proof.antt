@@ -1,8 +1,8 @@
 -- `decide_host::pending_effect` meets its contract.
 use Rattle.scope.specs.Host.{pendingEffect}
+use borrow.Author.Needs.{needs}
 use Rattle.decide_host.proofs.pending_effect.Statement.{statement}
 use Rattle.decide_host.proofs.pending_effect.Tie as tie
-use borrow.Author.Needs.{needs}
 
 is-supervisor-external-requires : tie.Need-is-supervisor-external-requires
 is-supervisor-external-requires c κs = search needs

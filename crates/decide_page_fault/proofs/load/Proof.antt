@@ -1,5 +1,5 @@
 -- `decide_page_fault::load` meets its contract.
-use Rattle.scope.specs.GuestPageFault.{loadOf}
+use Rattle.scope.specs.GuestPageFault.{loadUnder}
 use Rattle.decide_page_fault.proofs.load.Statement.{statement}
 use Rattle.decide_page_fault.proofs.load.Tie as tie
 use borrow.Author.Needs.{needs}
@@ -14,15 +14,15 @@ enum-told-3 : tie.Need-enum-told-3
 enum-told-3 c = search needs
 
 returns : tie.Need-returns
-unfolding loadOf
+unfolding loadUnder
 returns c = simp (c .enum-told .given .1)
 
 returns-2 : tie.Need-returns-2
-unfolding loadOf
+unfolding loadUnder
 returns-2 c = simp (c .enum-told2 .given .1)
 
 returns-3 : tie.Need-returns-3
-unfolding loadOf
+unfolding loadUnder
 returns-3 c = simp (c .enum-told3 .given .1)
 
 pub load-spec : {M : Type 1} → statement M

@@ -1,5 +1,5 @@
 -- `decide_page_fault::store` meets its contract.
-use Rattle.scope.specs.GuestPageFault.{storeOf}
+use Rattle.scope.specs.GuestPageFault.{storeUnder}
 use Rattle.decide_page_fault.proofs.store.Statement.{statement}
 use Rattle.decide_page_fault.proofs.store.Tie as tie
 use borrow.Author.Needs.{needs}
@@ -17,15 +17,15 @@ enum-told-3 : tie.Need-enum-told-3
 enum-told-3 c = search needs
 
 returns : tie.Need-returns
-unfolding storeOf
+unfolding storeUnder
 returns c = simp (c .enum-told .given .1)
 
 returns-2 : tie.Need-returns-2
-unfolding storeOf
+unfolding storeUnder
 returns-2 c = simp (c .cut .ensures, c .before .enum-told2 .given .1)
 
 returns-3 : tie.Need-returns-3
-unfolding storeOf
+unfolding storeUnder
 returns-3 c = simp (c .enum-told3 .given .1)
 
 pub store-spec : {M : Type 1} → statement M

@@ -1,8 +1,8 @@
 -- `decide_record::advance` meets its contract.
 use Rattle.scope.specs.Record.{moved}
+use borrow.Author.Needs.{needs}
 use Rattle.decide_record.proofs.advance.Statement.{statement}
 use Rattle.decide_record.proofs.advance.Tie as tie
-use borrow.Author.Needs.{needs}
 
 plus-requires : tie.Need-plus-requires
 plus-requires c κs = search needs

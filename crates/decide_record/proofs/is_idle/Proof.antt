@@ -1,8 +1,8 @@
 -- `decide_record::is_idle` meets its contract.
 use Rattle.scope.specs.Record.{isIdle}
+use borrow.Author.Needs.{needs}
 use Rattle.decide_record.proofs.is_idle.Statement.{statement}
 use Rattle.decide_record.proofs.is_idle.Tie as tie
-use borrow.Author.Needs.{needs}
 
 enum-told : tie.Need-enum-told
 enum-told c = search needs
@@ -18,30 +18,6 @@ enum-told-4 c = search needs
 
 enum-told-5 : tie.Need-enum-told-5
 enum-told-5 c = search needs
-
-enum-told-6 : tie.Need-enum-told-6
-enum-told-6 c = search needs
-
-enum-told-7 : tie.Need-enum-told-7
-enum-told-7 c = search needs
-
-enum-told-8 : tie.Need-enum-told-8
-enum-told-8 c = search needs
-
-enum-told-9 : tie.Need-enum-told-9
-enum-told-9 c = search needs
-
-enum-told-10 : tie.Need-enum-told-10
-enum-told-10 c = search needs
-
-enum-told-11 : tie.Need-enum-told-11
-enum-told-11 c = search needs
-
-enum-told-12 : tie.Need-enum-told-12
-enum-told-12 c = search needs
-
-enum-told-13 : tie.Need-enum-told-13
-enum-told-13 c = search needs
 
 returns : tie.Need-returns
 unfolding isIdle
@@ -63,38 +39,6 @@ returns-5 : tie.Need-returns-5
 unfolding isIdle
 returns-5 c = simp (c .enum-told5 .given .1)
 
-returns-6 : tie.Need-returns-6
-unfolding isIdle
-returns-6 c = simp (c .enum-told6 .given .1)
-
-returns-7 : tie.Need-returns-7
-unfolding isIdle
-returns-7 c = simp (c .enum-told7 .given .1)
-
-returns-8 : tie.Need-returns-8
-unfolding isIdle
-returns-8 c = simp (c .enum-told8 .given .1)
-
-returns-9 : tie.Need-returns-9
-unfolding isIdle
-returns-9 c = simp (c .enum-told9 .given .1)
-
-returns-10 : tie.Need-returns-10
-unfolding isIdle
-returns-10 c = simp (c .enum-told10 .given .1)
-
-returns-11 : tie.Need-returns-11
-unfolding isIdle
-returns-11 c = simp (c .enum-told11 .given .1)
-
-returns-12 : tie.Need-returns-12
-unfolding isIdle
-returns-12 c = simp (c .enum-told12 .given .1)
-
-returns-13 : tie.Need-returns-13
-unfolding isIdle
-returns-13 c = simp (c .enum-told13 .given .1)
-
 pub is-idle-spec : {M : Type 1} → statement M
 is-idle-spec =
     tie.close
@@ -104,24 +48,8 @@ is-idle-spec =
     enum-told-3
     enum-told-4
     enum-told-5
-    enum-told-6
-    enum-told-7
-    enum-told-8
-    enum-told-9
-    enum-told-10
-    enum-told-11
-    enum-told-12
-    enum-told-13
     returns
     returns-2
     returns-3
     returns-4
-    returns-5
-    returns-6
-    returns-7
-    returns-8
-    returns-9
-    returns-10
-    returns-11
-    returns-12
-    returns-13)
+    returns-5)

@@ -1,9 +1,9 @@
 -- `decide_record::register` meets its contract.
 use borrow.Author.Tests.{eq-eqb, ne-eqb, lt-ltb, lt-leb, le-ltb, le-leb}
 use Rattle.scope.specs.Record.{valueOf}
+use borrow.Author.Needs.{needs}
 use Rattle.decide_record.proofs.register.Statement.{statement}
 use Rattle.decide_record.proofs.register.Tie as tie
-use borrow.Author.Needs.{needs}
 
 returns : tie.Need-returns
 unfolding valueOf

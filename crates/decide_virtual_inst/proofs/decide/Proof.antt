@@ -1,8 +1,8 @@
 -- `decide_virtual_inst::decide` meets its contract.
-use Rattle.scope.specs.VirtualInstruction.{csrOf}
+use Rattle.scope.specs.VirtualInstruction.{stimecmpWord}
+use borrow.Author.Needs.{needs}
 use Rattle.decide_virtual_inst.proofs.decide.Statement.{statement}
 use Rattle.decide_virtual_inst.proofs.decide.Tie as tie
-use borrow.Author.Needs.{needs}
 
 opcode-requires : tie.Need-opcode-requires
 opcode-requires c κs = search needs
@@ -14,7 +14,7 @@ decide-by-requires : tie.Need-decide-by-requires
 decide-by-requires c κs = search needs
 
 returns : tie.Need-returns
-unfolding csrOf
+unfolding stimecmpWord
 returns c = simp (c .decide-by .ensures, c .before .csr .ensures, c .before .before .opcode .ensures)
 
 pub decide-spec : {M : Type 1} → statement M

@@ -1,4 +1,5 @@
 -- `in_place_answer::answer` meets its contract.
+
 use borrow.Author.Needs.{needs}
 use Rattle.in_place_answer.proofs.answer.Statement.{statement}
 use Rattle.in_place_answer.proofs.answer.Tie as tie

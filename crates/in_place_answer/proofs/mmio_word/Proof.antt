@@ -1,6 +1,6 @@
 -- `in_place_answer::mmio_word` meets its contract.
+use Rattle.in_place_read.specs.Laws.{mmio-made}
 use Rattle.in_place_record.specs.Laws.{made-by}
-use Rattle.in_place_answer.specs.Laws.{mmio-made}
 use borrow.Author.Needs.{needs}
 use Rattle.in_place_answer.proofs.mmio_word.Statement.{statement}
 use Rattle.in_place_answer.proofs.mmio_word.Tie as tie

@@ -1,7 +1,7 @@
 -- `in_place_answer::stimecmp_word` meets its contract.
-use borrow.Author.Needs.{needs}
 use Rattle.in_place_record.specs.Laws.{made-by}
 use Rattle.in_place_answer.specs.Laws.{word-made}
+use borrow.Author.Needs.{needs}
 use Rattle.in_place_answer.proofs.stimecmp_word.Statement.{statement}
 use Rattle.in_place_answer.proofs.stimecmp_word.Tie as tie
 

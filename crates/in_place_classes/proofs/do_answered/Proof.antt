@@ -8,9 +8,6 @@ use Rattle.in_place_classes.proofs.do_answered.Tie as tie
 enum-told : tie.Need-enum-told
 enum-told c = search needs
 
-enum-told-2 : tie.Need-enum-told-2
-enum-told-2 c = search needs
-
 step-requires : tie.Need-step-requires
 step-requires c κs = search needs
 
@@ -73,38 +70,33 @@ element-write-r-4 c = search needs
 
 returns : tie.Need-returns
 unfolding answeredLeft
-returns c = simp (c .enum-told .given .1) (record { rec = refl; out = refl; word = refl })
+returns c = simp (c .step .ensures, c .before .before .enum-told .given .1) (record { rec = refl; out = refl; word = refl })
 
 returns-2 : tie.Need-returns-2
 unfolding answeredLeft
-returns-2 c = simp (c .step .ensures, c .before .before .enum-told2 .given .1) (record { rec = refl; out = refl; word = refl })
+returns-2 c = simp (c .give .ensures, c .before .before .before .d .given .1) (record { rec = refl; out = refl; word = refl })
 
 returns-3 : tie.Need-returns-3
 unfolding answeredLeft
-returns-3 c = simp (c .give .ensures, c .before .before .before .d .given .1) (record { rec = refl; out = refl; word = refl })
+returns-3 c = simp (c .pair .ensures, c .before .before .before .d2 .given .1) (record { rec = refl; out = refl; word = refl })
 
 returns-4 : tie.Need-returns-4
 unfolding answeredLeft
-returns-4 c = simp (c .pair .ensures, c .before .before .before .d2 .given .1) (record { rec = refl; out = refl; word = refl })
+returns-4 c = simp (c .step2 .ensures, c .before .before .abi-number .ensures, c .before .before .before .before .d3 .given .1) (record { rec = refl; out = refl; word = refl })
 
 returns-5 : tie.Need-returns-5
 unfolding answeredLeft
-returns-5 c = simp (c .step2 .ensures, c .before .before .abi-number .ensures, c .before .before .before .before .d3 .given .1) (record { rec = refl; out = refl; word = refl })
+returns-5 c = simp (c .before .d4 .given .1) (record { rec = refl; out = refl; word = refl })
 
 returns-6 : tie.Need-returns-6
 unfolding answeredLeft
-returns-6 c = simp (c .before .d4 .given .1) (record { rec = refl; out = refl; word = refl })
-
-returns-7 : tie.Need-returns-7
-unfolding answeredLeft
-returns-7 c = simp (c .before .d5 .given .1) (record { rec = refl; out = refl; word = refl })
+returns-6 c = simp (c .before .d5 .given .1) (record { rec = refl; out = refl; word = refl })
 
 pub do-answered-spec : {M : Type 1} → statement M
 do-answered-spec =
     tie.close
     (tie.spec
     enum-told
-    enum-told-2
     step-requires
     enum-known-d
     give-requires
@@ -130,5 +122,4 @@ do-answered-spec =
     returns-3
     returns-4
     returns-5
-    returns-6
-    returns-7)
+    returns-6)

@@ -4,7 +4,6 @@ use Rattle.in_place_record.specs.Deeds.{missedLeft}
 use borrow.Author.Needs.{needs}
 use Rattle.in_place_classes.proofs.do_missed.Statement.{statement}
 use Rattle.in_place_classes.proofs.do_missed.Tie as tie
-use Rattle.in_place_write.proofs.inject.Reads as inject-reads′
 
 enum-known-d : tie.Need-enum-known-d
 enum-known-d c = search needs

@@ -1,6 +1,6 @@
 -- `in_place_host::ask_word` meets its contract.
 use borrow.Author.Needs.{needs}
-use Rattle.scope.specs.Trap.{askNumber}
+use Rattle.scope.specs.OneTrap.{askNumber}
 use Rattle.in_place_host.proofs.ask_word.Statement.{statement}
 use Rattle.in_place_host.proofs.ask_word.Tie as tie
 

@@ -29,30 +29,6 @@ enum-told-3 c = search needs
 enum-told-4 : tie.Need-enum-told-4
 enum-told-4 c = search needs
 
-enum-told-5 : tie.Need-enum-told-5
-enum-told-5 c = search needs
-
-enum-told-6 : tie.Need-enum-told-6
-enum-told-6 c = search needs
-
-enum-told-7 : tie.Need-enum-told-7
-enum-told-7 c = search needs
-
-enum-told-8 : tie.Need-enum-told-8
-enum-told-8 c = search needs
-
-enum-told-9 : tie.Need-enum-told-9
-enum-told-9 c = search needs
-
-enum-told-10 : tie.Need-enum-told-10
-enum-told-10 c = search needs
-
-enum-told-11 : tie.Need-enum-told-11
-enum-told-11 c = search needs
-
-enum-told-12 : tie.Need-enum-told-12
-enum-told-12 c = search needs
-
 returns : tie.Need-returns
 unfolding completeWords completeWord
 returns c = simp (c .enum-told .given .1) (refl, refl)
@@ -73,38 +49,6 @@ returns-5 : tie.Need-returns-5
 unfolding completeWords completeWord
 returns-5 c = simp (c .enum-told4 .given .1) (refl, refl)
 
-returns-6 : tie.Need-returns-6
-unfolding completeWords completeWord
-returns-6 c = simp (c .enum-told5 .given .1) (refl, refl)
-
-returns-7 : tie.Need-returns-7
-unfolding completeWords completeWord
-returns-7 c = simp (c .enum-told6 .given .1) (refl, refl)
-
-returns-8 : tie.Need-returns-8
-unfolding completeWords completeWord
-returns-8 c = simp (c .enum-told7 .given .1) (refl, refl)
-
-returns-9 : tie.Need-returns-9
-unfolding completeWords completeWord
-returns-9 c = simp (c .enum-told8 .given .1) (refl, refl)
-
-returns-10 : tie.Need-returns-10
-unfolding completeWords completeWord
-returns-10 c = simp (c .enum-told9 .given .1) (refl, refl)
-
-returns-11 : tie.Need-returns-11
-unfolding completeWords completeWord
-returns-11 c = simp (c .enum-told10 .given .1) (refl, refl)
-
-returns-12 : tie.Need-returns-12
-unfolding completeWords completeWord
-returns-12 c = simp (c .enum-told11 .given .1) (refl, refl)
-
-returns-13 : tie.Need-returns-13
-unfolding completeWords completeWord
-returns-13 c = simp (c .enum-told12 .given .1) (refl, refl)
-
 pub complete-spec : {M : Type 1} → statement M
 complete-spec =
     tie.close
@@ -117,24 +61,8 @@ complete-spec =
     enum-told-2
     enum-told-3
     enum-told-4
-    enum-told-5
-    enum-told-6
-    enum-told-7
-    enum-told-8
-    enum-told-9
-    enum-told-10
-    enum-told-11
-    enum-told-12
     returns
     returns-2
     returns-3
     returns-4
-    returns-5
-    returns-6
-    returns-7
-    returns-8
-    returns-9
-    returns-10
-    returns-11
-    returns-12
-    returns-13)
+    returns-5)

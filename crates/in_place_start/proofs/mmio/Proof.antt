@@ -1,7 +1,7 @@
 -- `in_place_start::mmio` meets its contract.
-use borrow.Author.Needs.{needs}
+use Rattle.in_place_read.specs.Laws.{mmio-made}
 use Rattle.in_place_record.specs.Laws.{made-by}
-use Rattle.in_place_start.specs.Laws.{mmio-made}
+use borrow.Author.Needs.{needs}
 use Rattle.in_place_start.proofs.mmio.Statement.{statement}
 use Rattle.in_place_start.proofs.mmio.Tie as tie
 

@@ -1,7 +1,6 @@
 -- `in_place_start::started` meets its contract.
-use borrow.Author.Needs.{needs}
-use Rattle.in_place_start.specs.Classes.{class-effect}
 use Rattle.in_place_start.specs.Laws.{busy-made}
+use borrow.Author.Needs.{needs}
 use Rattle.in_place_start.proofs.started.Statement.{statement}
 use Rattle.in_place_start.proofs.started.Tie as tie
 
@@ -12,7 +11,7 @@ trapped-requires : tie.Need-trapped-requires
 trapped-requires c κs = search needs
 
 returns : tie.Need-returns
-returns c = rw (c .before .before .before .before .if1 .taken) (simp (c .before .before .before .class-of .ensures, class-effect) at (c .trapped .ensures))
+returns c = rw (c .before .before .before .before .if1 .taken) (simp (c .before .before .before .class-of .ensures) at (c .trapped .ensures))
 
 returns-2 : tie.Need-returns-2
 returns-2 c = rw (c .if1 .left) (busy-made _ _)

@@ -1,7 +1,7 @@
 -- `in_place_start::trapped` meets its contract.
+use Rattle.scope.specs.Classes.{classEffect}
+use Rattle.in_place_start.specs.Laws.{interrupt-made, not-handled-made, unknown-made}
 use borrow.Author.Needs.{needs}
-use Rattle.in_place_start.specs.Classes.{classEffect}
-use Rattle.in_place_start.specs.Laws.{external-made, known-made, unknown-made}
 use Rattle.in_place_start.proofs.trapped.Statement.{statement}
 use Rattle.in_place_start.proofs.trapped.Tie as tie
 
@@ -11,20 +11,20 @@ sized-requires c κs = search needs
 enum-told : tie.Need-enum-told
 enum-told c = search needs
 
-sbi-requires : tie.Need-sbi-requires
-sbi-requires c κs = search needs
+ecall-requires : tie.Need-ecall-requires
+ecall-requires c κs = search needs
 
 enum-told-2 : tie.Need-enum-told-2
 enum-told-2 c = search needs
 
-stimecmp-requires : tie.Need-stimecmp-requires
-stimecmp-requires c κs = search needs
+virtual-inst-requires : tie.Need-virtual-inst-requires
+virtual-inst-requires c κs = search needs
 
 enum-known-class : tie.Need-enum-known-class
 enum-known-class c = search needs
 
-page-fault-trap-requires : tie.Need-page-fault-trap-requires
-page-fault-trap-requires c κs = search needs
+page-fault-requires : tie.Need-page-fault-requires
+page-fault-requires c κs = search needs
 
 enum-told-3 : tie.Need-enum-told-3
 enum-told-3 c = search needs
@@ -49,23 +49,23 @@ element-write-r-3 c = search needs
 
 returns : tie.Need-returns
 unfolding classEffect
-returns c = rw (c .before .before .before .enum-told .given .1) (c .sbi .ensures)
+returns c = rw (c .before .before .before .enum-told .given .1) (c .ecall .ensures)
 
 returns-2 : tie.Need-returns-2
 unfolding classEffect
-returns-2 c = rw (c .before .before .before .enum-told2 .given .1) (c .stimecmp .ensures)
+returns-2 c = rw (c .before .before .before .enum-told2 .given .1) (c .virtual-inst .ensures)
 
 returns-3 : tie.Need-returns-3
 unfolding classEffect
-returns-3 c = rw (c .before .before .before .before .class .given .1) (c .page-fault-trap .ensures)
+returns-3 c = rw (c .before .before .before .before .class .given .1) (c .page-fault .ensures)
 
 returns-4 : tie.Need-returns-4
 unfolding classEffect
-returns-4 c = rw (c .enum-told3 .given .1) (external-made _ _ (c .before .before .sized .ensures) _)
+returns-4 c = rw (c .enum-told3 .given .1) (interrupt-made _ _ (c .before .before .sized .ensures) _)
 
 returns-5 : tie.Need-returns-5
 unfolding classEffect
-returns-5 c = rw (c .enum-told4 .given .1) (known-made _ _ (c .before .before .sized .ensures))
+returns-5 c = rw (c .enum-told4 .given .1) (not-handled-made _ _ (c .before .before .sized .ensures))
 
 returns-6 : tie.Need-returns-6
 unfolding classEffect
@@ -77,11 +77,11 @@ trapped-spec =
     (tie.spec
     sized-requires
     enum-told
-    sbi-requires
+    ecall-requires
     enum-told-2
-    stimecmp-requires
+    virtual-inst-requires
     enum-known-class
-    page-fault-trap-requires
+    page-fault-requires
     enum-told-3
     element-write-out
     element-write-r

@@ -1,9 +1,9 @@
 -- `words_call::call_by` meets its contract.
 use borrow.Author.Tests.{ne-eqb}
 use Rattle.scope.specs.Words.{callBy}
+use borrow.Author.Needs.{needs}
 use Rattle.words_call.proofs.call_by.Statement.{statement}
 use Rattle.words_call.proofs.call_by.Tie as tie
-use borrow.Author.Needs.{needs}
 
 test-requires : tie.Need-test-requires
 test-requires c κs = search needs

@@ -1,5 +1,5 @@
 -- `words_numbers::abi_number` meets its contract.
-use Rattle.scope.specs.Trap.{abiNumber}
+use Rattle.scope.specs.OneTrap.{abiNumber}
 use Rattle.words_numbers.proofs.abi_number.Statement.{statement}
 use Rattle.words_numbers.proofs.abi_number.Tie as tie
 use borrow.Author.Needs.{needs}

@@ -1,5 +1,5 @@
 -- `words_numbers::access_number` meets its contract.
-use Rattle.scope.specs.Trap.{accessNumber}
+use Rattle.scope.specs.OneTrap.{accessNumber}
 use Rattle.words_numbers.proofs.access_number.Statement.{statement}
 use Rattle.words_numbers.proofs.access_number.Tie as tie
 use borrow.Author.Needs.{needs}

@@ -1,5 +1,5 @@
 -- `words_numbers::answer_number` meets its contract.
-use Rattle.scope.specs.Trap.{answerNumber}
+use Rattle.scope.specs.OneTrap.{answerNumber}
 use Rattle.words_numbers.proofs.answer_number.Statement.{statement}
 use Rattle.words_numbers.proofs.answer_number.Tie as tie
 use borrow.Author.Needs.{needs}

@@ -1,5 +1,5 @@
 -- `words_numbers::ask_number` meets its contract.
-use Rattle.scope.specs.Trap.{askNumber}
+use Rattle.scope.specs.OneTrap.{askNumber}
 use Rattle.words_numbers.proofs.ask_number.Statement.{statement}
 use Rattle.words_numbers.proofs.ask_number.Tie as tie
 use borrow.Author.Needs.{needs}

@@ -1,5 +1,5 @@
 -- `words_numbers::ask_values` meets its contract.
-use Rattle.scope.specs.Trap.{askValues}
+use Rattle.scope.specs.OneTrap.{askValues}
 use Rattle.words_numbers.proofs.ask_values.Statement.{statement}
 use Rattle.words_numbers.proofs.ask_values.Tie as tie
 use borrow.Author.Needs.{needs}

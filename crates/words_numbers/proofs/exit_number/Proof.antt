@@ -1,5 +1,5 @@
 -- `words_numbers::exit_number` meets its contract.
-use Rattle.scope.specs.Trap.{exitNumber}
+use Rattle.scope.specs.OneTrap.{exitNumber}
 use Rattle.words_numbers.proofs.exit_number.Statement.{statement}
 use Rattle.words_numbers.proofs.exit_number.Tie as tie
 use borrow.Author.Needs.{needs}

@@ -1,5 +1,5 @@
 -- `words_numbers::exit_values` meets its contract.
-use Rattle.scope.specs.Trap.{exitValues}
+use Rattle.scope.specs.OneTrap.{exitValues}
 use Rattle.words_numbers.proofs.exit_values.Statement.{statement}
 use Rattle.words_numbers.proofs.exit_values.Tie as tie
 use borrow.Author.Needs.{needs}

@@ -1,5 +1,5 @@
 -- `words_numbers::fetch_number` meets its contract.
-use Rattle.scope.specs.Trap.{fetchNumber}
+use Rattle.scope.specs.OneTrap.{fetchNumber}
 use Rattle.words_numbers.proofs.fetch_number.Statement.{statement}
 use Rattle.words_numbers.proofs.fetch_number.Tie as tie
 use borrow.Author.Needs.{needs}

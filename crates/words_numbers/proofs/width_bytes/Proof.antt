@@ -1,5 +1,5 @@
 -- `words_numbers::width_bytes` meets its contract.
-use Rattle.scope.specs.Trap.{widthBytes}
+use Rattle.scope.specs.OneTrap.{widthBytes}
 use Rattle.words_numbers.proofs.width_bytes.Statement.{statement}
 use Rattle.words_numbers.proofs.width_bytes.Tie as tie
 use borrow.Author.Needs.{needs}

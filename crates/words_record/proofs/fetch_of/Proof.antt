@@ -1,9 +1,9 @@
 -- `words_record::fetch_of` meets its contract.
 use borrow.Author.Tests.{ne-eqb}
-use Rattle.scope.specs.Words.{fetchOf}
+use Rattle.scope.specs.OneTrap.{fetchOf}
+use borrow.Author.Needs.{needs}
 use Rattle.words_record.proofs.fetch_of.Statement.{statement}
 use Rattle.words_record.proofs.fetch_of.Tie as tie
-use borrow.Author.Needs.{needs}
 
 cast-t5 : tie.Need-cast-t5
 cast-t5 c = search needs

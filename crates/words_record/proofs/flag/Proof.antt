@@ -1,5 +1,5 @@
 -- `words_record::flag` meets its contract.
-use Rattle.scope.specs.Trap.{flagOf}
+use Rattle.scope.specs.OneTrap.{flagOf}
 use Rattle.words_record.proofs.flag.Statement.{statement}
 use Rattle.words_record.proofs.flag.Tie as tie
 

@@ -1,9 +1,9 @@
 -- `words_record::waiting_by` meets its contract.
 use borrow.Author.Tests.{ne-eqb}
 use Rattle.scope.specs.Words.{waitingBy}
+use borrow.Author.Needs.{needs}
 use Rattle.words_record.proofs.waiting_by.Statement.{statement}
 use Rattle.words_record.proofs.waiting_by.Tie as tie
-use borrow.Author.Needs.{needs}
 
 width-of-requires : tie.Need-width-of-requires
 width-of-requires c κs = search needs

@@ -1,8 +1,8 @@
 -- `words_record::waiting_words` meets its contract.
 use Rattle.scope.specs.Words.{waitingWords}
+use borrow.Author.Needs.{needs}
 use Rattle.words_record.proofs.waiting_words.Statement.{statement}
 use Rattle.words_record.proofs.waiting_words.Tie as tie
-use borrow.Author.Needs.{needs}
 
 enum-told : tie.Need-enum-told
 enum-told c = search needs
@@ -25,32 +25,11 @@ enum-known-w-2 c = search needs
 access-number-requires : tie.Need-access-number-requires
 access-number-requires c κs = search needs
 
-enum-told-3 : tie.Need-enum-told-3
-enum-told-3 c = search needs
-
 enum-known-w-3 : tie.Need-enum-known-w-3
 enum-known-w-3 c = search needs
 
-enum-known-w-4 : tie.Need-enum-known-w-4
-enum-known-w-4 c = search needs
-
-enum-known-w-5 : tie.Need-enum-known-w-5
-enum-known-w-5 c = search needs
-
-enum-known-w-6 : tie.Need-enum-known-w-6
-enum-known-w-6 c = search needs
-
-enum-told-4 : tie.Need-enum-told-4
-enum-told-4 c = search needs
-
-enum-told-5 : tie.Need-enum-told-5
-enum-told-5 c = search needs
-
-enum-told-6 : tie.Need-enum-told-6
-enum-told-6 c = search needs
-
-enum-told-7 : tie.Need-enum-told-7
-enum-told-7 c = search needs
+asked-words-requires : tie.Need-asked-words-requires
+asked-words-requires c κs = search needs
 
 returns : tie.Need-returns
 unfolding waitingWords
@@ -70,39 +49,7 @@ returns-4 c = simp (c .access-number .ensures, c .before .before .w2 .given .1)
 
 returns-5 : tie.Need-returns-5
 unfolding waitingWords
-returns-5 c = simp (c .enum-told3 .given .1)
-
-returns-6 : tie.Need-returns-6
-unfolding waitingWords
-returns-6 c = simp (c .before .w3 .given .1)
-
-returns-7 : tie.Need-returns-7
-unfolding waitingWords
-returns-7 c = simp (c .before .w4 .given .1)
-
-returns-8 : tie.Need-returns-8
-unfolding waitingWords
-returns-8 c = simp (c .before .w5 .given .1)
-
-returns-9 : tie.Need-returns-9
-unfolding waitingWords
-returns-9 c = simp (c .before .w6 .given .1)
-
-returns-10 : tie.Need-returns-10
-unfolding waitingWords
-returns-10 c = simp (c .enum-told4 .given .1)
-
-returns-11 : tie.Need-returns-11
-unfolding waitingWords
-returns-11 c = simp (c .enum-told5 .given .1)
-
-returns-12 : tie.Need-returns-12
-unfolding waitingWords
-returns-12 c = simp (c .enum-told6 .given .1)
-
-returns-13 : tie.Need-returns-13
-unfolding waitingWords
-returns-13 c = simp (c .enum-told7 .given .1)
+returns-5 c = simp (c .asked-words .ensures, c .before .before .w3 .given .1)
 
 pub waiting-words-spec : {M : Type 1} → statement M
 waiting-words-spec =
@@ -115,25 +62,10 @@ waiting-words-spec =
     enum-told-2
     enum-known-w-2
     access-number-requires
-    enum-told-3
     enum-known-w-3
-    enum-known-w-4
-    enum-known-w-5
-    enum-known-w-6
-    enum-told-4
-    enum-told-5
-    enum-told-6
-    enum-told-7
+    asked-words-requires
     returns
     returns-2
     returns-3
     returns-4
-    returns-5
-    returns-6
-    returns-7
-    returns-8
-    returns-9
-    returns-10
-    returns-11
-    returns-12
-    returns-13)
+    returns-5)
