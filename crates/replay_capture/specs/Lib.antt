@@ -1,4 +1,3 @@
-pub mod Replay
 pub mod Feeds
 pub mod Laws
 pub mod Pieces

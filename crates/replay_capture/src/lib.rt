@@ -1,35 +1,37 @@
 // A capture replayed: its bytes are fed to a state in pieces, and what they give is written to a buffer
-// (01, Replay program). Its meaning is one definition, replayOf in specs/Replay.antt, from all bytes to all output.
+// (01, Replay program). Its meaning is one definition, replayOf in replay_scope's specs/Output.antt, from all bytes to
+// all output; the record lies in 58 lent words.
 ghost use mathlib.Core.Path.{_≡_};
 ghost use Prim.Native.Nat.{_+_, _≤_};
 ghost use lib.ListN.{length};
 ghost use Rattle.replay_output.specs.Put.{Put};
-ghost use Rattle.replay_capture.specs.Replay.{textOf};
+ghost use Rattle.replay_scope.specs.Output.{textOf};
+ghost use Rattle.replay_steps.specs.InPlace.{stateIn, stepIn};
 ghost use Rattle.replay_capture.specs.Feeds.{Feeds, Fills};
-use replay_steps::Gives;
-use replay_steps::State;
-use replay_steps::Step;
+use replay_scope::Gives;
+use replay_scope::Progress;
+use replay_steps::Turn;
 
 // A step over the first bytes of a slice, and where the bytes after them begin.
 pub struct Fed {
-    pub step: Step,
+    pub turn: Turn,
     pub next: usize,
 }
 
-// The later state after the first bytes of a slice, where the bytes after them begin, and how much of the buffer is
+// The later progress after the first bytes of a slice, where the bytes after them begin, and how much of the buffer is
 // output.
 pub struct Filled {
-    pub state: State,
+    pub progress: Progress,
     pub next: usize,
     pub end: usize,
 }
 
 // Feeds bytes, and writes what they give to the buffer, until the bytes are over or the buffer has no room for another
 // trap. A buffer of 84 bytes or more takes some of them.
-pub fn fill(s: State, bytes: &[u8], out: &mut [u8]) -> Filled
-    ensures { λ r. ⌜ Fills s (now (bytes .entry)) (length (now (out .entry))) (now (out .exit)) r ⌝ }
+pub fn fill(p: Progress, r: &mut [u64; 58], bytes: &[u8], out: &mut [u8]) -> Filled
+    ensures { λ f. ⌜ Fills (stateIn (now (r .entry)) p) (now (bytes .entry)) (length (now (out .entry))) (now (out .exit)) (stateIn (now (r .exit)) (f .progress)) (f .next) (f .end) ⌝ }
 {
-    let mut t = s;
+    let mut q = p;
     let mut i: usize = 0;
     let mut e: usize = 0;
     while i < bytes.len() {
@@ -39,38 +41,42 @@ pub fn fill(s: State, bytes: &[u8], out: &mut [u8]) -> Filled
         if out.len() - 84 < e {
             break;
         }
-        let f = feed(t, &bytes[i..]);
+        let f = feed(q, r, &bytes[i..]);
         i += f.next;
-        let step = f.step;
-        let g = step.gives;
+        let turn = f.turn;
+        let g = turn.gives;
         e = put(g, out, e);
-        t = step.state;
+        q = turn.progress;
     }
     Filled {
-        state: t,
+        progress: q,
         next: i,
         end: e,
     }
 }
 
 // Feeds bytes to the end of a line or of the bytes.
-pub fn feed(s: State, bytes: &[u8]) -> Fed
-    ensures { λ r. ⌜ Feeds s (now (bytes .entry)) r ⌝ }
+fn feed(p: Progress, r: &mut [u64; 58], bytes: &[u8]) -> Fed
+    ensures { λ f. ⌜ Feeds (stateIn (now (r .entry)) p) (now (bytes .entry)) (stepIn (now (r .exit)) (f .turn)) (f .next) ⌝ }
 {
-    if s.over {
-        let step = Step {
-            state: s,
+    if p.over {
+        let turn = Turn {
+            progress: p,
             gives: Gives::Nothing,
         };
         return Fed {
-            step,
+            turn,
             next: bytes.len(),
         };
     }
-    let p = replay_lines::read(s.key, s.at, s.value, bytes);
-    let g = p.got;
-    let step = replay_order::gave(s, g);
-    Fed { step, next: p.next }
+    let line = p.line;
+    let part = replay_lines::read(line, bytes);
+    let g = part.got;
+    let turn = replay_order::take(p, r, g);
+    Fed {
+        turn,
+        next: part.next,
+    }
 }
 
 // Writes what was given at the buffer's start, and says where it ends: a trap's four lines are 84 bytes.
@@ -93,6 +99,6 @@ fn put(g: Gives, out: &mut [u8], at: usize) -> usize
             let r = replay_output::put(b"a0=", a0, out, q);
             replay_output::put(b"a1=", a1, out, r)
         }
-        Gives::Bad { line } => replay_output::put(b"bad=", line, out, at),
+        Gives::Bad { number } => replay_output::put(b"bad=", number, out, at),
     }
 }

@@ -6,11 +6,11 @@ use mathlib.Core.List.{List, [], _∷_, _++_}
 use mathlib.Core.Path.{_≡_, refl, sym, ap, _∙_, subst}
 use lib.ListN.{drop, drop-of-length-le, getD, length, take}
 use lib.Seq.{drop-cons}
-use Rattle.replay_lines.specs.declared.Got.{Got}
-use Rattle.replay_lines.specs.declared.Got.the-variants as got
+use Rattle.replay_scope.specs.declared.Got.{Got}
+use Rattle.replay_scope.specs.declared.Got.the-variants as got
+use Rattle.replay_scope.specs.Lines.{fourAt, lineOf}
 use Rattle.replay_lines.specs.declared.Part.{Part}
-use Rattle.replay_lines.specs.Keys.{fourAt}
-use Rattle.replay_lines.specs.Lines.{Read, Taken, after, lineOf, takenOf}
+use Rattle.replay_lines.specs.Read.{Read, Taken, after, takenOf}
 
 -- one byte of the slice
 pub taken-next : (key s : List ℕ) (a w i : ℕ) (g : Got) → i < length s → lineOf key a w (getD s i 0) ≡ g

@@ -1,4 +1,3 @@
-pub mod Keys
-pub mod Lines
+pub mod Read
 pub mod Laws
 pub mod Whole

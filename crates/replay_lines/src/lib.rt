@@ -1,19 +1,15 @@
 // The lines of a capture, read: a key, sixteen lowercase hex digits, LF (01, Replay program). Keys are read here and
-// nowhere else; crate digits reads the digits, crate put writes lines.
+// nowhere else. A line that lies whole in the slice is read at once, its digits by crate replay_digits; byte by byte
+// only one that the slice's end cuts, that began in the slice before, or that has a byte that does not fit.
 ghost use mathlib.Core.Path.{_≡_};
+ghost use Prim.Native.Nat.{_+_, _≤_};
 ghost use lib.ListN.{length};
-ghost use Rattle.replay_lines.specs.Keys.{fourAt, keyOf};
-ghost use Rattle.replay_lines.specs.Lines.{atEndOf, inDigitsOf, inKeyOf, lineOf, Read};
-
-// What is known of a line after some of its bytes.
-pub enum Got {
-    // So many bytes fit, and the digits among them make this number.
-    More(usize, u64),
-    // The line is whole.
-    Whole(u64),
-    // A byte does not fit.
-    Unfit,
-}
+ghost use Rattle.replay_scope.specs.Lines.{fourAt, headerKey, keyOf, lineOf};
+ghost use Rattle.replay_lines.specs.Read.{Read, begins as beginsWith};
+use replay_digits::Digits;
+use replay_scope::Got;
+use replay_scope::Line;
+use replay_scope::Place;
 
 // What was read of a line, and where the bytes after it begin.
 pub struct Part {
@@ -21,23 +17,34 @@ pub struct Part {
     pub next: usize,
 }
 
-// Reads on in line k of a capture, of which `at` bytes gave the number v: to the line's end, to a byte that does not
-// fit, or to the end of the bytes.
-pub fn read(k: usize, at: usize, v: u64, s: &[u8]) -> Part
-    ensures { λ r. ⌜ Read (keyOf k) at v (now (s .entry)) r ⌝ }
+// Reads on in a line of a capture: to its end, to a byte that does not fit, or to the end of the bytes.
+pub fn read(line: Line, s: &[u8]) -> Part
+    ensures { λ r. ⌜ Read (keyOf (line .place)) (line .at) (line .value) (now (s .entry)) r ⌝ }
 {
-    match k {
-        0 => scan(b"sepc=", at, v, s),
-        1 => scan(b"vstimecmp=", at, v, s),
-        33 => scan(b"scause=", at, v, s),
-        34 => scan(b"stval=", at, v, s),
-        35 => scan(b"htval=", at, v, s),
-        36 => scan(b"htinst=", at, v, s),
-        37 => scan(b"word=", at, v, s),
-        38 => scan(b"more=", at, v, s),
+    let place = line.place;
+    let at = line.at;
+    let v = line.value;
+    match place {
+        Place::Header(i) => read_header(i, at, v, s),
+        Place::Scause => read_by(b"scause=", at, v, s),
+        Place::Stval => read_by(b"stval=", at, v, s),
+        Place::Htval => read_by(b"htval=", at, v, s),
+        Place::Htinst => read_by(b"htinst=", at, v, s),
+        Place::Word => read_by(b"word=", at, v, s),
+        Place::More => read_by(b"more=", at, v, s),
+    }
+}
+
+// The same for line i of the header.
+fn read_header(i: usize, at: usize, v: u64, s: &[u8]) -> Part
+    ensures { λ r. ⌜ Read (headerKey i) at v (now (s .entry)) r ⌝ }
+{
+    match i {
+        0 => read_by(b"sepc=", at, v, s),
+        1 => read_by(b"vstimecmp=", at, v, s),
         _ => read_register(
             b"x01=x02=x03=x04=x05=x06=x07=x08=x09=x10=x11=x12=x13=x14=x15=x16=x17=x18=x19=x20=x21=x22=x23=x24=x25=x26=x27=x28=x29=x30=x31=",
-            k - 2,
+            i - 2,
             at,
             v,
             s,
@@ -53,9 +60,47 @@ fn read_register(keys: &[u8], i: usize, at: usize, v: u64, s: &[u8]) -> Part
     if i < 31 {
         let a = i * 4;
         let e = a + 4;
-        return scan(&keys[a..e], at, v, s);
+        return read_by(&keys[a..e], at, v, s);
     }
-    scan(&keys[..0], at, v, s)
+    read_by(&keys[..0], at, v, s)
+}
+
+// The same by the key: at once where none of the line was read before and all of it lies in the slice.
+fn read_by(key: &[u8], at: usize, v: u64, s: &[u8]) -> Part
+    ensures { λ r. ⌜ Read (now (key .entry)) at v (now (s .entry)) r ⌝ }
+{
+    let n = key.len();
+    if at == 0 && v == 0 && n <= s.len() && 17 <= s.len() - n && begins(key, s) {
+        let e = n + 16;
+        if s[e] == 10 {
+            let d = replay_digits::read(s, n);
+            match d {
+                Digits::Number(w) => {
+                    return Part {
+                        got: Got::Whole(w),
+                        next: n + 17,
+                    };
+                }
+                Digits::Bad => {}
+            }
+        }
+    }
+    scan(key, at, v, s)
+}
+
+// Whether the bytes begin with the key.
+fn begins(key: &[u8], s: &[u8]) -> bool
+    requires { ⌜ length (now key) ≤ length (now s) ⌝ }
+    ensures { λ r. ⌜ r ≡ beginsWith (now (key .entry)) (now (s .entry)) ⌝ }
+{
+    let mut i: usize = 0;
+    while i < key.len() {
+        if s[i] != key[i] {
+            return false;
+        }
+        i += 1;
+    }
+    true
 }
 
 // Byte by byte.
@@ -98,38 +143,18 @@ fn line(key: &[u8], at: usize, v: u64, b: u8) -> Got
     ensures { λ r. ⌜ r ≡ lineOf (now (key .entry)) at v b ⌝ }
 {
     if at < key.len() {
-        return in_key(at + 1, v, b, key[at]);
+        if b == key[at] {
+            return Got::More(at + 1, v);
+        }
+        return Got::Unfit;
     }
     if at - key.len() < 16 {
-        return in_digits(at + 1, v, replay_digits::nibble(b));
+        let d = replay_digits::nibble(b);
+        if d < 16 {
+            return Got::More(at + 1, replay_digits::push(v, d));
+        }
+        return Got::Unfit;
     }
-    at_end(v, b)
-}
-
-// A byte where the key has x.
-fn in_key(next: usize, v: u64, b: u8, x: u8) -> Got
-    ensures { λ r. ⌜ r ≡ inKeyOf next v b x ⌝ }
-{
-    if b == x {
-        return Got::More(next, v);
-    }
-    Got::Unfit
-}
-
-// A byte that is the digit d; 16 is none.
-fn in_digits(next: usize, v: u64, d: u64) -> Got
-    ensures { λ r. ⌜ r ≡ inDigitsOf next v d ⌝ }
-{
-    if d < 16 {
-        return Got::More(next, replay_digits::push(v, d));
-    }
-    Got::Unfit
-}
-
-// The byte after the digits.
-fn at_end(v: u64, b: u8) -> Got
-    ensures { λ r. ⌜ r ≡ atEndOf v b ⌝ }
-{
     if b == 10 {
         return Got::Whole(v);
     }

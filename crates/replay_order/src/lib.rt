@@ -1,143 +1,186 @@
-// The order of a capture's lines, and what each does (01, Replay program): a state between two bytes takes what was
-// read of its line.
+// The order of a capture's lines, and what each does (01, Replay program): a state between two bytes, whose record lies in
+// 58 lent words, takes what was read of its line.
 ghost use mathlib.Core.Path.{_≡_};
-ghost use Rattle.replay_order.specs.Order.{begun, endOf, gaveOf, headedOf, headerOf, tookOf};
+ghost use Rattle.in_place_record.specs.View.{viewOf};
+ghost use Rattle.replay_scope.specs.Output.{afterHeader, begun, endGives, followedBy, gotOf, headedOf, keeping, lineDoes, mayEnd, readTo};
+ghost use Rattle.replay_steps.specs.InPlace.{stateIn, stepIn};
 use isa_types::GuestPhysAddr;
-use replay_lines::Got;
-use replay_steps::Gives;
-use replay_steps::State;
-use replay_steps::Step;
-use scope::Vcpu;
+use replay_scope::Gives;
+use replay_scope::Got;
+use replay_scope::Kept;
+use replay_scope::Line;
+use replay_scope::Place;
+use replay_scope::Progress;
+use replay_steps::Turn;
 
 // Before the first byte: a zero record after setup.
-pub fn begin() -> State
-    ensures { λ r. ⌜ r ≡ begun ⌝ }
+pub fn begin(r: &mut [u64; 58]) -> Progress
+    ensures { λ p. ⌜ stateIn (now (r .exit)) p ≡ begun ⌝ }
 {
-    let o = by_value_setup::setup(by_value_setup::new(0, 0));
-    let v = o.vcpu;
-    State {
-        vcpu: v,
-        key: 0,
+    in_place_host_calls::new(r, 0, 0);
+    in_place_host_calls::setup(r);
+    let line = Line {
+        place: Place::Header(0),
         at: 0,
         value: 0,
-        line: 1,
+    };
+    let kept = Kept {
         scause: 0,
         stval: 0,
         htval: 0,
         word: 0,
+    };
+    Progress {
+        line,
+        number: 1,
+        kept,
         exit: 0,
         over: false,
     }
 }
 
 // What a reading of the line gave.
-pub fn gave(s: State, g: Got) -> Step
-    ensures { λ r. ⌜ r ≡ gaveOf s g ⌝ }
+pub fn take(p: Progress, r: &mut [u64; 58], g: Got) -> Turn
+    ensures { λ t. ⌜ stepIn (now (r .exit)) t ≡ gotOf (stateIn (now (r .entry)) p) g ⌝ }
 {
     match g {
-        Got::More(at, value) => {
-            let mut t = s;
-            t.at = at;
-            t.value = value;
-            Step {
-                state: t,
-                gives: Gives::Nothing,
-            }
+        Got::More(at, value) => Turn {
+            progress: go_on(p, at, value),
+            gives: Gives::Nothing,
+        },
+        Got::Whole(n) => {
+            let line = p.line;
+            let place = line.place;
+            do_line(place, p, r, n)
         }
-        Got::Whole(n) => took(s, n),
-        Got::Unfit => replay_steps::bad(s),
+        Got::Unfit => replay_steps::unfit(p, r),
     }
 }
 
-// What the end of the capture gives: nothing where a trap may start, else the missing line.
-pub fn end(s: State) -> Gives
-    ensures { λ r. ⌜ r ≡ endOf s ⌝ }
+// What the end of the capture gives: nothing where a trap may begin, else the missing line.
+pub fn end(p: Progress) -> Gives
+    ensures { λ g. ⌜ g ≡ endGives p ⌝ }
 {
-    if s.over {
+    if p.over {
         return Gives::Nothing;
     }
-    if s.key == 33 {
-        if s.at == 0 {
+    let line = p.line;
+    let place = line.place;
+    if may_end(place) {
+        if line.at == 0 {
             return Gives::Nothing;
         }
-        return Gives::Bad { line: s.line };
+        return Gives::Bad { number: p.number };
     }
-    Gives::Bad { line: s.line }
+    Gives::Bad { number: p.number }
 }
 
-// The line's number is n.
-fn took(s: State, n: u64) -> Step
-    ensures { λ r. ⌜ r ≡ tookOf s n ⌝ }
+// Whether a capture may end before the line at this place.
+fn may_end(place: Place) -> bool
+    ensures { λ b. ⌜ b ≡ mayEnd place ⌝ }
 {
-    let k = s.key;
-    match k {
-        33 => {
-            let mut t = replay_steps::next(s, 34);
-            t.scause = n;
-            Step {
-                state: t,
-                gives: Gives::Nothing,
-            }
-        }
-        34 => {
-            let mut t = replay_steps::next(s, 35);
-            t.stval = n;
-            Step {
-                state: t,
-                gives: Gives::Nothing,
-            }
-        }
-        35 => {
-            let mut t = replay_steps::next(s, 36);
-            t.htval = n;
-            Step {
-                state: t,
-                gives: Gives::Nothing,
-            }
-        }
-        36 => replay_steps::started(s, n),
-        37 => {
-            let mut t = replay_steps::next(s, 38);
-            t.word = n;
-            Step {
-                state: t,
-                gives: Gives::Nothing,
-            }
-        }
-        38 => replay_steps::more(s, n),
-        _ => header(s, n),
+    match place {
+        Place::Header(_) => false,
+        Place::Scause => true,
+        Place::Stval => false,
+        Place::Htval => false,
+        Place::Htinst => false,
+        Place::Word => false,
+        Place::More => false,
     }
 }
 
-// A header line's number goes into the record.
-fn header(s: State, n: u64) -> Step
-    ensures { λ r. ⌜ r ≡ headerOf s n ⌝ }
+// More is read of the same line.
+fn go_on(p: Progress, at: usize, value: u64) -> Progress
+    ensures { λ q. ⌜ q ≡ readTo p at value ⌝ }
 {
-    let v = s.vcpu;
-    let k = s.key;
-    let w = headed(v, k, n);
-    let mut t = replay_steps::next(s, std::num::wrapping_add_usize(k, 1));
-    t.vcpu = w;
-    Step {
-        state: t,
+    let old = p.line;
+    let place = old.place;
+    let kept = p.kept;
+    let line = Line { place, at, value };
+    Progress {
+        line,
+        number: p.number,
+        kept,
+        exit: p.exit,
+        over: p.over,
+    }
+}
+
+// The number n of the line at each place.
+fn do_line(place: Place, p: Progress, r: &mut [u64; 58], n: u64) -> Turn
+    ensures { λ t. ⌜ stepIn (now (r .exit)) t ≡ lineDoes place (stateIn (now (r .entry)) p) n ⌝ }
+{
+    let mut kept = p.kept;
+    match place {
+        Place::Header(i) => {
+            head(r, i, n);
+            Turn {
+                progress: replay_steps::follow(p, after_header(i)),
+                gives: Gives::Nothing,
+            }
+        }
+        Place::Scause => {
+            kept.scause = n;
+            keep(p, kept, Place::Stval)
+        }
+        Place::Stval => {
+            kept.stval = n;
+            keep(p, kept, Place::Htval)
+        }
+        Place::Htval => {
+            kept.htval = n;
+            keep(p, kept, Place::Htinst)
+        }
+        Place::Htinst => replay_steps::start(p, r, n),
+        Place::Word => {
+            kept.word = n;
+            keep(p, kept, Place::More)
+        }
+        Place::More => replay_steps::pair(p, r, n),
+    }
+}
+
+// These numbers are kept, and the line at the place follows.
+fn keep(p: Progress, kept: Kept, place: Place) -> Turn
+    ensures { λ t. ⌜ (t .progress ≡ followedBy (keeping p kept) place) × (t .gives ≡ Gives.Nothing) ⌝ }
+{
+    let line = p.line;
+    let q = Progress {
+        line,
+        number: p.number,
+        kept,
+        exit: p.exit,
+        over: p.over,
+    };
+    Turn {
+        progress: replay_steps::follow(q, place),
         gives: Gives::Nothing,
     }
 }
 
-// The record with a header line's number: sepc, vstimecmp, or the register of that line.
-fn headed(v: Vcpu, k: usize, n: u64) -> Vcpu
-    ensures { λ r. ⌜ r ≡ headedOf v k n ⌝ }
+// Behind line i of the header: its next line, or behind the last the first trap.
+fn after_header(i: usize) -> Place
+    ensures { λ k. ⌜ k ≡ afterHeader i ⌝ }
 {
-    if k == 0 {
-        let o = by_value_setup::set_entry(v, GuestPhysAddr(n));
-        return o.vcpu;
+    if i < 32 {
+        return Place::Header(i + 1);
     }
-    if k == 1 {
-        let c = decide_record::with_timer(v.csrs, n);
-        let mut w = v;
-        w.csrs = c;
-        return w;
+    Place::Scause
+}
+
+// The record with a header line's number: sepc, vstimecmp, or the register of that line.
+fn head(r: &mut [u64; 58], i: usize, n: u64)
+    ensures { λ _. ⌜ viewOf (now (r .exit)) ≡ headedOf (viewOf (now (r .entry))) i n ⌝ }
+{
+    in_place_record::sized(r);
+    if i == 0 {
+        in_place_host_calls::set_entry(r, GuestPhysAddr(n));
+        return;
     }
-    let o = by_value_gprs::set_gpr(v, k - 1, n);
-    o.vcpu
+    if i == 1 {
+        r[in_place_record::VSTIMECMP] = n;
+        return;
+    }
+    in_place_host_calls::set_gpr(r, i - 1, n);
 }

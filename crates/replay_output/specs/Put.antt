@@ -1,13 +1,9 @@
--- A line's text, and a text written at a place of a buffer. 01, Replay program.
+-- What writing promises: a text at a place of a buffer, and nothing else changed. 01, Replay program.
 use Prim.Native.Nat.{ℕ, _+_, _≤_, _<_}
-use mathlib.Core.List.{List, [], _∷_, _++_}
+use mathlib.Core.List.{List, _++_}
 use mathlib.Core.Path.{_≡_}
 use lib.ListN.{drop, length, take}
-use Rattle.replay_digits.specs.Hex.{sixteen}
-
--- the text of a line
-unfoldable pub lineText : List ℕ → ℕ → List ℕ
-lineText key v = key ++ (sixteen v ++ (10 ∷ []))
+use Rattle.replay_scope.specs.Lines.{lineText}
 
 -- the buffer with the text at a place; its other bytes stay
 unfoldable pub putAt : List ℕ → ℕ → List ℕ → List ℕ

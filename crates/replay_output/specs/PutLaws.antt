@@ -7,8 +7,8 @@ use mathlib.Core.List.{List, [], _∷_, _++_, append-assoc}
 use mathlib.Core.Path.{_≡_, refl, sym, ap, _∙_, subst}
 use lib.ListN.{drop, getD, length, length-append, length-drop, length-set, set, take, take-append-drop}
 use lib.Seq.{append-snoc, drop-at, drop-cons, drop-drop, drop-set-lt, getD-set-same, length-take-le, lt-length-set, set-split, take-all, take-at, take-suc}
-use Rattle.replay_digits.specs.Hex.{glyph, lastDigits, sixteen}
-use Rattle.replay_output.specs.Put.{Put, PutLine, lineText, putAt}
+use Rattle.replay_scope.specs.Lines.{glyph, lastDigits, lineText, sixteen}
+use Rattle.replay_output.specs.Put.{Put, PutLine, putAt}
 
 module _ (out : List ℕ) (at : ℕ) (t : List ℕ) (fits : at + length t ≤ length out) where
   -- the bytes up to the text's end

@@ -2,8 +2,8 @@
 ghost use mathlib.Core.Path.{_≡_};
 ghost use Prim.Native.Nat.{_+_, _≤_, _<_};
 ghost use lib.ListN.{length};
-ghost use Rattle.replay_digits.specs.Hex.{glyph as glyphOf, sixteen};
-ghost use Rattle.replay_output.specs.Put.{Put, PutLine, lineText, putAt};
+ghost use Rattle.replay_scope.specs.Lines.{glyph as glyphOf, lineText, sixteen};
+ghost use Rattle.replay_output.specs.Put.{Put, PutLine, putAt};
 
 // Writes a line's text at a place of the buffer, and says where it ends. The other bytes stay. Where the line has no
 // room nothing is written, and the place itself is given.

@@ -1,3 +1,2 @@
-pub mod Pairs
-pub mod Steps
+pub mod InPlace
 pub mod Laws

@@ -1,224 +1,157 @@
-// What a trap's last line, an answer and an unfit line of a capture do to the replay (01, Replay program): the vCPU is
-// called, and the output gets a trap's four lines or the number of the unfit one.
+// What a trap's last line, an answer and an unfit line of a capture do to the replay (01, Replay program): the record is
+// changed where it lies, as 58 lent words, and the output gets a trap's four lines or the number of the unfit one.
 ghost use mathlib.Core.Path.{_≡_};
-ghost use Prim.Native.Nat.{_+_, _≤_};
-ghost use Rattle.replay_steps.specs.Pairs.{answerFor, fetchFor};
-ghost use Rattle.replay_steps.specs.Steps.{badOf, codeOf, moreOf, nextOf, pairedOf, settledOf, startedOf, trappedOf};
-use isa_types::GuestPhysAddr;
-use isa_types::GuestVirtAddr;
-use scope::Answer;
-use scope::Fetch;
-use scope::Outcome;
-use scope::Reply;
+ghost use Rattle.scope.specs.declared.machine.Outcome.{Outcome};
+ghost use Rattle.scope.specs.Record.{isIdle, waitingAsk};
+ghost use Rattle.in_place_record.specs.View.{replyWord, viewOf};
+ghost use Rattle.replay_scope.specs.Output.{followedBy, overAt, pairTaken, saying, settledBy, settledOf, trapStarted, unfitOf};
+ghost use Rattle.replay_steps.specs.InPlace.{stateIn, stepIn};
+ghost use Rattle.replay_steps.specs.Laws.{exitBy};
+use in_place_answer::AnswerWords;
+use replay_scope::Gives;
+use replay_scope::Kept;
+use replay_scope::Line;
+use replay_scope::Place;
+use replay_scope::Progress;
 use scope::Trap;
-use scope::Vcpu;
 
-// The replay between two bytes of its capture.
-pub struct State {
-    pub vcpu: Vcpu,
-    // The line that is being read: 0 to 32 of the header, 33 to 36 of a trap, 37 and 38 of an answer.
-    pub key: usize,
-    // How many of its bytes were read, and the number that its digits make so far.
-    pub at: usize,
-    pub value: u64,
-    // Its number, from 1.
-    pub line: u64,
-    // The numbers of earlier lines that a later one needs.
-    pub scause: u64,
-    pub stval: u64,
-    pub htval: u64,
-    pub word: u64,
-    // What the trap's `exit` line will say.
-    pub exit: u64,
-    // Whether a bad line was found.
-    pub over: bool,
-}
-
-// What the output gets.
-pub enum Gives {
-    Nothing,
-    Trap {
-        exit: u64,
-        sepc: u64,
-        a0: u64,
-        a1: u64,
-    },
-    Bad {
-        line: u64,
-    },
-}
-
-// The later state, and what the output gets.
-pub struct Step {
-    pub state: State,
+// The replay after a step but for its record, and what the output gets.
+pub struct Turn {
+    pub progress: Progress,
     pub gives: Gives,
 }
 
-// The next line is that of the key.
-pub fn next(s: State, key: usize) -> State
-    ensures { λ r. ⌜ r ≡ nextOf s key ⌝ }
+// The line at a place follows.
+pub fn follow(p: Progress, place: Place) -> Progress
+    ensures { λ r. ⌜ r ≡ followedBy p place ⌝ }
 {
-    let line = std::num::wrapping_add_u64(s.line, 1);
-    let mut t = s;
-    t.key = key;
-    t.at = 0;
-    t.value = 0;
-    t.line = line;
-    t
+    let kept = p.kept;
+    let line = Line {
+        place,
+        at: 0,
+        value: 0,
+    };
+    Progress {
+        line,
+        number: std::num::wrapping_add_u64(p.number, 1),
+        kept,
+        exit: p.exit,
+        over: p.over,
+    }
 }
 
 // The line is unfit.
-pub fn bad(s: State) -> Step
-    ensures { λ r. ⌜ r ≡ badOf s ⌝ }
+pub fn unfit(p: Progress, r: &[u64; 58]) -> Turn
+    ensures { λ t. ⌜ stepIn (now (r .entry)) t ≡ unfitOf (stateIn (now (r .entry)) p) ⌝ }
 {
-    let line = s.line;
-    let mut t = s;
-    t.at = 0;
-    t.value = 0;
-    t.over = true;
-    Step {
-        state: t,
-        gives: Gives::Bad { line },
+    let line = p.line;
+    let place = line.place;
+    let kept = p.kept;
+    let unread = Line {
+        place,
+        at: 0,
+        value: 0,
+    };
+    let q = Progress {
+        line: unread,
+        number: p.number,
+        kept,
+        exit: p.exit,
+        over: true,
+    };
+    Turn {
+        progress: q,
+        gives: Gives::Bad { number: p.number },
     }
 }
 
 // The trap's last number starts it.
-pub fn started(s: State, htinst: u64) -> Step
-    ensures { λ r. ⌜ r ≡ startedOf s htinst ⌝ }
+pub fn start(p: Progress, r: &mut [u64; 58], htinst: u64) -> Turn
+    ensures { λ t. ⌜ stepIn (now (r .exit)) t ≡ trapStarted (stateIn (now (r .entry)) p) htinst ⌝ }
 {
-    let v = s.vcpu;
+    let kept = p.kept;
     let t = Trap {
-        scause: s.scause,
-        stval: s.stval,
-        htval: s.htval,
+        scause: kept.scause,
+        stval: kept.stval,
+        htval: kept.htval,
         htinst,
         room: 4096,
     };
-    settled(s, by_value_vcpu::start(v, t))
+    let mut out = [0u64; 8];
+    let word = in_place_start::start(r, &mut out, t);
+    settle(p, r, word)
 }
 
 // An answer's or load completion's second number.
-pub fn more(s: State, n: u64) -> Step
-    ensures { λ r. ⌜ r ≡ moreOf s n ⌝ }
+pub fn pair(p: Progress, r: &mut [u64; 58], more: u64) -> Turn
+    ensures { λ t. ⌜ stepIn (now (r .exit)) t ≡ pairTaken (stateIn (now (r .entry)) p) more ⌝ }
 {
-    let v = s.vcpu;
-    let w = v.waiting;
-    paired(s, n, decide_record::ask_of(w))
-}
-
-// The same, by the number of the ask that waits; 0 is a load.
-fn paired(s: State, n: u64, ask: u64) -> Step
-    ensures { λ r. ⌜ r ≡ pairedOf s n ask ⌝ }
-{
-    let v = s.vcpu;
+    let kept = p.kept;
+    let word = kept.word;
+    let ask = decide_record::ask_of(in_place_read::waiting(r));
     if ask == 0 {
-        return settled(s, by_value_vcpu::complete_load(v, s.word));
+        let w = in_place_answer::complete_load(r, word);
+        return settle(p, r, w);
     }
     if ask == 1 {
-        if 5 < n {
-            return bad(s);
+        if 5 < more {
+            return unfit(p, r);
         }
-        return settled(s, by_value_vcpu::answer(v, answer(ask, s.word, n)));
+        let mut out = [0u64; 8];
+        let w = in_place_answer::answer(r, &mut out, AnswerWords { ask, word, more });
+        return settle(p, r, w);
     }
-    settled(s, by_value_vcpu::answer(v, answer(ask, s.word, n)))
+    let mut out = [0u64; 8];
+    let w = in_place_answer::answer(r, &mut out, AnswerWords { ask, word, more });
+    settle(p, r, w)
 }
 
-// The answer that a pair is, by the number of the ask that waits.
-fn answer(ask: u64, word: u64, more: u64) -> Answer
-    ensures { λ r. ⌜ r ≡ answerFor ask word more ⌝ }
+// After a call on the record, by the word that it returned.
+fn settle(p: Progress, r: &[u64; 58], word: u64) -> Turn
+    ensures { λ t. ⌜ ((o : Outcome) → viewOf (now (r .entry)) ≡ o .vcpu → word ≡ replyWord (o .reply) → stepIn (now (r .entry)) t ≡ settledOf p o) ⌝ }
 {
-    match ask {
-        1 => Answer::Fetched(fetched(word, more)),
-        2 => Answer::MaskCopied {
-            count: word,
-            bytes: more,
-        },
-        3 => Answer::CopiedIn { count: word },
-        4 => Answer::Printed {
-            error: word,
-            value: more,
-        },
-        5 => Answer::ConsoleRead {
-            error: word,
-            value: more,
-        },
-        6 => Answer::CopiedOut { count: word },
-        7 => Answer::Emitted,
-        8 => Answer::Char { number: word },
-        _ => Answer::Forwarded {
-            error: word,
-            value: more,
-        },
-    }
+    settled(
+        p,
+        r,
+        said(p.exit, word),
+        decide_record::is_idle(in_place_read::waiting(r)),
+    )
 }
 
-// What a fetch gave: the word's low 32 bits, or a fault.
-fn fetched(word: u64, more: u64) -> Fetch
-    ensures { λ r. ⌜ r ≡ fetchFor word more ⌝ }
+// The same: where nothing waits the trap is over, otherwise `word` follows.
+fn settled(p: Progress, r: &[u64; 58], exit: u64, idle: bool) -> Turn
+    ensures { λ t. ⌜ (idle ≡ isIdle (viewOf (now (r .entry)) .waiting) → stepIn (now (r .entry)) t ≡ settledBy (viewOf (now (r .entry))) (saying p exit)) ⌝ }
 {
-    match more {
-        0 => Fetch::Word((word % 0x100000000) as u32),
-        1 => Fetch::Page(GuestVirtAddr(word)),
-        2 => Fetch::Access(GuestVirtAddr(word)),
-        3 => Fetch::Misaligned(GuestVirtAddr(word)),
-        4 => Fetch::GuestPage(GuestPhysAddr(word)),
-        _ => Fetch::Unhandled,
-    }
-}
-
-// After a call on the vCPU.
-fn settled(s: State, o: Outcome) -> Step
-    ensures { λ r. ⌜ r ≡ settledOf s o ⌝ }
-{
-    let v = o.vcpu;
-    let w = v.waiting;
-    let reply = o.reply;
-    trapped(s, v, code(s.exit, reply), decide_record::is_idle(w))
-}
-
-// Where nothing waits the trap is over, otherwise `word` is next.
-fn trapped(s: State, v: Vcpu, exit: u64, idle: bool) -> Step
-    ensures { λ r. ⌜ r ≡ trappedOf s v exit idle ⌝ }
-{
-    let mut t = s;
-    t.vcpu = v;
-    t.exit = exit;
+    in_place_record::sized(r);
+    let mut q = p;
+    q.exit = exit;
     if idle {
-        let sepc = v.csrs.guest.sepc;
-        let x = v.x;
-        return Step {
-            state: next(t, 33),
+        return Turn {
+            progress: follow(q, Place::Scause),
             gives: Gives::Trap {
                 exit,
-                sepc,
-                a0: x[10],
-                a1: x[11],
+                sepc: r[in_place_record::SEPC],
+                a0: r[in_place_record::A0],
+                a1: r[in_place_record::A1],
             },
         };
     }
-    Step {
-        state: next(t, 37),
+    Turn {
+        progress: follow(q, Place::Word),
         gives: Gives::Nothing,
     }
 }
 
-// What the `exit` line says after a reply.
-fn code(before: u64, r: Reply) -> u64
-    ensures { λ n. ⌜ n ≡ codeOf before r ⌝ }
+// What the `exit` line says after a call, by the word that it returned: an exit's number or an error's, else what was to
+// be said.
+fn said(before: u64, word: u64) -> u64
+    ensures { λ n. ⌜ n ≡ exitBy before word ⌝ }
 {
-    match r {
-        Reply::Exit(e) => words_numbers::exit_number(e),
-        Reply::Ask(_) => before,
-        Reply::Done => before,
-        Reply::Value(_) => before,
-        Reply::Error(e) => failed(words_numbers::error_number(e)),
+    if word < 32 {
+        return word;
     }
-}
-
-// Errors are 0x100 plus their number.
-fn failed(number: u64) -> u64
-    requires { ⌜ number ≤ 7 ⌝ }
-    ensures { λ r. ⌜ r ≡ 256 + number ⌝ }
-{
-    256 + number
+    if word < 256 {
+        return before;
+    }
+    word
 }

@@ -2,7 +2,7 @@
 use Prim.Native.Nat.{ℕ}
 use mathlib.Core.List.{List}
 use mathlib.Core.Path.{_≡_}
-use Rattle.replay_capture.specs.Replay.{replayOf}
+use Rattle.replay_scope.specs.Output.{replayOf}
 use Rattle.test_replays.specs.declared.Verdict.{Verdict}
 use Rattle.test_replays.specs.declared.Verdict.the-variants as verdict
 

@@ -80,7 +80,9 @@ fn judge(capture: &[u8], expected: &[u8]) -> Verdict
     ensures { λ r. ⌜ Judged (now (capture .entry)) (now (expected .entry)) r ⌝ }
 {
     let mut out = io::large_buffer();
-    let f = replay_capture::fill(replay_order::begin(), capture, &mut out);
+    let mut record = [0u64; 58];
+    let p = replay_order::begin(&mut record);
+    let f = replay_capture::fill(p, &mut record, capture, &mut out);
     let e = f.end;
     if f.next < capture.len() {
         return Verdict::Differs(e);
@@ -89,9 +91,9 @@ fn judge(capture: &[u8], expected: &[u8]) -> Verdict
     if n < e {
         return Verdict::Differs(n);
     }
-    let s = f.state;
+    let q = f.progress;
     let mut last = [0u8; 84];
-    let k = replay_capture::write(replay_order::end(s), &mut last);
+    let k = replay_capture::write(replay_order::end(q), &mut last);
     let m = agree(&last[..k], &expected[e..]);
     if m < k {
         return Verdict::Differs(std::num::wrapping_add_usize(e, m));

@@ -1,22 +1,16 @@
--- `replay::feed` meets its contract: each turn takes some of the piece.
-use Prim.Native.Nat.{_≤_, _-_}
+-- `replay::feed` meets its contract.
 use borrow.Author.Needs.{needs}
-use native.Mathlib.Omega.{arith}
-use mathlib.Core.Path.{_≡_, sym, _∙_}
-use lib.ListN.{length}
-use lib.Seq.{length-take-le}
 use Rattle.replay_capture.specs.Laws.{filled-high, filled-moves}
+use Prim.Native.Nat.{_-_, _≤_}
+use native.Mathlib.Omega.{arith}
 use Rattle.replay.proofs.feed.Statement.{statement}
 use Rattle.replay.proofs.feed.Tie as tie
 
 abbrev Inv-loop : tie.InvT-loop
-Inv-loop piece out₀ t₀ i₀ out t i = (length out ≡ 65536) × (i ≤ length piece)
+Inv-loop record₀ bytes n out₀ q₀ i₀ «record» out q i = i ≤ n
 
 abbrev μ-loop : tie.MeasureT-loop
-μ-loop piece out₀ t₀ i₀ out t i = length piece - i
-
-large-buffer-requires : tie.Need-large-buffer-requires Inv-loop μ-loop
-large-buffer-requires c κs = search needs
+μ-loop record₀ bytes n out₀ q₀ i₀ «record» out q i = n - i
 
 loop-holds : tie.Need-loop-holds Inv-loop μ-loop
 loop-holds c = search needs
@@ -30,39 +24,23 @@ part-fill-start c = search needs
 part-fill-end : tie.Need-part-fill-end Inv-loop μ-loop
 part-fill-end c = search needs
 
-slice-aggregate-fill : tie.Need-slice-aggregate-fill Inv-loop μ-loop
-slice-aggregate-fill c = search needs
-
 fill-requires : tie.Need-fill-requires Inv-loop μ-loop
 fill-requires c κs = search needs
 
 add-i : tie.Need-add-i Inv-loop μ-loop
-add-i c =
-    omega
-    (arith, c .before .before .before .before .before .before .before .before .before .before .good .1 .0 .0, filled-high _ (c .before .before .before .before .before .before .before .before .before .before .args .piece .now) (c .before .before .before .before .before .before .before .loop .i) _ _ _ (c .before .before .before .before .before .before .before .loop .inv .1) (c .before .before .before .fill .ensures))
-
-array-share-prefix-out : tie.Need-array-share-prefix-out Inv-loop μ-loop
-array-share-prefix-out c = c .before .before .before .fill .ensures .fits
-
-slice-aggregate-say : tie.Need-slice-aggregate-say Inv-loop μ-loop
-slice-aggregate-say c = sym (length-take-le _ _ (c .before .before .before .before .fill .ensures .fits))
+add-i c = omega (arith, filled-high _ (c .before .before .before .before .before .before .before .before .before .args .bytes .now) (c .before .before .before .before .before .before .before .loop .i) (c .before .before .before .before .before .before .before .before .before .args .n) _ _ _ _ _ (c .before .before .before .before .before .before .before .loop .inv) (c .before .before .before .before .before .before .before .before .before .pre) (c .before .before .fill .ensures))
 
 say-requires : tie.Need-say-requires Inv-loop μ-loop
-say-requires c κs = search needs
+say-requires c κs = c .before .before .before .before .fill .ensures .fits
 
 returns : tie.Need-returns Inv-loop μ-loop
 returns c = search needs
 
 loop-less : tie.Need-loop-less Inv-loop μ-loop
-loop-less c =
-    omega
-    (arith, filled-moves _ (c .before .before .before .before .before .before .before .before .before .before .before .before .before .args .piece .now) (c .before .before .before .before .before .before .before .before .before .before .loop .i) _ _ _ (c .before .before .before .before .before .before .before .before .before .loop-test .taken) (omega (arith, c .before .before .before .before .before .before .before .before .before .before .loop .inv .0)) (c .before .before .before .before .before .before .fill .ensures))
+loop-less c = omega (arith, filled-high _ (c .before .before .before .before .before .before .before .before .before .before .before .before .before .args .bytes .now) (c .before .before .before .before .before .before .before .before .before .before .before .loop .i) (c .before .before .before .before .before .before .before .before .before .before .before .before .before .args .n) _ _ _ _ _ (c .before .before .before .before .before .before .before .before .before .before .before .loop .inv) (c .before .before .before .before .before .before .before .before .before .before .before .before .before .pre) (c .before .before .before .before .before .before .fill .ensures), filled-moves _ (c .before .before .before .before .before .before .before .before .before .before .before .before .before .args .bytes .now) (c .before .before .before .before .before .before .before .before .before .before .before .loop .i) (c .before .before .before .before .before .before .before .before .before .before .before .before .before .args .n) _ _ _ _ _ (c .before .before .before .before .before .before .before .before .before .before .loop-test .taken) (c .before .before .before .before .before .before .before .before .before .before .before .before .before .pre) (search needs) (c .before .before .before .before .before .before .fill .ensures))
 
 loop-again : tie.Need-loop-again Inv-loop μ-loop
-loop-again c = (
-  c .before .before .before .before .before .before .fill .ensures .same ∙ c .before .before .before .before .before .before .before .before .before .before .loop .inv .0,
-  filled-high _ (c .before .before .before .before .before .before .before .before .before .before .before .before .before .args .piece .now) (c .before .before .before .before .before .before .before .before .before .before .loop .i) _ _ _ (c .before .before .before .before .before .before .before .before .before .before .loop .inv .1) (c .before .before .before .before .before .before .fill .ensures),
-)
+loop-again c = filled-high _ (c .before .before .before .before .before .before .before .before .before .before .before .before .before .args .bytes .now) (c .before .before .before .before .before .before .before .before .before .before .before .loop .i) (c .before .before .before .before .before .before .before .before .before .before .before .before .before .args .n) _ _ _ _ _ (c .before .before .before .before .before .before .before .before .before .before .before .loop .inv) (c .before .before .before .before .before .before .before .before .before .before .before .before .before .pre) (c .before .before .before .before .before .before .fill .ensures)
 
 returns-2 : tie.Need-returns-2 Inv-loop μ-loop
 returns-2 c = search needs
@@ -73,16 +51,12 @@ feed-spec =
     (tie.spec
     Inv-loop
     μ-loop
-    large-buffer-requires
     loop-holds
     sub-fill
     part-fill-start
     part-fill-end
-    slice-aggregate-fill
     fill-requires
     add-i
-    array-share-prefix-out
-    slice-aggregate-say
     say-requires
     returns
     loop-less

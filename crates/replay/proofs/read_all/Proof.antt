@@ -1,37 +1,43 @@
--- `replay::read_all` is safe and ends: the measure is the number of reads that are left.
-use native.Mathlib.Omega.{arith}
+-- `replay::read_all` meets its contract.
+use borrow.Author.Needs.{needs}
 use Rattle.replay.proofs.read_all.Statement.{statement}
 use Rattle.replay.proofs.read_all.Tie as tie
 
 abbrev Inv-loop : tie.InvT-loop
-Inv-loop fd name w₀ turns₀ w turns = Unit {0}
+Inv-loop fd name record₀ w₀ buffer₀ out₀ turns₀ «record» w buffer out turns = Unit {0}
 
 abbrev μ-loop : tie.MeasureT-loop
-μ-loop fd name w₀ turns₀ w turns = turns
+μ-loop fd name record₀ w₀ buffer₀ out₀ turns₀ «record» w buffer out turns = turns
 
 begin-requires : tie.Need-begin-requires Inv-loop μ-loop
-begin-requires c κs = tt
+begin-requires c κs = search needs
+
+large-buffer-requires : tie.Need-large-buffer-requires Inv-loop μ-loop
+large-buffer-requires c κs = search needs
+
+large-buffer-requires-2 : tie.Need-large-buffer-requires-2 Inv-loop μ-loop
+large-buffer-requires-2 c κs = search needs
 
 loop-holds : tie.Need-loop-holds Inv-loop μ-loop
-loop-holds c = tt
+loop-holds c = search needs
 
 read-some-requires : tie.Need-read-some-requires Inv-loop μ-loop
-read-some-requires c κs = tt
+read-some-requires c κs = search needs
 
 sub-turns : tie.Need-sub-turns Inv-loop μ-loop
-sub-turns c = omega arith
+sub-turns c = search needs
 
 loop-less : tie.Need-loop-less Inv-loop μ-loop
-loop-less c = omega arith
+loop-less c = search needs
 
 loop-again : tie.Need-loop-again Inv-loop μ-loop
-loop-again c = tt
+loop-again c = search needs
 
 returns : tie.Need-returns Inv-loop μ-loop
-returns c = tt
+returns c = search needs
 
 returns-2 : tie.Need-returns-2 Inv-loop μ-loop
-returns-2 c = tt
+returns-2 c = search needs
 
 pub read-all-spec : {M : Type 1} → statement M
 read-all-spec =
@@ -40,6 +46,8 @@ read-all-spec =
     Inv-loop
     μ-loop
     begin-requires
+    large-buffer-requires
+    large-buffer-requires-2
     loop-holds
     read-some-requires
     sub-turns

@@ -1,6 +1,6 @@
 -- `replay_digits::nibble` meets its contract.
 use borrow.Author.Tests.{lt-ltb, lt-leb, le-ltb, le-leb}
-use Rattle.replay_digits.specs.Hex.{nibbleOf}
+use Rattle.replay_scope.specs.Lines.{nibbleOf}
 use borrow.Author.Needs.{needs}
 use Rattle.replay_digits.proofs.nibble.Statement.{statement}
 use Rattle.replay_digits.proofs.nibble.Tie as tie

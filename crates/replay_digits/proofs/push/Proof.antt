@@ -1,6 +1,6 @@
 -- `replay_digits::push` meets its contract.
 use mathlib.Core.Path.{refl}
-use Rattle.replay_digits.specs.Hex.{pushOf}
+use Rattle.replay_scope.specs.Lines.{pushOf}
 use borrow.Author.Needs.{needs}
 use Rattle.replay_digits.proofs.push.Statement.{statement}
 use Rattle.replay_digits.proofs.push.Tie as tie

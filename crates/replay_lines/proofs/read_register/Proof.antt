@@ -10,29 +10,29 @@ mul-a c = search needs
 add-e : tie.Need-add-e
 add-e c = search needs
 
-sub-scan : tie.Need-sub-scan
-sub-scan c = search needs
+sub-read-by : tie.Need-sub-read-by
+sub-read-by c = search needs
 
-part-scan-start : tie.Need-part-scan-start
-part-scan-start c = search needs
+part-read-by-start : tie.Need-part-read-by-start
+part-read-by-start c = search needs
 
-part-scan-end : tie.Need-part-scan-end
-part-scan-end c = search needs
+part-read-by-end : tie.Need-part-read-by-end
+part-read-by-end c = search needs
 
-scan-requires : tie.Need-scan-requires
-scan-requires c κs = search needs
+read-by-requires : tie.Need-read-by-requires
+read-by-requires c κs = search needs
 
 returns : tie.Need-returns
-returns c = read-four (c .before .before .before .before .before .args .keys .now) (c .before .before .before .before .before .args .i) _ _ _ _ (c .scan .ensures)
+returns c = read-four (c .before .before .before .before .before .args .keys .now) (c .before .before .before .before .before .args .i) _ _ _ _ (c .read-by .ensures)
 
-slice-aggregate-scan : tie.Need-slice-aggregate-scan
-slice-aggregate-scan c = search needs
+slice-aggregate-read-by : tie.Need-slice-aggregate-read-by
+slice-aggregate-read-by c = search needs
 
-scan-requires-2 : tie.Need-scan-requires-2
-scan-requires-2 c κs = search needs
+read-by-requires-2 : tie.Need-read-by-requires-2
+read-by-requires-2 c κs = search needs
 
 returns-2 : tie.Need-returns-2
-returns-2 c = read-none (c .before .before .before .before .before .args .keys .now) (c .before .before .before .before .before .args .i) _ _ _ _ (c .before .before .before .before .before .pre) (c .before .before .if1 .left) (c .scan2 .ensures)
+returns-2 c = read-none (c .before .before .before .before .before .args .keys .now) (c .before .before .before .before .before .args .i) _ _ _ _ (c .before .before .before .before .before .pre) (c .before .before .if1 .left) (c .read-by2 .ensures)
 
 pub read-register-spec : {M : Type 1} → statement M
 read-register-spec =
@@ -40,11 +40,11 @@ read-register-spec =
     (tie.spec
     mul-a
     add-e
-    sub-scan
-    part-scan-start
-    part-scan-end
-    scan-requires
+    sub-read-by
+    part-read-by-start
+    part-read-by-end
+    read-by-requires
     returns
-    slice-aggregate-scan
-    scan-requires-2
+    slice-aggregate-read-by
+    read-by-requires-2
     returns-2)

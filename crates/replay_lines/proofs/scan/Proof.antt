@@ -2,7 +2,7 @@
 use borrow.Author.Needs.{needs}
 use mathlib.Core.Path.{refl}
 use Rattle.replay_lines.specs.Laws.{taken-next, taken-end}
-use Rattle.replay_lines.specs.Lines.{takenOf}
+use Rattle.replay_lines.specs.Read.{takenOf}
 use Prim.Native.Nat.{_-_, _≤_, _<_}
 use mathlib.Core.Path.{_≡_, sym, _∙_}
 use native.Mathlib.Omega.{arith}

@@ -1,5 +1,6 @@
 -- `replay_order::begin` meets its contract.
-use Rattle.replay_order.specs.Order.{begun}
+use Rattle.replay_scope.specs.Output.{begun}
+use Rattle.replay_steps.specs.InPlace.{stateIn}
 use borrow.Author.Needs.{needs}
 use Rattle.replay_order.proofs.begin.Statement.{statement}
 use Rattle.replay_order.proofs.begin.Tie as tie
@@ -11,8 +12,8 @@ setup-requires : tie.Need-setup-requires
 setup-requires c κs = search needs
 
 returns : tie.Need-returns
-unfolding begun
-returns c = simp (c .before .setup .ensures, c .before .before .new .ensures)
+unfolding begun stateIn
+returns c = rw (c .setup .ensures .shows, c .before .before .new .ensures .0)
 
 pub begin-spec : {M : Type 1} → statement M
 begin-spec = tie.close (tie.spec new-requires setup-requires returns)

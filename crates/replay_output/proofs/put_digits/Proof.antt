@@ -1,7 +1,7 @@
 -- `replay_output::put_digits` meets its contract.
 use borrow.Author.Needs.{needs}
 use mathlib.Core.Path.{refl}
-use Rattle.replay_digits.specs.Hex.{lastDigits}
+use Rattle.replay_scope.specs.Lines.{lastDigits}
 use Rattle.replay_output.specs.PutLaws.{digit-put, digits-put}
 use Prim.Native.Nat.{_+_, _-_, _≤_}
 use native.Mathlib.Omega.{arith}
