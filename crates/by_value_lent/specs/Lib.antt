@@ -1,2 +1,2 @@
-pub mod Thin
+pub mod Lent
 pub mod One

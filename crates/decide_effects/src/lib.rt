@@ -1,4 +1,4 @@
-// How a call ends: an effect for each kind of end, built in one place. regs/specs/Effects.antt defines them.
+// How a call ends: an effect for each kind of end, built in one place. scope/specs/Refusals.antt defines them.
 ghost use mathlib.Core.Path.{_≡_};
 ghost use Rattle.scope.specs.Refusals.{askingOf, doneOf, failedOf, finishedOf, refusedOf};
 ghost use Rattle.scope.specs.Record.{noArgs};

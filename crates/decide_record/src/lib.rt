@@ -1,5 +1,4 @@
-// The vCPU record, and how a call changes it: one effect (CSRs, an event, register writes, the waiting part, the
-// reply), applied in one place.
+// The parts of a vCPU record, read and changed: sepc, the timer, hvip, a register, the ask that waits. Both entries use them.
 ghost use mathlib.Core.Path.{_≡_};
 ghost use Prim.Native.Nat.{_+_};
 ghost use Rattle.isa_types.specs.Pick.{wrapped};

@@ -22,7 +22,7 @@ use Rattle.scope.specs.declared.machine.Vcpu.{Vcpu}
 use Rattle.by_value_lent.specs.declared.Given.{Given}
 use Rattle.scope.specs.declared.hosts.HostCall.{HostCall}
 use Rattle.scope.specs.Calls.{calledOf}
-use Rattle.by_value_lent.specs.Thin.{restOf}
+use Rattle.by_value_lent.specs.Lent.{restOf}
 use Rattle.demand3_table.specs.Alike.{Alike}
 use Rattle.demand3_table.specs.Runs.{Untouched, written}
 use Rattle.demand3.specs.Kinds.{traps}

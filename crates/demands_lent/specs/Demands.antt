@@ -9,7 +9,7 @@ use Rattle.scope.specs.declared.traps.Reply.the-variants as reply
 use Rattle.scope.specs.declared.machine.Vcpu.{Vcpu}
 use Rattle.by_value_lent.specs.declared.Given.{Given}
 use Rattle.scope.specs.declared.hosts.HostCall.{HostCall}
-use Rattle.by_value_lent.specs.Thin.{Stored}
+use Rattle.by_value_lent.specs.Lent.{Stored}
 use Rattle.demand3_table.specs.Alike.{Alike}
 use Rattle.demand3_table.specs.Runs.{runOf, seenOf, sightOf, stepOf, Untouched, written}
 use Rattle.demand3.specs.Sequences as sequences

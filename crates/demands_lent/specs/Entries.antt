@@ -3,7 +3,7 @@ use mathlib.Core.List.{List, [], _∷_}
 use Rattle.scope.specs.declared.machine.Vcpu.{Vcpu}
 use Rattle.by_value_lent.specs.declared.Given.{Given}
 use Rattle.scope.specs.declared.hosts.HostCall.{HostCall}
-use Rattle.by_value_lent.specs.Thin.{Stored}
+use Rattle.by_value_lent.specs.Lent.{Stored}
 use Rattle.demand3_table.specs.Turns.{Turn, call}
 use Rattle.demand3_table.specs.Runs.{Sight}
 

@@ -31,7 +31,7 @@ use Rattle.scope.specs.Calls.{calledOf, effectOf, gprReply}
 use Rattle.scope.specs.declared.hosts.HostCall.the-variants as hostCall
 use Rattle.scope.specs.Words.{answerBy, nowhere}
 use Rattle.in_place_record.specs.View.{Done, Made, outOf, refusalWord, replyWord, trapLeaves, viewOf}
-use Rattle.in_place_record.specs.Deeds.{Leaves, answeredLeft, csrLeft, missedLeft, readWord}
+use Rattle.in_place_record.specs.Rows.{Leaves, answeredLeft, csrLeft, missedLeft, readWord}
 use Rattle.in_place_record.specs.Laws.{On, answered-made, made-by, missed-made, same}
 use Rattle.in_place_read.specs.Laws.{csr-by}
 use Rattle.scope.specs.declared.decided.Answered.{Answered}

@@ -1,5 +1,5 @@
 // A virtual instruction, a guest page fault, a failed fetch and an answer, each done on the lent words once it is decided.
-ghost use Rattle.in_place_record.specs.Deeds.{Leaves, answeredLeft, csrLeft, faultLeft, missedLeft};
+ghost use Rattle.in_place_record.specs.Rows.{Leaves, answeredLeft, csrLeft, faultLeft, missedLeft};
 use isa_types::GuestPhysAddr;
 use scope::Access;
 use scope::Answered;

@@ -1,7 +1,7 @@
 // An SBI call, done on the lent words once it is decided.
 ghost use mathlib.Core.Path.{_≡_};
 ghost use lib.ListN.{set};
-ghost use Rattle.in_place_record.specs.Deeds.{Leaves, callLeft, left, one, stepWords, three};
+ghost use Rattle.in_place_record.specs.Rows.{Leaves, callLeft, left, one, stepWords, three};
 ghost use Rattle.scope.specs.declared.decided.SbiCall.the-variants as call;
 use isa_types::GuestPhysAddr;
 use scope::Event;

@@ -12,7 +12,7 @@ use Rattle.scope.specs.declared.machine.Waiting.{Waiting}
 use Rattle.scope.specs.declared.machine.Writes.{Writes}
 use Rattle.scope.specs.declared.machine.Writes.the-variants as writes
 use Rattle.scope.specs.Words.{csrsWords}
-use Rattle.in_place_record.specs.Deeds.{putWord}
+use Rattle.in_place_record.specs.Rows.{putWord}
 
 -- the registers that an effect writes
 unfoldable pub writeWords : List ℕ → Writes → List ℕ

@@ -14,7 +14,7 @@ use Rattle.scope.specs.declared.machine.Writes.the-variants as writes
 use Rattle.scope.specs.Host.{writeEffect}
 use Rattle.scope.specs.Calls.{calledOf, effectOf, gprReply}
 use Rattle.in_place_record.specs.View.{Made, hostLeaves, outOf, replyWord, viewOf}
-use Rattle.in_place_record.specs.Deeds.{readWord}
+use Rattle.in_place_record.specs.Rows.{readWord}
 use Rattle.in_place_record.specs.Laws.{read-shows}
 use Rattle.in_place_host.specs.Host.{Keeps}
 use Rattle.in_place_host.specs.Laws.{done-keeps, pick-keeps, refused-keeps}

@@ -11,7 +11,7 @@ use Rattle.scope.specs.declared.decided.Stimecmp.{Stimecmp}
 use Rattle.scope.specs.VirtualInstruction.{stimecmpEffect}
 use Rattle.scope.specs.GuestPageFault.{faultEffect, faultOf, mmioOf}
 use Rattle.in_place_record.specs.View.{viewOf}
-use Rattle.in_place_record.specs.Deeds.{csrLeft, faultLeft, readWord}
+use Rattle.in_place_record.specs.Rows.{csrLeft, faultLeft, readWord}
 use Rattle.in_place_record.specs.Laws.{On, csr-made, csrs-words, fault-made, read-shows}
 use Rattle.scope.specs.declared.decided.Fault.{Fault}
 use Rattle.isa_decoder.specs.declared.Trapped.{Trapped}

@@ -2,7 +2,7 @@
 // reply that are read off it.
 ghost use mathlib.Core.Path.{_≡_};
 ghost use Rattle.in_place_record.specs.View.{viewOf};
-ghost use Rattle.in_place_record.specs.Deeds.{argsWords, fetchOut, readWord, sixWords};
+ghost use Rattle.in_place_record.specs.Rows.{argsWords, fetchOut, readWord, sixWords};
 use scope::Args;
 use scope::Csrs;
 use scope::GuestCsrs;

@@ -39,7 +39,7 @@ use Rattle.scope.specs.declared.decided.Answered.the-variants as answered
 use Rattle.scope.specs.Words.{csrsOf, unpackOf, waitingBy, waitingOf, waitingWords, askedWords}
 use Rattle.scope.specs.WordsLaws.{access-back, flag-back, width-back}
 use Rattle.in_place_record.specs.View.{Done, Made, askCount, besideOf, exitCount, outOf, recordOf, refusalWord, replyWord, trapLeaves, viewOf, waitingCount, askedWordCount}
-use Rattle.in_place_record.specs.Deeds.{Leaves, Left, answeredLeft, argsWords, bumpWords, callLeft, completeWord, completeWords, csrLeft, faultLeft, fetchOut, giveWords, injectWords, missedLeft, putWord, readWord, movedWords, pairWords, sixWords, stepWords, timerWords}
+use Rattle.in_place_record.specs.Rows.{Leaves, Left, answeredLeft, argsWords, bumpWords, callLeft, completeWord, completeWords, csrLeft, faultLeft, fetchOut, giveWords, injectWords, missedLeft, putWord, readWord, movedWords, pairWords, sixWords, stepWords, timerWords}
 use Rattle.in_place_record.specs.Spelled.{spelled, spelled-out}
 
 -- a function that leaves words which show an outcome shows it

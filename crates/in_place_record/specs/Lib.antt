@@ -1,5 +1,5 @@
 pub mod View
-pub mod Deeds
+pub mod Rows
 pub mod Spelled
 pub mod Laws
 pub mod Told

@@ -1,5 +1,5 @@
 -- The lent record as 58 words, and what words are left when a call is done on it in place. The record that words stand
--- for is the one that crate abi reads off its four arrays, which lie in this order.
+-- for is the one that words_record reads off its four arrays, which lie in this order.
 use Prim.Native.Nat.{ℕ, _+_}
 use mathlib.Core.Bool.{Bool}
 use mathlib.Core.List.{List, []}
@@ -115,13 +115,13 @@ unfoldable pub hostLeaves : List ℕ → Outcome → List ℕ
 hostLeaves entry outcome = drop 54 entry
 
 -- the promise of a call done in place: the words r that it leaves show the outcome's record, its waiting words are those
--- that the rule leaves, the word that it returns is the reply's, and of out, which held o, exactly the reply's words are
+-- that the rule leaves, the word that it returns is the reply's, and of out, which held `before`, exactly the reply's words are
 -- set. So all 58 words are told: Told.antt
-pub record Made (leaves : Outcome → List ℕ) (o : List ℕ) (outcome : Outcome) (r out : List ℕ) (word : ℕ) : Type 0 where
+pub record Made (leaves : Outcome → List ℕ) (before : List ℕ) (outcome : Outcome) (r out : List ℕ) (word : ℕ) : Type 0 where
   pub shows : viewOf r ≡ outcome .vcpu
   pub waits : drop 54 r ≡ leaves outcome
   pub says : word ≡ replyWord (outcome .reply)
-  pub gives : out ≡ outOf o (outcome .reply) (outcome .args)
+  pub gives : out ≡ outOf before (outcome .reply) (outcome .args)
 
 -- the same of a call whose reply carries nothing
 pub record Done (leaves : Outcome → List ℕ) (outcome : Outcome) (r : List ℕ) (word : ℕ) : Type 0 where

@@ -1,9 +1,9 @@
-// A vCPU record as 58 lent words, and writes that change it where it lies; crate place_read reads it, place_change has the
-// other writes. specs/View.antt gives the words their meaning; specs/Deeds.antt has a row for each deed of a trap, and
-// specs/Laws.antt holds the rows to the effects of the by-value step.
+// A vCPU record as 58 lent words, and writes that change it where it lies; in_place_read reads it,
+// in_place_write has the other writes. specs/View.antt gives the words their meaning; specs/Rows.antt says what each decision
+// does to them, and specs/Laws.antt that this is the effect of the same decision.
 ghost use mathlib.Core.Path.{_≡_};
 ghost use lib.ListN.{length};
-ghost use Rattle.in_place_record.specs.Deeds.{completeWord, completeWords, giveWords, movedWords, putWord};
+ghost use Rattle.in_place_record.specs.Rows.{completeWord, completeWords, giveWords, movedWords, putWord};
 use scope::Waiting;
 
 // Where each word lies.

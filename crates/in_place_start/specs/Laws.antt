@@ -16,7 +16,7 @@ use Rattle.scope.specs.VirtualInstruction.{stimecmpStval, virtualEffect}
 use Rattle.scope.specs.Classes.{argumentsOf}
 use Rattle.scope.specs.Words.{csrsOf, unpackOf, waitingBy, waitingOf, waitingWords}
 use Rattle.in_place_record.specs.View.{Made, besideOf, exitCount, outOf, recordOf, refusalWord, replyWord, trapLeaves, viewOf, waitingCount}
-use Rattle.in_place_record.specs.Deeds.{argsWords, callLeft, csrLeft, left, readWord}
+use Rattle.in_place_record.specs.Rows.{argsWords, callLeft, csrLeft, left, readWord}
 use Rattle.in_place_record.specs.Laws.{On, call-made, over}
 use Rattle.in_place_record.specs.Spelled.{spelled}
 use Rattle.in_place_read.specs.Laws.{csr-by}

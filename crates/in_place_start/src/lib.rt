@@ -102,7 +102,7 @@ fn page_fault(r: &mut [u64; 58], out: &mut [u64; 8], t: Trap, access: Access) ->
     mmio(r, out, at, access, isa_decoder::from_htinst(t.htinst))
 }
 
-// A load or store of a device, once its instruction is known. It has one caller, and place_answer's mmio_word does the
+// A load or store of a device, once its instruction is known. It has one caller, and in_place_answer's mmio_word does the
 // same for the word of a fetch: a function with one caller is always put in its place, so that the instruction passes in
 // registers.
 fn mmio(r: &mut [u64; 58], out: &mut [u64; 8], at: GuestPhysAddr, access: Access, i: Trapped) -> u64

@@ -1,7 +1,7 @@
-// The small writes that change a vCPU record of 58 lent words where it lies, beside those of crate place.
+// The small writes that change a vCPU record of 58 lent words where it lies, beside those of in_place_record.
 ghost use mathlib.Core.Path.{_≡_};
 ghost use Rattle.scope.specs.Record.{eventNumber};
-ghost use Rattle.in_place_record.specs.Deeds.{bumpWords, injectWords, pairWords, stepWords, timerWords};
+ghost use Rattle.in_place_record.specs.Rows.{bumpWords, injectWords, pairWords, stepWords, timerWords};
 use scope::Csrs;
 use scope::Event;
 

@@ -1,5 +1,5 @@
-// The types that several crates share: addresses, widths, asks, answers, exits, errors.
-// specs/Numbers.antt gives each enum's number in document 01, specs/Values.antt the numbers that its cases carry.
+// The types that stand below all others: the two kinds of guest address, and the width of an access. specs/Pick.antt has the
+// choice by a test that every definition is written with.
 
 // An address in a guest's physical memory.
 pub struct GuestPhysAddr(pub u64);

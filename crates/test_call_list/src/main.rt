@@ -56,7 +56,7 @@ fn line_on(r: &mut [u64; 58], line: &[u8; 136]) -> bool {
     test_call_lines::spelled(line, w)
 }
 
-// The call: crate abi's kinds 1 to 12, and three more. 0 writes a word of the record, 13 is to_print, 14 is new.
+// The call: words_call's kinds 1 to 12, and three more. 0 writes a word of the record, 13 is to_print, 14 is new.
 fn made(r: &mut [u64; 58], out: &mut [u64; 8], c: [u64; 8]) -> u64 {
     let kind = c[0];
     let a = c[1];

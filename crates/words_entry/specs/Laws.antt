@@ -15,5 +15,5 @@ unfolding exportedOf afterOf packOf
 kind-known r c = ap waitingWords (waiting-back (calledOf (unpackOf r) (callOf c) .vcpu .waiting))
 
 -- two records at exit that meet the promise are equal, and so is what is given beside them
-pub one-outcome : (r : Record) (c : CallWords) (s₁ s₂ : Record) (g₁ g₂ : ReplyWords) → Exported r c s₁ g₁ → Exported r c s₂ g₂ → (s₁ ≡ s₂) × (g₁ ≡ g₂)
-one-outcome r c s₁ s₂ g₁ g₂ e₁ e₂ = (e₁ .0 ∙ sym (e₂ .0), e₁ .1 ∙ sym (e₂ .1))
+pub words-one-outcome : (r : Record) (c : CallWords) (s₁ s₂ : Record) (g₁ g₂ : ReplyWords) → Exported r c s₁ g₁ → Exported r c s₂ g₂ → (s₁ ≡ s₂) × (g₁ ≡ g₂)
+words-one-outcome r c s₁ s₂ g₁ g₂ e₁ e₂ = (e₁ .0 ∙ sym (e₂ .0), e₁ .1 ∙ sym (e₂ .1))

@@ -1,5 +1,5 @@
-// The entry as the host's compiler sees it: one exported function over words. Crate words has the record, and call_words a
-// call and what it gives back.
+// The entry as the host's compiler sees it: one exported function over words. words_record has the record, and words_call
+// a call and what it gives back.
 ghost use mathlib.Core.Path.{_≡_};
 ghost use Rattle.words_entry.specs.Words.{Exported, exportedOf};
 use scope::Record;

@@ -44,7 +44,7 @@ use denote.Triple.Walked.{says, Stays, stay-ref, stay-none, walkOf, AllGo, goes-
 use denote.Triple.Clauses.{ensured, lasts}
 use denote.Exit.{yes}
 use Rattle.scope.specs.Calls.{calledOf}
-use Rattle.by_value_lent.specs.Thin.{restOf}
+use Rattle.by_value_lent.specs.Lent.{restOf}
 use Rattle.scope.specs.declared.machine.Vcpu.{Vcpu}
 use Rattle.scope.specs.declared.hosts.HostCall.{HostCall}
 use Rattle.scope.specs.declared.machine.Outcome.{Outcome}

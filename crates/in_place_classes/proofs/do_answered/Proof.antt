@@ -1,6 +1,6 @@
 -- `in_place_classes::do_answered` meets its contract.
 use mathlib.Core.Path.{refl}
-use Rattle.in_place_record.specs.Deeds.{answeredLeft}
+use Rattle.in_place_record.specs.Rows.{answeredLeft}
 use borrow.Author.Needs.{needs}
 use Rattle.in_place_classes.proofs.do_answered.Statement.{statement}
 use Rattle.in_place_classes.proofs.do_answered.Tie as tie

@@ -1,6 +1,6 @@
 -- `in_place_classes::do_csr` meets its contract.
 use mathlib.Core.Path.{refl}
-use Rattle.in_place_record.specs.Deeds.{csrLeft}
+use Rattle.in_place_record.specs.Rows.{csrLeft}
 use borrow.Author.Needs.{needs}
 use Rattle.in_place_classes.proofs.do_csr.Statement.{statement}
 use Rattle.in_place_classes.proofs.do_csr.Tie as tie

@@ -1,6 +1,6 @@
 -- `in_place_classes::do_fault` meets its contract.
 use mathlib.Core.Path.{refl}
-use Rattle.in_place_record.specs.Deeds.{faultLeft}
+use Rattle.in_place_record.specs.Rows.{faultLeft}
 use borrow.Author.Needs.{needs}
 use Rattle.in_place_classes.proofs.do_fault.Statement.{statement}
 use Rattle.in_place_classes.proofs.do_fault.Tie as tie

@@ -1,6 +1,6 @@
 -- `in_place_classes::do_missed` meets its contract.
 use mathlib.Core.Path.{refl}
-use Rattle.in_place_record.specs.Deeds.{missedLeft}
+use Rattle.in_place_record.specs.Rows.{missedLeft}
 use borrow.Author.Needs.{needs}
 use Rattle.in_place_classes.proofs.do_missed.Statement.{statement}
 use Rattle.in_place_classes.proofs.do_missed.Tie as tie

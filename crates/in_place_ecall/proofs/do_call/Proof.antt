@@ -1,6 +1,6 @@
 -- `in_place_ecall::do_call` meets its contract.
 use mathlib.Core.Path.{refl}
-use Rattle.in_place_record.specs.Deeds.{callLeft}
+use Rattle.in_place_record.specs.Rows.{callLeft}
 use borrow.Author.Needs.{needs}
 use Rattle.in_place_ecall.proofs.do_call.Statement.{statement}
 use Rattle.in_place_ecall.proofs.do_call.Tie as tie

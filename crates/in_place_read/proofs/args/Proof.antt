@@ -1,6 +1,6 @@
 -- `in_place_read::args` meets its contract.
 use mathlib.Core.Path.{refl}
-use Rattle.in_place_record.specs.Deeds.{argsWords}
+use Rattle.in_place_record.specs.Rows.{argsWords}
 use borrow.Author.Needs.{needs}
 use Rattle.in_place_read.proofs.args.Statement.{statement}
 use Rattle.in_place_read.proofs.args.Tie as tie

@@ -1,5 +1,5 @@
 -- `in_place_read::ask_fetch` meets its contract.
-use Rattle.in_place_record.specs.Deeds.{fetchOut}
+use Rattle.in_place_record.specs.Rows.{fetchOut}
 use borrow.Author.Needs.{needs}
 use Rattle.in_place_read.proofs.ask_fetch.Statement.{statement}
 use Rattle.in_place_read.proofs.ask_fetch.Tie as tie

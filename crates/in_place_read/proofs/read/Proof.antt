@@ -1,6 +1,6 @@
 -- `in_place_read::read` meets its contract.
 use borrow.Author.Tests.{eq-eqb, ne-eqb, lt-ltb, lt-leb, le-ltb, le-leb}
-use Rattle.in_place_record.specs.Deeds.{readWord}
+use Rattle.in_place_record.specs.Rows.{readWord}
 use borrow.Author.Needs.{needs}
 use Rattle.in_place_read.proofs.read.Statement.{statement}
 use Rattle.in_place_read.proofs.read.Tie as tie

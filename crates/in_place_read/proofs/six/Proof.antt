@@ -1,6 +1,6 @@
 -- `in_place_read::six` meets its contract.
 use mathlib.Core.Path.{refl}
-use Rattle.in_place_record.specs.Deeds.{sixWords}
+use Rattle.in_place_record.specs.Rows.{sixWords}
 use borrow.Author.Needs.{needs}
 use Rattle.in_place_read.proofs.six.Statement.{statement}
 use Rattle.in_place_read.proofs.six.Tie as tie

@@ -1,5 +1,5 @@
 -- `in_place_record::advance` meets its contract.
-use Rattle.in_place_record.specs.Deeds.{movedWords}
+use Rattle.in_place_record.specs.Rows.{movedWords}
 use borrow.Author.Needs.{needs}
 use Rattle.in_place_record.proofs.advance.Statement.{statement}
 use Rattle.in_place_record.proofs.advance.Tie as tie

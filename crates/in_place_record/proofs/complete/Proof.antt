@@ -1,6 +1,6 @@
 -- `in_place_record::complete` meets its contract.
 use mathlib.Core.Path.{refl}
-use Rattle.in_place_record.specs.Deeds.{completeWords, completeWord}
+use Rattle.in_place_record.specs.Rows.{completeWords, completeWord}
 use borrow.Author.Needs.{needs}
 use Rattle.in_place_record.proofs.complete.Statement.{statement}
 use Rattle.in_place_record.proofs.complete.Tie as tie

@@ -1,5 +1,5 @@
 -- `in_place_record::give` meets its contract.
-use Rattle.in_place_record.specs.Deeds.{giveWords}
+use Rattle.in_place_record.specs.Rows.{giveWords}
 use borrow.Author.Needs.{needs}
 use Rattle.in_place_record.proofs.give.Statement.{statement}
 use Rattle.in_place_record.proofs.give.Tie as tie

@@ -1,6 +1,6 @@
 -- `in_place_record::put` meets its contract.
 use borrow.Author.Tests.{eq-eqb, ne-eqb, lt-ltb, lt-leb, le-ltb, le-leb}
-use Rattle.in_place_record.specs.Deeds.{putWord}
+use Rattle.in_place_record.specs.Rows.{putWord}
 use borrow.Author.Needs.{needs}
 use Rattle.in_place_record.proofs.put.Statement.{statement}
 use Rattle.in_place_record.proofs.put.Tie as tie

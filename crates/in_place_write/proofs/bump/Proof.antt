@@ -1,6 +1,6 @@
 -- `in_place_write::bump` meets its contract.
 use borrow.Author.Tests.{eq-eqb, ne-eqb, lt-ltb, lt-leb, le-ltb, le-leb}
-use Rattle.in_place_record.specs.Deeds.{bumpWords}
+use Rattle.in_place_record.specs.Rows.{bumpWords}
 use borrow.Author.Needs.{needs}
 use Rattle.in_place_write.proofs.bump.Statement.{statement}
 use Rattle.in_place_write.proofs.bump.Tie as tie

@@ -1,6 +1,6 @@
 -- `in_place_write::inject` meets its contract.
 use mathlib.Core.Path.{refl}
-use Rattle.in_place_record.specs.Deeds.{injectWords}
+use Rattle.in_place_record.specs.Rows.{injectWords}
 use borrow.Author.Needs.{needs}
 use Rattle.in_place_write.proofs.inject.Statement.{statement}
 use Rattle.in_place_write.proofs.inject.Tie as tie

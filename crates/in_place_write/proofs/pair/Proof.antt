@@ -1,5 +1,5 @@
 -- `in_place_write::pair` meets its contract.
-use Rattle.in_place_record.specs.Deeds.{pairWords}
+use Rattle.in_place_record.specs.Rows.{pairWords}
 use borrow.Author.Needs.{needs}
 use Rattle.in_place_write.proofs.pair.Statement.{statement}
 use Rattle.in_place_write.proofs.pair.Tie as tie

@@ -1,5 +1,5 @@
 -- `in_place_write::step` meets its contract.
-use Rattle.in_place_record.specs.Deeds.{stepWords}
+use Rattle.in_place_record.specs.Rows.{stepWords}
 use borrow.Author.Needs.{needs}
 use Rattle.in_place_write.proofs.step.Statement.{statement}
 use Rattle.in_place_write.proofs.step.Tie as tie

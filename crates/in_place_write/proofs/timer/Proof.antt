@@ -1,5 +1,5 @@
 -- `in_place_write::timer` meets its contract.
-use Rattle.in_place_record.specs.Deeds.{timerWords}
+use Rattle.in_place_record.specs.Rows.{timerWords}
 use borrow.Author.Needs.{needs}
 use Rattle.in_place_write.proofs.timer.Statement.{statement}
 use Rattle.in_place_write.proofs.timer.Tie as tie
