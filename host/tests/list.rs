@@ -10,7 +10,7 @@ use std::collections::BTreeSet;
 use std::fmt::Write;
 
 const LIST: &str = concat!(env!("CARGO_MANIFEST_DIR"), "/../crates/test_call_list/data/list");
-/// One line once for each of its bytes, wrong in that byte alone: `call_list` must call every one wrong.
+/// One line once for each of its bytes, wrong in that byte alone: `test_call_list` must call every one wrong.
 const WRONG: &str = concat!(env!("CARGO_MANIFEST_DIR"), "/../crates/test_call_list/data/wrong");
 const CALLS: u64 = 700;
 /// Of the first 3,000 seeds the one whose calls reach everything and the most different outcomes (`search` finds it).

@@ -1,5 +1,5 @@
 //! Links the proved library where it is at hand: VCPU_ABI names the archive
-//! of crate abi and VCPU_IN_PLACE that of crates in_place_*, lowered for this
+//! of crate words_entry and VCPU_IN_PLACE that of crates in_place_entry_*, lowered for this
 //! machine. Without them the program is built with the model alone as a
 //! subject.
 

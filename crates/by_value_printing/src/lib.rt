@@ -1,4 +1,4 @@
-// The part of the lent buffer that ask 4 prints.
+// The part of the lent buffer that ask 4 prints. The buffer is lent to be read: no call writes it.
 ghost use mathlib.Core.Path.{_≡_};
 ghost use Rattle.scope.specs.Calls.{firstOf, printCount, printedOf, askedCount};
 use scope::EcallAsk;

@@ -1,4 +1,4 @@
-// What a guest's SBI calls do, and the extensions whose calls are decided by their function alone.
+// The SBI extensions whose calls are decided by their function and arguments alone: TIME, sPI, HSM, SRST, RFNC.
 ghost use mathlib.Core.Path.{_≡_};
 ghost use Prim.Native.Nat.{ℕ};
 ghost use Rattle.scope.specs.declared.machine.Csrs.{Csrs};

@@ -25,7 +25,7 @@ use Rattle.demand3_table.specs.Runs.{Sight, runOf, seenOf, among, Untouched}
 use Rattle.demand3_table.specs.Alike.{Alike}
 use Rattle.scope.specs.declared.hosts.HostCall.the-variants as hostCall
 
--- a zero record after setup, with vstimecmp 7 and these registers
+-- a record after setup, with sepc 0x80000000, vstimecmp 7 and these registers
 abbrev pub exampleRecord : List ℕ → Vcpu
 exampleRecord x =
     record {

@@ -1,5 +1,6 @@
 -- Document 01's reading table: the general registers that a call on a record names. The rows are in 01's order and words;
--- they cite no definition of what the handler does but a trap's class (classOf).
+-- they cite no definition of what the handler does but a trap's
+-- class (classOf), what waits, and the decoder's reading of a word.
 use Prim.Native.Nat.{ℕ, _%_, _^_}
 use mathlib.Core.List.{List, [], _∷_}
 use lib.ListN.{getD}

@@ -1,5 +1,5 @@
 // The entry for cost, what the host sets up: calls on a vCPU record of 58 words where it lies, exported. The promise is the
-// by-value outcome; `place/specs/View.antt` has the meaning of the words.
+// by-value outcome; `in_place_record/specs/View.antt` has the meaning of the words.
 ghost use mathlib.Core.Path.{_≡_};
 ghost use lib.ListN.{drop, replicate};
 ghost use Rattle.scope.specs.Calls.{newOf, calledOf};

@@ -1,5 +1,5 @@
 // The entry for cost, traps: a trap started and answered, on a vCPU record of 58 words where it lies, exported.
-// A host calls these. Each takes the by-value step's decisions and is promised the by-value outcome: `place/specs/View.antt` has
+// A host calls these. Each takes the by-value step's decisions and is promised the by-value outcome: `in_place_record/specs/View.antt` has
 // the meaning of the words.
 ghost use Rattle.scope.specs.Calls.{calledOf};
 ghost use Rattle.in_place_record.specs.View.{Made, trapLeaves, viewOf};

@@ -61,7 +61,7 @@ fittingEffect x c n answer.Emitted = numbersEffect c n 0 0
 fittingEffect x c n (answer.Char number) = numbersEffect c n number 0
 fittingEffect x c n (answer.Forwarded error value) = numbersEffect c n error value
 
--- no ask waits, or the answer is of another ask's kind: refusal 7
+-- no ask waits (0, which is no answer's number), or the answer is of another ask's kind: refusal 7
 unfoldable pub answerEffect : List ℕ → Csrs → Waiting → Answer → Effect
 answerEffect x c n a =
     pick (eqb (waitingAsk n) (answerNumber a)) (fittingEffect x c n a) (refusedOf c n error.WrongAnswer)

@@ -1,4 +1,5 @@
--- Every call on a record, as one definition. 01, One trap and The record; the calls of the Rust that 01 names by their effect.
+-- Every call on a record, as one definition. 01, One trap and The record. new, SetEntry and
+-- SetReturnValue are calls of the Rust that 01 doesn't name: docs/DECISIONS.md.
 use Prim.Native.Nat.{ℕ}
 use mathlib.Core.List.{List, []}
 use lib.Bits.{bitOr}

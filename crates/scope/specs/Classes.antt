@@ -24,7 +24,7 @@ use Rattle.scope.specs.Record.{valueOf, isIdle}
 use Rattle.scope.specs.Refusals.{finishedOf, failedOf, refusedOf}
 use Rattle.scope.specs.VirtualInstruction.{virtualEffect}
 
--- exceptions 10, 22, 21 and 23 are handled; interrupts 1, 5 and 9 exit; other known codes and all else
+-- exceptions 10, 22, 21 and 23 are handled; interrupts 1, 5 and 9 exit; other known codes end in error 3, all else in 4
 unfoldable pub classOf : ℕ → Class
 classOf scause =
     pick (eqb scause envCallFromVs) class.Ecall

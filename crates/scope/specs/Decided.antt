@@ -1,5 +1,5 @@
 -- What was decided of an ecall or of the answer to its ask, done. Both entries share the decisions, so these stand apart from
--- the rows; ecall::decide and answers::decide promise that doing what they give is the row of Ecalls.antt.
+-- the rows; decide_ecall::decide and decide_answers::decide promise that doing what they give is the row of Ecalls.antt.
 use Prim.Native.Nat.{ℕ}
 use Rattle.scope.specs.declared.decided.Answered.the-variants as answered
 use Rattle.scope.specs.declared.decided.Answered.{Answered}

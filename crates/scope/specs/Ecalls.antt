@@ -143,7 +143,8 @@ rfncEffect c eid fid a =
     (pick (eqb fid 6) (forwardEffect c event.HfenceVvma eid fid a)
     (forwardEffect c event.Quiet eid fid a)))))))
 
--- the whole list; PMU and all other eids: ask 9. Room above 4,096 counts as 4,096
+-- the whole list by eid, legacy 0 to 8 first: 0 set timer; 1 ask 7; 2 ask 8; 3 clear hvip bit 2; 4 ask 2 at a0; 5, 6, 7 no
+-- register written; 8 SystemDown. PMU and all other eids: ask 9. Room above 4,096 counts as 4,096
 unfoldable pub ecallEffect : Csrs → ℕ → ℕ → Args → ℕ → Effect
 ecallEffect c eid fid a room =
     pick (eqb eid legacySetTimer) (setTimerOf c (a .a0) (writes.One 10 0))

@@ -66,7 +66,7 @@ faultEffect c at k (fault.Load w s rd n) =
     }
 faultEffect c at k (fault.Store w d n) = finishedOf (moved c n) event.Quiet writes.Keep (exit.MmioWrite at w d)
 
--- a load or store, once its instruction is known, with the content of a store's rs2
+-- what the instruction does, if there is one, with the content of a store's rs2
 unfoldable pub mmioOf : List ℕ → Csrs → GuestPhysAddr → Access → Trapped → Effect
 mmioOf x c at k i = faultEffect c at k (faultOf k i (valueOf x (storeSource i)))
 

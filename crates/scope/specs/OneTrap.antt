@@ -137,7 +137,8 @@ answerValues answer.Emitted = 0 ∷ 0 ∷ []
 answerValues (answer.Char n) = n ∷ 0 ∷ []
 answerValues (answer.Forwarded e v) = e ∷ v ∷ []
 
--- the same back: 0 for a word (its low 32 bits), 1 to 4 for the faults with an address; any other number is unhandled
+-- the same back: 0 for a word (its low 32 bits), 1 to 4 for the faults with an address; any other number is unhandled (replay
+-- takes 5 alone for that: pairTaken)
 unfoldable pub fetchOf : ℕ → ℕ → Fetch
 fetchOf word more =
     pick (eqb more 0) (fetch.Word (word % 2 ^ 32))

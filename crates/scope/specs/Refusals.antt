@@ -38,7 +38,7 @@ finishedOf c e w x =
 unfoldable pub askingOf : Csrs → Event → Waiting → Ask → Effect
 askingOf c e n a = record { csrs = c; event = e; writes = writes.Keep; waiting = n; reply = reply.Ask a; args = noArgs }
 
--- a trap that ends in an error: nothing waits, no register is written
+-- a trap that ends in error 3 to 6: nothing waits, no register is written
 unfoldable pub failedOf : Csrs → Event → Error → Effect
 failedOf c e x =
     record { csrs = c; event = e; writes = writes.Keep; waiting = waiting.Idle; reply = reply.Error x; args = noArgs }
@@ -52,11 +52,12 @@ leavesOf c n r =
 unfoldable pub refusedOf : Csrs → Waiting → Error → Effect
 refusedOf c n x = leavesOf c n (reply.Error x)
 
--- a call that gives nothing: what waits goes on waiting
+-- a call that gives nothing; n is what waits after it
 unfoldable pub doneOf : Csrs → Writes → Waiting → Effect
 doneOf c w n =
     record { csrs = c; event = event.Quiet; writes = w; waiting = n; reply = reply.Done; args = noArgs }
 
--- any changing call but an answer while an ask waits: refusal 2. (A start and a load's completion have their own rule.)
+-- any changing call but an answer while an ask waits: refusal 2. It stands around each call's own test, so 2 goes before 1.
+-- (A start has its own rule, startEffect in Classes.antt, and a load's completion too, completedOf in GuestPageFault.antt.)
 unfoldable pub unlessAsking : Vcpu → Effect → Effect
 unlessAsking v e = pick (eqb (waitingAsk (v .waiting)) 0) e (refusedOf (v .csrs) (v .waiting) error.BadState)

@@ -63,7 +63,8 @@ unfoldable pub stimecmpStval : ℕ → ℕ → ℕ → Stimecmp
 stimecmpStval stval old rs1 =
     pick (eqb (opcodeField (stval % 2 ^ 32)) systemOpcode) (stimecmpWord (stval % 2 ^ 32) old rs1) csr.Fetch
 
--- illegal: event 2 and error 3. Else rd, unless 0, gets the old timer; move on by 4; exit Nothing
+-- illegal: event 2 and error 3. Else rd, unless 0 (stored, Record.antt), gets the old timer; move on by 4; exit Nothing. A form
+-- that doesn't write has the old timer for the new
 unfoldable pub stimecmpEffect : Csrs → Stimecmp → Effect
 stimecmpEffect c csr.Illegal = failedOf c event.IllegalInsn error.Unsupported
 stimecmpEffect c csr.Fetch = askFetchOf c waiting.FetchCsr

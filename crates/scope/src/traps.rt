@@ -94,6 +94,7 @@ pub enum Fetch {
 // The host's answer to each kind of ask.
 pub enum Answer {
     Fetched(Fetch),
+    // The bytes as a little-endian number.
     MaskCopied { count: u64, bytes: u64 },
     CopiedIn { count: u64 },
     Printed { error: u64, value: u64 },

@@ -51,7 +51,7 @@ base sepc timer x =
 abbrev one : ℕ → ℕ → List ℕ
 one i n = set (replicate 32 0) i n
 
--- an ecall with this eid, and a0 and a1
+-- an ecall with this eid and a0
 abbrev ecall : ℕ → ℕ → List ℕ
 ecall eid a0 = set (one 17 eid) 10 a0
 
@@ -85,7 +85,7 @@ fault scause x htinst = calledOf (base 0x1000 7 x) (hostCall.Start (trap scause 
 abbrev loaded : ℕ → Outcome
 loaded htinst = calledOf (fault 21 (replicate 32 0) htinst .vcpu) (hostCall.CompleteLoad 0x8000_0000)
 
--- the record of case 12, in the middle of a virtual instruction whose word has to be fetched
+-- the record of case 12, before a virtual instruction whose word has to be fetched
 unfoldable twelve : Vcpu
 twelve =
     let v = base 0x1000 7 (replicate 32 0) in

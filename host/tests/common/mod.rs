@@ -5,7 +5,7 @@
 use curbizzolu as api;
 
 pub type Record = [u64; 58];
-/// A call: its kind and five numbers. 0 is no call and writes a word of the record; 1 to 12 are crate abi's kinds; 13 is to_print
+/// A call: its kind and five numbers. 0 is no call and writes a word of the record; 1 to 12 are words_call's kinds; 13 is to_print
 /// and 14 is new.
 pub type Call = [u64; 6];
 

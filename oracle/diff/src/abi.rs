@@ -1,4 +1,4 @@
-//! The proved library by crate abi's exported entry: one function over words.
+//! The proved library by crate words_entry's exported function: one function over words.
 
 use model::{Call, Reply, Vcpu};
 
@@ -51,7 +51,7 @@ impl Subject for Abi {
         reply_of(&words)
     }
 
-    /// The part to print is no exported function of crate abi: a host reads
+    /// The part to print is no exported function of crate words_entry: a host reads
     /// the count that waits under ask 4.
     fn to_print<'a>(&self, buffer: &'a [u8]) -> &'a [u8] {
         match self.0[54] {

@@ -69,7 +69,7 @@ fn main() -> ExitCode {
     let passed = match options.mode {
         Mode::Refusals => run_refusals(&options, subject),
         Mode::Words if options.subject != SubjectName::Abi => {
-            println!("mode words makes calls of crate abi: give --subject abi");
+            println!("mode words makes calls of crate words_entry: give --subject abi");
             false
         }
         Mode::Words => run_words(&options),

@@ -25,7 +25,7 @@ pub enum Mode {
 #[derive(Clone, Copy, PartialEq, Eq)]
 pub enum SubjectName {
     Model,
-    /// The proved library by crate abi's one exported function.
+    /// The proved library by crate words_entry's one exported function.
     Abi,
     /// The proved library by the exported functions of crates in_place_*.
     InPlace,
