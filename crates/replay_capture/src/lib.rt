@@ -6,15 +6,15 @@ ghost use Prim.Native.Nat.{_+_, _≤_};
 ghost use lib.ListN.{length};
 ghost use Rattle.replay_output.specs.Put.{Put};
 ghost use Rattle.replay_scope.specs.Output.{textOf};
-ghost use Rattle.replay_steps.specs.InPlace.{stateIn, stepIn};
+ghost use Rattle.replay_traps.specs.InPlace.{stateIn, stepIn};
 ghost use Rattle.replay_capture.specs.Feeds.{Feeds, Fills};
 use replay_scope::Gives;
 use replay_scope::Progress;
-use replay_steps::Turn;
+use replay_traps::Next;
 
 // A step over the first bytes of a slice, and where the bytes after them begin.
 pub struct Fed {
-    pub turn: Turn,
+    pub turn: Next,
     pub next: usize,
 }
 
@@ -60,7 +60,7 @@ fn feed(p: Progress, r: &mut [u64; 58], bytes: &[u8]) -> Fed
     ensures { λ f. ⌜ Feeds (stateIn (now (r .entry)) p) (now (bytes .entry)) (stepIn (now (r .exit)) (f .turn)) (f .next) ⌝ }
 {
     if p.over {
-        let turn = Turn {
+        let turn = Next {
             progress: p,
             gives: Gives::Nothing,
         };

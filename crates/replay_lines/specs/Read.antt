@@ -39,3 +39,7 @@ abbrev pub begins : List ℕ → List ℕ → Bool
 begins [] l = true
 begins (x ∷ key) [] = false
 begins (x ∷ key) (b ∷ l) = and (eqb b x) (begins key l)
+
+-- if it is not 0, r is the length of the key, with which the bytes begin, and they are long enough for its line
+abbrev pub Spelled : List ℕ → List ℕ → ℕ → Type 0
+Spelled key s r = 0 < r → (r ≡ length key) × (r + 17 ≤ length s) × (begins key s ≡ true)

@@ -1,10 +1,10 @@
 -- A line read at once, its digits by the digit reader's promise, is what it is byte by byte.
-use Prim.Native.Nat.{ℕ, suc, _+_, _-_, _≤_, _<_}
+use Prim.Native.Nat.{ℕ, suc, _+_, _-_, _*_, _≤_, _<_}
 use native.Mathlib.Nat.{add-zero}
 use native.Mathlib.Omega.{arith}
 use mathlib.Core.Bool.{Bool, true, false}
 use mathlib.Core.List.{List, [], _∷_, _++_, append-assoc, append-nil, foldl}
-use mathlib.Core.Path.{_≡_, refl, sym, ap, _∙_}
+use mathlib.Core.Path.{_≡_, refl, sym, ap, _∙_, subst}
 use native.Mathlib.Numerals.{add-one}
 use lib.Dec.{eqb, ltb}
 use lib.ListN.{drop, drop-of-length-le, getD, length, length-append, length-drop, take, take-append-drop}
@@ -16,8 +16,8 @@ use Rattle.replay_digits.specs.declared.Digits.the-variants as digits
 use Rattle.replay_digits.specs.Hex.{digitOf, hexOf}
 use Rattle.replay_scope.specs.declared.Got.{Got}
 use Rattle.replay_scope.specs.declared.Got.the-variants as got
-use Rattle.replay_scope.specs.Lines.{lineOf, nibbleOf, pushOf}
-use Rattle.replay_lines.specs.Read.{Read, after, begins, takenOf}
+use Rattle.replay_scope.specs.Lines.{fourAt, lineOf, nibbleOf, pushOf}
+use Rattle.replay_lines.specs.Read.{Read, Spelled, after, begins, takenOf}
 
 -- the key's next byte
 key-step : (key p : List ℕ) (x : ℕ) (xs : List ℕ) (v : ℕ) → key ≡ p ++ x ∷ xs → lineOf key (length p) v x ≡ got.More (length p + 1) v
@@ -145,11 +145,29 @@ whole-taken key s w h k b f e =
     ∙ ap (λ (l : List ℕ). record { got = got.Whole w; left = l }) (drop-drop 17 (length key) s)
 
 -- the same as the reader promises it
-pub whole-read : (key : List ℕ) (at v : ℕ) (s : List ℕ) (w : ℕ) → at ≡ 0 → v ≡ 0 → length key ≤ length s → 17 ≤ length s - length key → begins key s ≡ true
-    → getD s (length key + 16) 0 ≡ 10 → hexOf (take 16 (drop (length key) s)) ≡ digits.Number w → Read key at v s (record { got = got.Whole w; next = length key + 17 })
-whole-read key at v s w a z h k b f e =
+pub spelled-read : (key : List ℕ) (at v : ℕ) (s : List ℕ) (n w : ℕ) → at ≡ 0 → v ≡ 0 → 0 < n → Spelled key s n
+    → getD s (n + 16) 0 ≡ 10 → hexOf (take 16 (drop n s)) ≡ digits.Number w → Read key at v s (record { got = got.Whole w; next = n + 17 })
+spelled-read key at v s n w a z p q f e =
+    let m : n ≡ length key = q p .0 in
+    let l : n + 17 ≤ length s = q p .1 in
     record {
-      high = omega arith;
-      moves = λ m. omega arith;
-      reads = ap (λ (n : ℕ). takenOf key n v s) a ∙ ap (λ (n : ℕ). takenOf key 0 n s) z ∙ whole-taken key s w h k b f e;
+      high = l;
+      moves = λ k. omega arith;
+      reads =
+          ap (λ (k : ℕ). takenOf key k v s) a
+          ∙ ap (λ (k : ℕ). takenOf key 0 k s) z
+          ∙ whole-taken key s w (omega arith) (omega arith) (q p .2)
+          (subst (λ (k : ℕ). getD s (k + 16) 0 ≡ 10) m f)
+          (subst (λ (k : ℕ). hexOf (take 16 (drop k s)) ≡ digits.Number w) m e)
+          ∙ ap (λ (k : ℕ). record { got = got.Whole w; left = drop (k + 17) s }) (sym m);
     }
+
+-- the four bytes from i * 4 up to i * 4 + 4
+pub spelled-four : (keys : List ℕ) (i : ℕ) (s : List ℕ) (r : ℕ) → Spelled (take (i * 4 + 4 - i * 4) (drop (i * 4) keys)) s r → Spelled (fourAt keys i) s r
+spelled-four keys i s r h =
+    let n : i * 4 + 4 - i * 4 ≡ 4 = omega arith in
+    subst (λ (k : ℕ). Spelled (take k (drop (i * 4) keys)) s r) n h
+
+-- the key stands there
+pub spelled-key : (key s : List ℕ) → 17 ≤ length s → length key ≤ length s - 17 → begins key s ≡ true → Spelled key s (length key)
+spelled-key key s h k b p = (refl, omega arith, b)

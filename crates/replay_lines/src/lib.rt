@@ -5,7 +5,7 @@ ghost use mathlib.Core.Path.{_≡_};
 ghost use Prim.Native.Nat.{_+_, _≤_};
 ghost use lib.ListN.{length};
 ghost use Rattle.replay_scope.specs.Lines.{fourAt, headerKey, keyOf, lineOf};
-ghost use Rattle.replay_lines.specs.Read.{Read, begins as beginsWith};
+ghost use Rattle.replay_lines.specs.Read.{Read, Spelled, begins as beginsWith};
 use replay_digits::Digits;
 use replay_scope::Got;
 use replay_scope::Line;
@@ -17,75 +17,95 @@ pub struct Part {
     pub next: usize,
 }
 
-// Reads on in a line of a capture: to its end, to a byte that does not fit, or to the end of the bytes.
+// Reads on in a line of a capture: to its end, to a byte that does not fit, or to the end of the bytes. A line of which
+// nothing was read before, and that lies whole in the slice, is read at once.
 pub fn read(line: Line, s: &[u8]) -> Part
     ensures { λ r. ⌜ Read (keyOf (line .place)) (line .at) (line .value) (now (s .entry)) r ⌝ }
 {
     let place = line.place;
     let at = line.at;
     let v = line.value;
+    if at == 0 {
+        if v == 0 {
+            let n = spell(place, s);
+            if 0 < n {
+                let e = n + 16;
+                if s[e] == 10 {
+                    let d = replay_digits::read(s, n);
+                    match d {
+                        Digits::Number(w) => {
+                            return Part {
+                                got: Got::Whole(w),
+                                next: n + 17,
+                            };
+                        }
+                        Digits::Bad => {}
+                    }
+                }
+            }
+        }
+    }
+    scan_at(place, at, v, s)
+}
+
+// How long the key is, if the bytes begin with it and are long enough for the line; else 0.
+fn spell(place: Place, s: &[u8]) -> usize
+    ensures { λ r. ⌜ Spelled (keyOf place) (now (s .entry)) r ⌝ }
+{
     match place {
-        Place::Header(i) => read_header(i, at, v, s),
-        Place::Scause => read_by(b"scause=", at, v, s),
-        Place::Stval => read_by(b"stval=", at, v, s),
-        Place::Htval => read_by(b"htval=", at, v, s),
-        Place::Htinst => read_by(b"htinst=", at, v, s),
-        Place::Word => read_by(b"word=", at, v, s),
-        Place::More => read_by(b"more=", at, v, s),
+        Place::Header(i) => spell_header(i, s),
+        Place::Scause => spell_by(b"scause=", s),
+        Place::Stval => spell_by(b"stval=", s),
+        Place::Htval => spell_by(b"htval=", s),
+        Place::Htinst => spell_by(b"htinst=", s),
+        Place::Word => spell_by(b"word=", s),
+        Place::More => spell_by(b"more=", s),
     }
 }
 
 // The same for line i of the header.
-fn read_header(i: usize, at: usize, v: u64, s: &[u8]) -> Part
-    ensures { λ r. ⌜ Read (headerKey i) at v (now (s .entry)) r ⌝ }
+fn spell_header(i: usize, s: &[u8]) -> usize
+    ensures { λ r. ⌜ Spelled (headerKey i) (now (s .entry)) r ⌝ }
 {
     match i {
-        0 => read_by(b"sepc=", at, v, s),
-        1 => read_by(b"vstimecmp=", at, v, s),
-        _ => read_register(
+        0 => spell_by(b"sepc=", s),
+        1 => spell_by(b"vstimecmp=", s),
+        _ => spell_register(
             b"x01=x02=x03=x04=x05=x06=x07=x08=x09=x10=x11=x12=x13=x14=x15=x16=x17=x18=x19=x20=x21=x22=x23=x24=x25=x26=x27=x28=x29=x30=x31=",
             i - 2,
-            at,
-            v,
             s,
         ),
     }
 }
 
 // The same for the line of a general register, whose key is the four bytes at i * 4.
-fn read_register(keys: &[u8], i: usize, at: usize, v: u64, s: &[u8]) -> Part
+fn spell_register(keys: &[u8], i: usize, s: &[u8]) -> usize
     requires { ⌜ length (now keys) ≡ 124 ⌝ }
-    ensures { λ r. ⌜ Read (fourAt (now (keys .entry)) i) at v (now (s .entry)) r ⌝ }
+    ensures { λ r. ⌜ Spelled (fourAt (now (keys .entry)) i) (now (s .entry)) r ⌝ }
 {
     if i < 31 {
         let a = i * 4;
         let e = a + 4;
-        return read_by(&keys[a..e], at, v, s);
+        return spell_by(&keys[a..e], s);
     }
-    read_by(&keys[..0], at, v, s)
+    0
 }
 
-// The same by the key: at once where none of the line was read before and all of it lies in the slice.
-fn read_by(key: &[u8], at: usize, v: u64, s: &[u8]) -> Part
-    ensures { λ r. ⌜ Read (now (key .entry)) at v (now (s .entry)) r ⌝ }
+// The same by the key.
+fn spell_by(key: &[u8], s: &[u8]) -> usize
+    ensures { λ r. ⌜ Spelled (now (key .entry)) (now (s .entry)) r ⌝ }
 {
     let n = key.len();
-    if at == 0 && v == 0 && n <= s.len() && 17 <= s.len() - n && begins(key, s) {
-        let e = n + 16;
-        if s[e] == 10 {
-            let d = replay_digits::read(s, n);
-            match d {
-                Digits::Number(w) => {
-                    return Part {
-                        got: Got::Whole(w),
-                        next: n + 17,
-                    };
-                }
-                Digits::Bad => {}
-            }
-        }
+    if s.len() < 17 {
+        return 0;
     }
-    scan(key, at, v, s)
+    if s.len() - 17 < n {
+        return 0;
+    }
+    if begins(key, s) {
+        return n;
+    }
+    0
 }
 
 // Whether the bytes begin with the key.
@@ -103,7 +123,52 @@ fn begins(key: &[u8], s: &[u8]) -> bool
     true
 }
 
-// Byte by byte.
+// Reads on byte by byte.
+fn scan_at(place: Place, at: usize, v: u64, s: &[u8]) -> Part
+    ensures { λ r. ⌜ Read (keyOf place) at v (now (s .entry)) r ⌝ }
+{
+    match place {
+        Place::Header(i) => scan_header(i, at, v, s),
+        Place::Scause => scan(b"scause=", at, v, s),
+        Place::Stval => scan(b"stval=", at, v, s),
+        Place::Htval => scan(b"htval=", at, v, s),
+        Place::Htinst => scan(b"htinst=", at, v, s),
+        Place::Word => scan(b"word=", at, v, s),
+        Place::More => scan(b"more=", at, v, s),
+    }
+}
+
+// The same for line i of the header.
+fn scan_header(i: usize, at: usize, v: u64, s: &[u8]) -> Part
+    ensures { λ r. ⌜ Read (headerKey i) at v (now (s .entry)) r ⌝ }
+{
+    match i {
+        0 => scan(b"sepc=", at, v, s),
+        1 => scan(b"vstimecmp=", at, v, s),
+        _ => scan_register(
+            b"x01=x02=x03=x04=x05=x06=x07=x08=x09=x10=x11=x12=x13=x14=x15=x16=x17=x18=x19=x20=x21=x22=x23=x24=x25=x26=x27=x28=x29=x30=x31=",
+            i - 2,
+            at,
+            v,
+            s,
+        ),
+    }
+}
+
+// The same for the line of a general register.
+fn scan_register(keys: &[u8], i: usize, at: usize, v: u64, s: &[u8]) -> Part
+    requires { ⌜ length (now keys) ≡ 124 ⌝ }
+    ensures { λ r. ⌜ Read (fourAt (now (keys .entry)) i) at v (now (s .entry)) r ⌝ }
+{
+    if i < 31 {
+        let a = i * 4;
+        let e = a + 4;
+        return scan(&keys[a..e], at, v, s);
+    }
+    scan(&keys[..0], at, v, s)
+}
+
+// The same by the key.
 fn scan(key: &[u8], at: usize, v: u64, s: &[u8]) -> Part
     ensures { λ r. ⌜ Read (now (key .entry)) at v (now (s .entry)) r ⌝ }
 {

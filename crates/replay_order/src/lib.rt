@@ -3,7 +3,7 @@
 ghost use mathlib.Core.Path.{_≡_};
 ghost use Rattle.in_place_record.specs.View.{viewOf};
 ghost use Rattle.replay_scope.specs.Output.{afterHeader, begun, endGives, followedBy, gotOf, headedOf, keeping, lineDoes, mayEnd, readTo};
-ghost use Rattle.replay_steps.specs.InPlace.{stateIn, stepIn};
+ghost use Rattle.replay_traps.specs.InPlace.{stateIn, stepIn};
 use isa_types::GuestPhysAddr;
 use replay_scope::Gives;
 use replay_scope::Got;
@@ -11,7 +11,7 @@ use replay_scope::Kept;
 use replay_scope::Line;
 use replay_scope::Place;
 use replay_scope::Progress;
-use replay_steps::Turn;
+use replay_traps::Next;
 
 // Before the first byte: a zero record after setup.
 pub fn begin(r: &mut [u64; 58]) -> Progress
@@ -40,11 +40,11 @@ pub fn begin(r: &mut [u64; 58]) -> Progress
 }
 
 // What a reading of the line gave.
-pub fn take(p: Progress, r: &mut [u64; 58], g: Got) -> Turn
+pub fn take(p: Progress, r: &mut [u64; 58], g: Got) -> Next
     ensures { λ t. ⌜ stepIn (now (r .exit)) t ≡ gotOf (stateIn (now (r .entry)) p) g ⌝ }
 {
     match g {
-        Got::More(at, value) => Turn {
+        Got::More(at, value) => Next {
             progress: go_on(p, at, value),
             gives: Gives::Nothing,
         },
@@ -53,7 +53,7 @@ pub fn take(p: Progress, r: &mut [u64; 58], g: Got) -> Turn
             let place = line.place;
             do_line(place, p, r, n)
         }
-        Got::Unfit => replay_steps::unfit(p, r),
+        Got::Unfit => replay_traps::unfit(p, r),
     }
 }
 
@@ -108,15 +108,15 @@ fn go_on(p: Progress, at: usize, value: u64) -> Progress
 }
 
 // The number n of the line at each place.
-fn do_line(place: Place, p: Progress, r: &mut [u64; 58], n: u64) -> Turn
+fn do_line(place: Place, p: Progress, r: &mut [u64; 58], n: u64) -> Next
     ensures { λ t. ⌜ stepIn (now (r .exit)) t ≡ lineDoes place (stateIn (now (r .entry)) p) n ⌝ }
 {
     let mut kept = p.kept;
     match place {
         Place::Header(i) => {
             head(r, i, n);
-            Turn {
-                progress: replay_steps::follow(p, after_header(i)),
+            Next {
+                progress: replay_traps::follow(p, after_header(i)),
                 gives: Gives::Nothing,
             }
         }
@@ -132,17 +132,17 @@ fn do_line(place: Place, p: Progress, r: &mut [u64; 58], n: u64) -> Turn
             kept.htval = n;
             keep(p, kept, Place::Htinst)
         }
-        Place::Htinst => replay_steps::start(p, r, n),
+        Place::Htinst => replay_traps::start(p, r, n),
         Place::Word => {
             kept.word = n;
             keep(p, kept, Place::More)
         }
-        Place::More => replay_steps::pair(p, r, n),
+        Place::More => replay_traps::pair(p, r, n),
     }
 }
 
 // These numbers are kept, and the line at the place follows.
-fn keep(p: Progress, kept: Kept, place: Place) -> Turn
+fn keep(p: Progress, kept: Kept, place: Place) -> Next
     ensures { λ t. ⌜ (t .progress ≡ followedBy (keeping p kept) place) × (t .gives ≡ Gives.Nothing) ⌝ }
 {
     let line = p.line;
@@ -153,8 +153,8 @@ fn keep(p: Progress, kept: Kept, place: Place) -> Turn
         exit: p.exit,
         over: p.over,
     };
-    Turn {
-        progress: replay_steps::follow(q, place),
+    Next {
+        progress: replay_traps::follow(q, place),
         gives: Gives::Nothing,
     }
 }

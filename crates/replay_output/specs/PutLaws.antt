@@ -8,6 +8,7 @@ use mathlib.Core.Path.{_≡_, refl, sym, ap, _∙_, subst}
 use lib.ListN.{drop, getD, length, length-append, length-drop, length-set, set, take, take-append-drop}
 use lib.Seq.{append-snoc, drop-at, drop-cons, drop-drop, drop-set-lt, getD-set-same, length-take-le, lt-length-set, set-split, take-all, take-at, take-suc}
 use Rattle.replay_scope.specs.Lines.{glyph, lastDigits, lineText, sixteen}
+use Rattle.replay_scope.specs.TableLaws.{tabled, tabled-at, tabled-length}
 use Rattle.replay_output.specs.Put.{Put, PutLine, putAt}
 
 module _ (out : List ℕ) (at : ℕ) (t : List ℕ) (fits : at + length t ≤ length out) where
@@ -170,3 +171,11 @@ no-room out at key v h = record { room = λ k. absurd (omega arith); none = λ k
 -- a line with room is
 pub has-room : (out : List ℕ) (at : ℕ) (key : List ℕ) (v r : ℕ) (later : List ℕ) → at + length key + 17 ≤ length out → Put out at (lineText key v) r later → PutLine out at key v r later
 has-room out at key v r later h p = record { room = λ k. p; none = λ k. absurd (omega arith) }
+
+-- a byte of the table of digits
+pub glyph-at : (table : List ℕ) (d : ℕ) → (d < 16) × (table ≡ tabled glyph 16) → getD table d 0 ≡ glyph d
+glyph-at table d h = ap (λ (l : List ℕ). getD l d 0) (h .1) ∙ tabled-at glyph 16 d (h .0)
+
+-- it has one for each digit
+pub glyph-in : (table : List ℕ) (d : ℕ) → (d < 16) × (table ≡ tabled glyph 16) → d < length table
+glyph-in table d h = let n : length table ≡ 16 = ap length (h .1) ∙ tabled-length glyph 16 in omega (arith, h .0)

@@ -3,6 +3,7 @@ ghost use mathlib.Core.Path.{_≡_};
 ghost use Prim.Native.Nat.{_+_, _≤_, _<_};
 ghost use lib.ListN.{length};
 ghost use Rattle.replay_scope.specs.Lines.{glyph as glyphOf, lineText, sixteen};
+ghost use Rattle.replay_scope.specs.TableLaws.{tabled};
 ghost use Rattle.replay_output.specs.Put.{Put, PutLine, putAt};
 
 // Writes a line's text at a place of the buffer, and says where it ends. The other bytes stay. Where the line has no
@@ -49,9 +50,17 @@ fn put_key(key: &[u8], out: &mut [u8], at: usize)
     }
 }
 
-// From the last digit to the first.
+// The sixteen digits of a number.
 fn put_digits(v: u64, out: &mut [u8], at: usize)
     requires { ⌜ at + 16 ≤ length (now out) ⌝ }
+    ensures { λ _. ⌜ now (out .exit) ≡ putAt (now (out .entry)) at (sixteen v) ⌝ }
+{
+    put_by(b"0123456789abcdef", v, out, at)
+}
+
+// The same by a table that has each digit's byte, from the last digit to the first.
+fn put_by(table: &[u8], v: u64, out: &mut [u8], at: usize)
+    requires { ⌜ (at + 16 ≤ length (now out)) × (now table ≡ tabled glyphOf 16) ⌝ }
     ensures { λ _. ⌜ now (out .exit) ≡ putAt (now (out .entry)) at (sixteen v) ⌝ }
 {
     let mut i: usize = 16;
@@ -59,18 +68,16 @@ fn put_digits(v: u64, out: &mut [u8], at: usize)
     while 0 < i {
         i -= 1;
         let j = at + i;
-        out[j] = glyph(rest % 16);
+        out[j] = look_up(table, rest % 16);
         rest = rest / 16;
     }
 }
 
-// The byte of a digit.
-fn glyph(d: u64) -> u8
-    requires { ⌜ d < 16 ⌝ }
+// The byte of a digit in that table.
+fn look_up(table: &[u8], d: u64) -> u8
+    requires { ⌜ (d < 16) × (now table ≡ tabled glyphOf 16) ⌝ }
     ensures { λ r. ⌜ r ≡ glyphOf d ⌝ }
 {
-    if d < 10 {
-        return 48 + d as u8;
-    }
-    87 + d as u8
+    let i = d as usize;
+    table[i]
 }

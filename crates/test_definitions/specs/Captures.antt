@@ -19,13 +19,13 @@ use Rattle.scope.specs.Host as theHostCallsHostCalls
 use Rattle.scope.specs.Calls as theCallsCalls
 use Rattle.scope.specs.Resume as theCallsResume
 use Rattle.scope.specs.Classes as theCallsTraps
-use Rattle.replay_steps.specs.Pairs as theStepsPairs
-use Rattle.replay_steps.specs.Steps as theStepsSteps
+use Rattle.replay_traps.specs.Pairs as theStepsPairs
+use Rattle.replay_traps.specs.Steps as theStepsSteps
 use Rattle.replay_order.specs.Order as theOrderOrder
-use Rattle.replay_steps.specs.declared.State.{State}
-use Rattle.replay_steps.specs.declared.Step.{Step}
-use Rattle.replay_steps.specs.declared.Gives.{Gives}
-use Rattle.replay_steps.specs.declared.Gives.the-variants as gives
+use Rattle.replay_traps.specs.declared.State.{State}
+use Rattle.replay_traps.specs.declared.Step.{Step}
+use Rattle.replay_traps.specs.declared.Gives.{Gives}
+use Rattle.replay_traps.specs.declared.Gives.the-variants as gives
 use Rattle.replay_order.specs.Order.{begun, endOf, tookOf}
 use Rattle.test_definitions.specs.Same.{both, equal}
 use Prim.Native.Nat.{ℕ, _+_, _-_, _*_, _%_, _^_}

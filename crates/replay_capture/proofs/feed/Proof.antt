@@ -1,5 +1,5 @@
 -- `replay_capture::feed` meets its contract.
-use Rattle.replay_steps.specs.InPlace.{stepIn, stateIn}
+use Rattle.replay_traps.specs.InPlace.{stepIn, stateIn}
 use Rattle.replay_capture.specs.Laws.{read-feeds, over-feeds}
 use borrow.Author.Needs.{needs}
 use Rattle.replay_capture.proofs.feed.Statement.{statement}

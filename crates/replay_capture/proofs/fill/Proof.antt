@@ -1,6 +1,6 @@
 -- `replay_capture::fill` meets its contract.
 use borrow.Author.Needs.{needs}
-use Rattle.replay_steps.specs.InPlace.{stepIn, stateIn}
+use Rattle.replay_traps.specs.InPlace.{stepIn, stateIn}
 use Rattle.in_place_record.specs.Laws.{same}
 use Rattle.replay_scope.specs.Lines.{bytes}
 use Rattle.replay_scope.specs.Output.{stateAfter, outputOf}

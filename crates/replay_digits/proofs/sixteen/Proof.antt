@@ -1,5 +1,6 @@
 -- `replay_digits::sixteen` meets its contract.
 use borrow.Author.Needs.{needs}
+use mathlib.Core.Path.{refl}
 use Rattle.replay_digits.specs.Hex.{digitOf}
 use Rattle.replay_digits.specs.Laws.{soFar, digit-next, hex-none, hex-number, hex-bad}
 use native.Mathlib.Omega.{arith}
@@ -12,25 +13,25 @@ use Rattle.replay_digits.proofs.sixteen.Statement.{statement}
 use Rattle.replay_digits.proofs.sixteen.Tie as tie
 
 abbrev Inv-loop : tie.InvT-loop
-Inv-loop s v₀ bad₀ i₀ v bad i = (i ≤ 16) × (foldl digitOf (digits.Number 0) (take i s) ≡ soFar v bad)
+Inv-loop s each v₀ bad₀ i₀ v bad i = (i ≤ 16) × (foldl digitOf (digits.Number 0) (take i s) ≡ soFar v bad)
 
 abbrev μ-loop : tie.MeasureT-loop
-μ-loop s v₀ bad₀ i₀ v bad i = 16 - i
+μ-loop s each v₀ bad₀ i₀ v bad i = 16 - i
+
+find-requires : tie.Need-find-requires Inv-loop μ-loop
+find-requires c κs = search needs
 
 loop-holds : tie.Need-loop-holds Inv-loop μ-loop
 loop-holds c = (search needs, hex-none)
 
-shared-slice-read-nibble : tie.Need-shared-slice-read-nibble Inv-loop μ-loop
-shared-slice-read-nibble c = search needs
+array-read-wide : tie.Need-array-read-wide Inv-loop μ-loop
+array-read-wide c = search needs
 
-nibble-requires : tie.Need-nibble-requires Inv-loop μ-loop
-nibble-requires c κs = search needs
+wide-requires : tie.Need-wide-requires Inv-loop μ-loop
+wide-requires c κs = search needs
 
 push-requires : tie.Need-push-requires Inv-loop μ-loop
 push-requires c κs = search needs
-
-worse-requires : tie.Need-worse-requires Inv-loop μ-loop
-worse-requires c κs = search needs
 
 add-i : tie.Need-add-i Inv-loop μ-loop
 add-i c = search needs
@@ -39,13 +40,13 @@ loop-less : tie.Need-loop-less Inv-loop μ-loop
 loop-less c = search needs
 
 loop-again : tie.Need-loop-again Inv-loop μ-loop
-loop-again c = (search needs, digit-next (c .before .before .before .before .before .before .before .args .s .now) (c .before .before .before .before .before .loop .i) _ _ _ _ _ (omega arith) (c .before .before .before .before .before .loop .inv .1) (c .before .before .nibble .ensures) (c .before .push .ensures) (c .worse .ensures))
+loop-again c = (search needs, digit-next (c .before .before .before .before .before .before .before .args .s .now) (c .before .before .before .loop .i) _ _ _ _ _ (omega arith) (c .before .before .before .loop .inv .1) (c .before .wide .ensures ∙ c .before .before .before .before .find .ensures (c .before .before .before .loop .i) (c .before .before .loop-test .taken)) (c .push .ensures) refl)
 
 returns : tie.Need-returns Inv-loop μ-loop
-returns c = hex-number _ _ _ _ (c .before .before .before .before .pre) (c .before .loop-test .left) (c .before .before .loop .inv .1) (c .if1 .taken)
+returns c = hex-number _ _ _ _ (c .before .before .before .before .before .before .pre) (c .before .loop-test .left) (c .before .before .loop .inv .1) (c .if1 .taken)
 
 returns-2 : tie.Need-returns-2 Inv-loop μ-loop
-returns-2 c = hex-bad _ _ _ _ (c .before .before .before .before .pre) (c .before .loop-test .left) (c .before .before .loop .inv .1) (c .if1 .left)
+returns-2 c = hex-bad _ _ _ _ (c .before .before .before .before .before .before .pre) (c .before .loop-test .left) (c .before .before .loop .inv .1) (c .if1 .left)
 
 pub sixteen-spec : {M : Type 1} → statement M
 sixteen-spec =
@@ -53,11 +54,11 @@ sixteen-spec =
     (tie.spec
     Inv-loop
     μ-loop
+    find-requires
     loop-holds
-    shared-slice-read-nibble
-    nibble-requires
+    array-read-wide
+    wide-requires
     push-requires
-    worse-requires
     add-i
     loop-less
     loop-again

@@ -1,125 +1,52 @@
 -- `replay_lines::read` meets its contract.
-use Rattle.replay_scope.specs.Lines.{keyOf}
+use Rattle.replay_lines.specs.Whole.{spelled-read}
+use native.Mathlib.Omega.{arith}
+use mathlib.Core.Path.{sym, _∙_}
 use borrow.Author.Needs.{needs}
 use Rattle.replay_lines.proofs.read.Statement.{statement}
 use Rattle.replay_lines.proofs.read.Tie as tie
 
-enum-known-place : tie.Need-enum-known-place
-enum-known-place c = search needs
+spell-requires : tie.Need-spell-requires
+spell-requires c κs = search needs
 
-read-header-requires : tie.Need-read-header-requires
-read-header-requires c κs = search needs
+add-e : tie.Need-add-e
+add-e c = omega (arith, c .before .spell .ensures (c .if3 .taken) .1)
+
+shared-slice-read-if4 : tie.Need-shared-slice-read-if4
+shared-slice-read-if4 c = omega (arith, c .before .before .spell .ensures (c .before .if3 .taken) .1)
+
+read-requires : tie.Need-read-requires
+read-requires c κs = search needs
+
+enum-known-d : tie.Need-enum-known-d
+enum-known-d c = search needs
+
+add-t17 : tie.Need-add-t17
+add-t17 c = omega (arith, c .before .before .before .before .before .before .before .spell .ensures (c .before .before .before .before .before .before .if3 .taken) .1)
+
+returns : tie.Need-returns
+returns c = spelled-read _ _ _ _ _ _ (c .before .before .before .before .before .before .before .before .before .if1 .taken) (c .before .before .before .before .before .before .before .before .if2 .taken) (c .before .before .before .before .before .before .if3 .taken) (c .before .before .before .before .before .before .before .spell .ensures) (c .before .before .before .before .if4 .taken) (sym (c .before .before .before .read .ensures) ∙ c .before .d .given .1)
 
 enum-told : tie.Need-enum-told
 enum-told c = search needs
 
-slice-aggregate-read-by : tie.Need-slice-aggregate-read-by
-slice-aggregate-read-by c = search needs
-
-read-by-requires : tie.Need-read-by-requires
-read-by-requires c κs = search needs
-
-enum-told-2 : tie.Need-enum-told-2
-enum-told-2 c = search needs
-
-slice-aggregate-read-by-2 : tie.Need-slice-aggregate-read-by-2
-slice-aggregate-read-by-2 c = search needs
-
-read-by-requires-2 : tie.Need-read-by-requires-2
-read-by-requires-2 c κs = search needs
-
-enum-told-3 : tie.Need-enum-told-3
-enum-told-3 c = search needs
-
-slice-aggregate-read-by-3 : tie.Need-slice-aggregate-read-by-3
-slice-aggregate-read-by-3 c = search needs
-
-read-by-requires-3 : tie.Need-read-by-requires-3
-read-by-requires-3 c κs = search needs
-
-enum-told-4 : tie.Need-enum-told-4
-enum-told-4 c = search needs
-
-slice-aggregate-read-by-4 : tie.Need-slice-aggregate-read-by-4
-slice-aggregate-read-by-4 c = search needs
-
-read-by-requires-4 : tie.Need-read-by-requires-4
-read-by-requires-4 c κs = search needs
-
-enum-told-5 : tie.Need-enum-told-5
-enum-told-5 c = search needs
-
-slice-aggregate-read-by-5 : tie.Need-slice-aggregate-read-by-5
-slice-aggregate-read-by-5 c = search needs
-
-read-by-requires-5 : tie.Need-read-by-requires-5
-read-by-requires-5 c κs = search needs
-
-enum-told-6 : tie.Need-enum-told-6
-enum-told-6 c = search needs
-
-slice-aggregate-read-by-6 : tie.Need-slice-aggregate-read-by-6
-slice-aggregate-read-by-6 c = search needs
-
-read-by-requires-6 : tie.Need-read-by-requires-6
-read-by-requires-6 c κs = search needs
-
-returns : tie.Need-returns
-unfolding keyOf
-returns c = rw (c .before .before .place .given .1) (c .read-header .ensures)
+scan-at-requires : tie.Need-scan-at-requires
+scan-at-requires c κs = search needs
 
 returns-2 : tie.Need-returns-2
-unfolding keyOf
-returns-2 c = rw (c .before .before .enum-told .given .1) (c .read-by .ensures)
-
-returns-3 : tie.Need-returns-3
-unfolding keyOf
-returns-3 c = rw (c .before .before .enum-told2 .given .1) (c .read-by2 .ensures)
-
-returns-4 : tie.Need-returns-4
-unfolding keyOf
-returns-4 c = rw (c .before .before .enum-told3 .given .1) (c .read-by3 .ensures)
-
-returns-5 : tie.Need-returns-5
-unfolding keyOf
-returns-5 c = rw (c .before .before .enum-told4 .given .1) (c .read-by4 .ensures)
-
-returns-6 : tie.Need-returns-6
-unfolding keyOf
-returns-6 c = rw (c .before .before .enum-told5 .given .1) (c .read-by5 .ensures)
-
-returns-7 : tie.Need-returns-7
-unfolding keyOf
-returns-7 c = rw (c .before .before .enum-told6 .given .1) (c .read-by6 .ensures)
+returns-2 c = search needs
 
 pub read-spec : {M : Type 1} → statement M
 read-spec =
     tie.close
     (tie.spec
-    enum-known-place
-    read-header-requires
-    enum-told
-    slice-aggregate-read-by
-    read-by-requires
-    enum-told-2
-    slice-aggregate-read-by-2
-    read-by-requires-2
-    enum-told-3
-    slice-aggregate-read-by-3
-    read-by-requires-3
-    enum-told-4
-    slice-aggregate-read-by-4
-    read-by-requires-4
-    enum-told-5
-    slice-aggregate-read-by-5
-    read-by-requires-5
-    enum-told-6
-    slice-aggregate-read-by-6
-    read-by-requires-6
+    spell-requires
+    add-e
+    shared-slice-read-if4
+    read-requires
+    enum-known-d
+    add-t17
     returns
-    returns-2
-    returns-3
-    returns-4
-    returns-5
-    returns-6
-    returns-7)
+    enum-told
+    scan-at-requires
+    returns-2)

@@ -1,6 +1,6 @@
 -- `replay_order::begin` meets its contract.
 use Rattle.replay_scope.specs.Output.{begun}
-use Rattle.replay_steps.specs.InPlace.{stateIn}
+use Rattle.replay_traps.specs.InPlace.{stateIn}
 use borrow.Author.Needs.{needs}
 use Rattle.replay_order.proofs.begin.Statement.{statement}
 use Rattle.replay_order.proofs.begin.Tie as tie

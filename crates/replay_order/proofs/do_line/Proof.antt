@@ -1,6 +1,6 @@
 -- `replay_order::do_line` meets its contract.
 use Rattle.replay_scope.specs.Output.{lineDoes}
-use Rattle.replay_steps.specs.InPlace.{stepIn, stateIn}
+use Rattle.replay_traps.specs.InPlace.{stepIn, stateIn}
 use borrow.Author.Needs.{needs}
 use Rattle.replay_order.proofs.do_line.Statement.{statement}
 use Rattle.replay_order.proofs.do_line.Tie as tie

@@ -1,6 +1,6 @@
 -- `replay_order::take` meets its contract.
 use Rattle.replay_scope.specs.Output.{gotOf, numberTaken}
-use Rattle.replay_steps.specs.InPlace.{stepIn, stateIn}
+use Rattle.replay_traps.specs.InPlace.{stepIn, stateIn}
 use borrow.Author.Needs.{needs}
 use Rattle.replay_order.proofs.take.Statement.{statement}
 use Rattle.replay_order.proofs.take.Tie as tie

@@ -1,68 +1,22 @@
 -- `replay_output::put_digits` meets its contract.
-use borrow.Author.Needs.{needs}
 use mathlib.Core.Path.{refl}
-use Rattle.replay_scope.specs.Lines.{lastDigits}
-use Rattle.replay_output.specs.PutLaws.{digit-put, digits-put}
-use Prim.Native.Nat.{_+_, _-_, _≤_}
-use native.Mathlib.Omega.{arith}
-use mathlib.Core.List.{_++_}
-use mathlib.Core.Path.{_≡_, _∙_}
-use lib.ListN.{drop, length, take}
-use lib.Seq.{take-set-le}
+use Rattle.replay_scope.specs.TableLaws.{tabled}
+use borrow.Author.Needs.{needs}
 use Rattle.replay_output.proofs.put_digits.Statement.{statement}
 use Rattle.replay_output.proofs.put_digits.Tie as tie
 
-abbrev Inv-loop : tie.InvT-loop
-Inv-loop v out₀ at i₀ rest₀ out i rest = (i ≤ 16) × (length out ≡ length out₀) × (take at out ≡ take at out₀)
-    × (lastDigits i rest ++ drop (at + i) out ≡ lastDigits 16 v ++ drop (at + 16) out₀)
+slice-aggregate-put-by : tie.Need-slice-aggregate-put-by
+slice-aggregate-put-by c = search needs
 
-abbrev μ-loop : tie.MeasureT-loop
-μ-loop v out₀ at i₀ rest₀ out i rest = i
+put-by-requires : tie.Need-put-by-requires
+unfolding tabled
+put-by-requires c κs = (c .before .before .before .pre, refl)
 
-loop-holds : tie.Need-loop-holds Inv-loop μ-loop
-loop-holds c = (search needs, refl, refl, refl)
-
-sub-i : tie.Need-sub-i Inv-loop μ-loop
-sub-i c = search needs
-
-add-j : tie.Need-add-j Inv-loop μ-loop
-add-j c = search needs
-
-glyph-requires : tie.Need-glyph-requires Inv-loop μ-loop
-glyph-requires c κs = search needs
-
-slice-write-out : tie.Need-slice-write-out Inv-loop μ-loop
-slice-write-out c = search needs
-
-loop-less : tie.Need-loop-less Inv-loop μ-loop
-loop-less c = search needs
-
-loop-again : tie.Need-loop-again Inv-loop μ-loop
-loop-again c = (
-  search needs,
-  search needs,
-  take-set-le (c .before .before .before .before .args .at) (c .before .before .loop .out) (c .before .before .before .before .args .at + (c .before .before .loop .i - 1)) _ (omega arith) ∙ c .before .before .loop .inv .2,
-  digit-put (c .before .before .before .before .args .at) (c .before .before .loop .i) (c .before .before .loop .rest) _ (c .before .before .loop .out) _ (omega arith) (omega arith) (c .glyph .ensures) (c .before .before .loop .inv .3),
-)
-
-same-length : tie.Need-same-length Inv-loop μ-loop
+same-length : tie.Need-same-length
 same-length c = search needs
 
-returns : tie.Need-returns Inv-loop μ-loop
-returns c = digits-put (c .before .before .before .args .at) (c .before .loop .i) (c .before .loop .rest) _ (c .before .loop .out) _ (c .loop-test .left) (c .before .loop .inv .2) (c .before .loop .inv .3)
+returns : tie.Need-returns
+returns c = search needs
 
 pub put-digits-spec : {M : Type 1} → statement M
-put-digits-spec =
-    tie.close
-    (tie.spec
-    Inv-loop
-    μ-loop
-    loop-holds
-    sub-i
-    add-j
-    glyph-requires
-    slice-write-out
-    loop-less
-    loop-again
-    same-length
-    returns)
+put-digits-spec = tie.close (tie.spec slice-aggregate-put-by put-by-requires same-length returns)

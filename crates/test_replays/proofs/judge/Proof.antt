@@ -1,5 +1,5 @@
 -- `test_replays::judge` meets its contract.
-use Rattle.replay_steps.specs.InPlace.{stateIn}
+use Rattle.replay_traps.specs.InPlace.{stateIn}
 use Rattle.replay_capture.specs.Laws.{written-end}
 use Rattle.test_replays.proofs.Judging.{judged}
 use mathlib.Core.Path.{sym}
