@@ -90,14 +90,20 @@ def modules():
     return found
 
 
+def sources():
+    """The files of every library: the crate, the module (none for lib.rt), the text."""
+    for crate in crates():
+        folder = f'{ROOT}/crates/{crate}/src'
+        if os.path.exists(f'{folder}/lib.rt'):
+            for name in sorted(os.listdir(folder)):
+                yield crate, '' if name == 'lib.rt' else name[:-3], read(f'{folder}/{name}')
+
+
 def declared():
     """The structs and enums of every crate: the text, the fields of each struct, the cases of each enum with their types."""
     texts, structs, enums = [], {}, {}
-    for crate in crates():
-        path = f'{ROOT}/crates/{crate}/src/lib.rt'
-        if not os.path.exists(path):
-            continue
-        for m in re.finditer(r'^pub (struct|enum) (\w+)[^\n]*?(?:;\n|\{\n(.*?)^\}\n)', read(path), re.M | re.S):
+    for _, _, text in sources():
+        for m in re.finditer(r'^pub (struct|enum) (\w+)[^\n]*?(?:;\n|\{\n(.*?)^\}\n)', text, re.M | re.S):
             texts.append(m.group(0))
             body = re.sub(r'//.*', '', m.group(3) or '')
             if m.group(1) == 'struct':
@@ -119,7 +125,8 @@ def home(mods, name, kind=''):
 # ---- the scratch crate
 
 def renamed(text):
-    text = re.sub(r'Rattle·\w+?(?:·specs)?\.specs\.declared\.', SPECS + 'declared.', text)
+    # a type may stand in a module of its crate; the scratch crate has no modules
+    text = re.sub(r'Rattle·\w+?(?:·specs)?\.specs\.declared\.(?:[a-z]\w*\.)?', SPECS + 'declared.', text)
     return re.sub(r'Rattle·(?!d·)(\w+?)(?:·specs)?\.specs\.(\w+)', lambda m: SPECS + camel(m.group(1)) + m.group(2), text)
 
 
@@ -354,7 +361,7 @@ def published(mods, traps=None, size=1):
 use {SPECS}declared.Step.{{Step}}
 use {SPECS}declared.Gives.{{Gives}}
 use {SPECS}declared.Gives.the-variants as gives
-use {SPECS}{home(mods, 'tookOf')}.{{begun, endOf, tookOf}}
+use {SPECS}{home(mods, 'numberTaken')}.{{begun, endGives, numberTaken}}
 ''' + HEAD + '''
 abbrev numbers : Gives → List ℕ → List ℕ
 numbers gives.Nothing l = l
@@ -365,8 +372,8 @@ abbrev put : Step → (State → List ℕ) → List ℕ
 put s on = numbers (s .gives) (on (s .state))
 
 abbrev gave : State → List ℕ → List ℕ
-gave s [] = numbers (endOf s) []
-gave s (n ∷ l) = put (tookOf s n) (λ t. gave t l)
+gave s [] = numbers (endGives (s .progress)) []
+gave s (n ∷ l) = put (numberTaken s n) (λ t. gave t l)
 '''
     data = f'{ROOT}/crates/test_replays/data/published'
     rows = []
@@ -388,8 +395,7 @@ def whole(mods, names, skip):
 use Prim.Native.String.{{String, [] as none, _∷_ as _then_}}
 use {SPECS}declared.State.{{State}}
 use {SPECS}declared.Step.{{Step}}
-use {SPECS}{home(mods, 'tookOf')}.{{begun, endOf, tookOf}}
-use {SPECS}{home(mods, 'replayOf')}.{{afterOf, outOf, replayOf, textOf}}
+use {SPECS}{home(mods, 'replayOf')}.{{begun, endGives, numberTaken, outputOf, replayOf, stateAfter, textOf}}
 """ + HEAD + """
 abbrev raw : String → List ℕ
 raw none = []
@@ -399,8 +405,8 @@ abbrev put : Step → (State → List ℕ) → List ℕ
 put s on = textOf (s .gives) ++ on (s .state)
 
 abbrev behind : State → List ℕ → List ℕ → List ℕ
-behind s [] rest = outOf s rest ++ textOf (endOf (afterOf s rest))
-behind s (n ∷ l) rest = put (tookOf s n) (λ t. behind t l rest)
+behind s [] rest = outputOf s rest ++ textOf (endGives (stateAfter s rest .progress))
+behind s (n ∷ l) rest = put (numberTaken s n) (λ t. behind t l rest)
 """
 
     def quoted(data):
@@ -528,14 +534,11 @@ calls call kind numbers before code out after =
 def housed(mods, text):
     """Equations over the repository's own crates, each with every definition named on its `unfolding` line."""
     short = {m.short: m for m in mods.values()}
-    homes = {}
-    for crate in crates():
-        path = f'{ROOT}/crates/{crate}/src/lib.rt'
-        for name in re.findall(r'^pub (?:struct|enum) (\w+)', read(path), re.M) if os.path.exists(path) else []:
-            homes[name] = crate
+    homes = {name: f'Rattle.{crate}.specs.declared.{module and module + "."}{name}' for crate, module, code in sources()
+             for name in re.findall(r'^pub (?:struct|enum) (\w+)', code, re.M)}
     used = reached(mods, [text])
-    text = text.replace(IMPORTS + SAME, IMPORTS + 'use Rattle.listed.specs.Same.{both, equal}\n')
-    text = re.sub(re.escape(SPECS) + r'declared\.(\w+)', lambda m: f'Rattle.{homes[m.group(1)]}.specs.declared.{m.group(1)}', text)
+    text = text.replace(IMPORTS + SAME, IMPORTS + 'use Rattle.test_definitions.specs.Same.{both, equal}\n')
+    text = re.sub(re.escape(SPECS) + r'declared\.(\w+)', lambda m: homes[m.group(1)], text)
     text = re.sub(re.escape(SPECS) + r'(\w+)', lambda m: f'Rattle.{short[m.group(1)].crate}.specs.{short[m.group(1)].name}', text)
     names, lines = [], ''
     for m in used:
@@ -550,7 +553,7 @@ def housed(mods, text):
 
 def write_listed():
     """crates/test_definitions: the rows of the list, and some of the vectors and captures, for the gate."""
-    mods = {k: m for k, m in modules().items() if k[0] != 'listed' or k[1] == 'Further'}
+    mods = {k: m for k, m in modules().items() if k[0] != 'test_definitions' or k[1] == 'Further'}
     about = {'Rows': ('The rows of the fixed list of calls (docs/CALLS.md): what the definitions give on each. The plain Rust program of document 01 says what is right.', rows_of(mods)),
              'Vectors': ('Every fortieth of the vectors (docs/VECTORS.md): what the definitions give. objdump and qemu say what is right.', vectors(mods, 40, 10 ** 6)),
              'Captures': ('The first four traps of each stored capture of the published Rust (docs/CAPTURES.md), by the numbers of its lines.', published(mods, 4, 10 ** 6))}
@@ -769,7 +772,7 @@ def typed(pattern, kind, variants, enums):
 def candidates(module, mods, structs, enums):
     """Every change of every definition of a file by rule: (definition, rule, place, old, new, the file)."""
     text = module.text
-    variants = dict((alias, enum) for enum, alias in re.findall(r'declared\.(\w+)\.the-variants as (\S+)', text))
+    variants = dict((alias, enum) for enum, alias in re.findall(r'declared\.(?:[a-z]\w*\.)?(\w+)\.the-variants as (\S+)', text))
     families = [[n.strip() for n in names.split(',')] for names in re.findall(r'^use Rattle·\w+?(?:·specs)?\.specs\.(?!declared)\w+\.\{([^}]*)\}', text, re.M)]
     families.append([b[3] for b in module.blocks() if b[2]])
     names = {}

@@ -1,37 +1,35 @@
 -- The first four traps of each stored capture of the published Rust (docs/CAPTURES.md), by the numbers of its lines.
 -- tools/definitions.py listed writes this file.
-use Rattle.scope.specs.Refusals as theTypesNumbers
-use Rattle.scope.specs.Trap as theTypesNumbers2
-use Rattle.isa_consts.specs.Traps as theConstsTraps
-use Rattle.isa_registers.specs.Bits as theRegistersBits
-use Rattle.isa_registers.specs.Values as theRegistersValues
-use Rattle.isa_fields.specs.Fields as theFieldsFields
-use Rattle.isa_extension.specs.Extend as theExtensionExtend
-use Rattle.isa_decoder.specs.Decode as theDecoderDecode
-use Rattle.isa_decoder.specs.Length as theDecoderLength
-use Rattle.scope.specs.Ecalls as theSbiIpiIpi
-use Rattle.scope.specs.Record as theRegsRecord
-use Rattle.scope.specs.Decided as theSbiCalls
-use Rattle.scope.specs.FetchFaults as theFetchFaults
-use Rattle.scope.specs.VirtualInstruction as theVirtualInstStimecmp
-use Rattle.scope.specs.GuestPageFault as thePageFaultMmio
-use Rattle.scope.specs.Host as theHostCallsHostCalls
-use Rattle.scope.specs.Calls as theCallsCalls
-use Rattle.scope.specs.Resume as theCallsResume
-use Rattle.scope.specs.Classes as theCallsTraps
-use Rattle.replay_traps.specs.Pairs as theStepsPairs
-use Rattle.replay_traps.specs.Steps as theStepsSteps
-use Rattle.replay_order.specs.Order as theOrderOrder
-use Rattle.replay_traps.specs.declared.State.{State}
-use Rattle.replay_traps.specs.declared.Step.{Step}
-use Rattle.replay_traps.specs.declared.Gives.{Gives}
-use Rattle.replay_traps.specs.declared.Gives.the-variants as gives
-use Rattle.replay_order.specs.Order.{begun, endOf, tookOf}
-use Rattle.test_definitions.specs.Same.{both, equal}
+use Rattle.isa_consts.specs.Traps as theIsaConstsTraps
+use Rattle.isa_decoder.specs.Decode as theIsaDecoderDecode
+use Rattle.isa_decoder.specs.Length as theIsaDecoderLength
+use Rattle.isa_extension.specs.Extend as theIsaExtensionExtend
+use Rattle.isa_fields.specs.Fields as theIsaFieldsFields
+use Rattle.isa_registers.specs.Bits as theIsaRegistersBits
+use Rattle.isa_registers.specs.Values as theIsaRegistersValues
+use Rattle.scope.specs.OneTrap as theScopeOneTrap
+use Rattle.scope.specs.Answers as theScopeAnswers
+use Rattle.scope.specs.Refusals as theScopeRefusals
+use Rattle.scope.specs.Record as theScopeRecord
+use Rattle.scope.specs.Host as theScopeHost
+use Rattle.scope.specs.Classes as theScopeClasses
+use Rattle.scope.specs.Ecalls as theScopeEcalls
+use Rattle.scope.specs.VirtualInstruction as theScopeVirtualInstruction
+use Rattle.scope.specs.GuestPageFault as theScopeGuestPageFault
+use Rattle.scope.specs.Calls as theScopeCalls
+use Rattle.scope.specs.Words as theScopeWords
+use Rattle.replay_scope.specs.Lines as theReplayScopeLines
+use Rattle.replay_scope.specs.Output as theReplayScopeOutput
+use Rattle.replay_scope.specs.declared.State.{State}
+use Rattle.replay_scope.specs.declared.Step.{Step}
+use Rattle.replay_scope.specs.declared.Gives.{Gives}
+use Rattle.replay_scope.specs.declared.Gives.the-variants as gives
+use Rattle.replay_scope.specs.Output.{begun, endGives, numberTaken}
 use Prim.Native.Nat.{ℕ, _+_, _-_, _*_, _%_, _^_}
 use mathlib.Core.Bool.{Bool, true, false}
 use mathlib.Core.List.{List, [], _∷_, _++_}
 use lib.Dec.{eqb, ltb, T}
+use Rattle.test_definitions.specs.Same.{both, equal}
 
 abbrev numbers : Gives → List ℕ → List ℕ
 numbers gives.Nothing l = l
@@ -42,8 +40,8 @@ abbrev put : Step → (State → List ℕ) → List ℕ
 put s on = numbers (s .gives) (on (s .state))
 
 abbrev gave : State → List ℕ → List ℕ
-gave s [] = numbers (endOf s) []
-gave s (n ∷ l) = put (tookOf s n) (λ t. gave t l)
+gave s [] = numbers (endGives (s .progress)) []
+gave s (n ∷ l) = put (numberTaken s n) (λ t. gave t l)
 
 abbrev row-0 : Bool
 row-0 = equal (gave begun (18446744073066662796 ∷ 144115188075855872 ∷ 231 ∷ 18446744073709551615 ∷ 11114806732485067129 ∷ 562949953421311 ∷ 13562663122838169771 ∷ 17380902249590141373 ∷ 18446744073709551614 ∷ 0 ∷ 18014398509481983 ∷ 1099511627776 ∷ 14959431256575638897 ∷ 1177 ∷ 1 ∷ 18446744073709551604 ∷ 1152921504606846975 ∷ 2 ∷ 16 ∷ 8082597921027130258 ∷ 13712341377067758561 ∷ 13276582401540772450 ∷ 12675093147190765958 ∷ 18446744073709551609 ∷ 3233874389540983591 ∷ 18446744073709551615 ∷ 8403911047150462886 ∷ 13532266228047293866 ∷ 10973995259460859333 ∷ 9452875016076079980 ∷ 3273957690 ∷ 4505 ∷ 10458727604598930387 ∷ 10 ∷ 2395 ∷ 15073560687592706675 ∷ 895766944 ∷ 11554730831843375462 ∷ 3732119019852744478 ∷ 21 ∷ 990960147 ∷ 18446744073709551615 ∷ 13571 ∷ 4194303 ∷ 2323 ∷ 21 ∷ 18446744071926705294 ∷ 541286214193417468 ∷ 13827 ∷ 127 ∷ 14620205291415964264 ∷ 21 ∷ 2513272889231297243 ∷ 13845140924713146546 ∷ 14339 ∷ 6 ∷ 5416366711956918498 ∷ [])) (0 ∷ 18446744073066662800 ∷ 11554730831843375462 ∷ 3732119019852744478 ∷ 9 ∷ 18446744073066662804 ∷ 4194303 ∷ 3732119019852744478 ∷ 9 ∷ 18446744073066662808 ∷ 4194303 ∷ 3732119019852744478 ∷ 9 ∷ 18446744073066662812 ∷ 4194303 ∷ 3732119019852744478 ∷ [])
@@ -229,5 +227,5 @@ abbrev row-60 : Bool
 row-60 = equal (gave begun (580297996689182347 ∷ 14383355142125896061 ∷ 11 ∷ 18446744073709551615 ∷ 18446744073009889093 ∷ 18446744073709551607 ∷ 7961990061063608870 ∷ 11 ∷ 72057594037927935 ∷ 0 ∷ 2 ∷ 8 ∷ 9874717285410402221 ∷ 11511835567473645518 ∷ 17087868956471828389 ∷ 1 ∷ 1853303259 ∷ 1 ∷ 3842147611772776400 ∷ 18446744073709551610 ∷ 9502028534134515256 ∷ 3144086440153372355 ∷ 1261445223168201859 ∷ 8054610332641404077 ∷ 1490682193 ∷ 16720391943930985761 ∷ 0 ∷ 0 ∷ 1 ∷ 7681012100987448341 ∷ 2147483648 ∷ 639337963543153515 ∷ 0 ∷ 21 ∷ 1257194435 ∷ 18446744073709551603 ∷ 2 ∷ 22 ∷ 1238404922052007 ∷ 5447218030234493435 ∷ 1401 ∷ 16313899617715768357 ∷ 0 ∷ 22 ∷ 4294967295 ∷ 18446744073709551614 ∷ 18446744073709551615 ∷ 16839951007158541219 ∷ 0 ∷ 23 ∷ 4 ∷ 5345329136853204508 ∷ 18446744073340816125 ∷ [])) (261 ∷ 580297996689182347 ∷ 8 ∷ 9874717285410402221 ∷ 259 ∷ 580297996689182347 ∷ 8 ∷ 9874717285410402221 ∷ 259 ∷ 580297996689182347 ∷ 8 ∷ 9874717285410402221 ∷ 8 ∷ 580297996689182347 ∷ 8 ∷ 9874717285410402221 ∷ [])
 
 rows-60 : T (both row-0 (both row-1 (both row-2 (both row-3 (both row-4 (both row-5 (both row-6 (both row-7 (both row-8 (both row-9 (both row-10 (both row-11 (both row-12 (both row-13 (both row-14 (both row-15 (both row-16 (both row-17 (both row-18 (both row-19 (both row-20 (both row-21 (both row-22 (both row-23 (both row-24 (both row-25 (both row-26 (both row-27 (both row-28 (both row-29 (both row-30 (both row-31 (both row-32 (both row-33 (both row-34 (both row-35 (both row-36 (both row-37 (both row-38 (both row-39 (both row-40 (both row-41 (both row-42 (both row-43 (both row-44 (both row-45 (both row-46 (both row-47 (both row-48 (both row-49 (both row-50 (both row-51 (both row-52 (both row-53 (both row-54 (both row-55 (both row-56 (both row-57 (both row-58 (both row-59 (both row-60 (true))))))))))))))))))))))))))))))))))))))))))))))))))))))))))))))
-unfolding theTypesNumbers2.widthBytes theTypesNumbers2.accessNumber theTypesNumbers2.exitNumber theTypesNumbers2.askNumber theTypesNumbers2.answerNumber theTypesNumbers2.fetchNumber theTypesNumbers.errorNumber theTypesNumbers2.abiNumber theTypesNumbers2.flagOf theConstsTraps.supervisorExternal theConstsTraps.knownInterrupt theConstsTraps.knownException theConstsTraps.knownCause theRegistersBits.spvpOf theRegistersBits.sieOf theRegistersBits.withBits theRegistersValues.hgatpOf theRegistersValues.guestPageFaultAddr theRegistersValues.delegatedExceptions theRegistersValues.delegatedInterrupts theFieldsFields.opcodeField theFieldsFields.rdField theFieldsFields.funct3Field theFieldsFields.rs1Field theFieldsFields.rs2Field theFieldsFields.csrField theExtensionExtend.widthBits theExtensionExtend.signedBy theExtensionExtend.extendBy theExtensionExtend.cutOf theExtensionExtend.extendOf theDecoderDecode.loadOf theDecoderDecode.storeOf theDecoderDecode.decodeBy theDecoderDecode.decodeOf theDecoderLength.transformedOf theDecoderLength.htinstOf theDecoderLength.fetchedOf theDecoderLength.opSource theDecoderLength.storeSource theSbiIpiIpi.standardRequest theSbiIpiIpi.legacyRequest theSbiIpiIpi.completionNumber theRegsRecord.valueOf theRegsRecord.stored theRegsRecord.moved theRegsRecord.timed theRegsRecord.pended theRegsRecord.eventNumber theRegsRecord.bumped theRegsRecord.counted theRegsRecord.waitingAsk theRegsRecord.isIdle theRegsRecord.listed theRegsRecord.applied theRegsRecord.noArgs theTypesNumbers.finishedOf theTypesNumbers.askingOf theTypesNumbers.failedOf theTypesNumbers.refusedOf theTypesNumbers.doneOf theTypesNumbers.guardedOf theTypesNumbers.unlessAsking theSbiCalls.notSupportedOf theSbiIpiIpi.lesserOf theSbiCalls.timeOf theSbiCalls.spiOf theSbiCalls.hsmOf theSbiCalls.srstOf theSbiCalls.spanOf theSbiCalls.consoleOf theSbiCalls.dbcnOf theSbiCalls.rfncOf theSbiCalls.callOf theSbiIpiIpi.returnsOf theSbiIpiIpi.movesOf theSbiIpiIpi.staysOf theSbiIpiIpi.asksOf theSbiIpiIpi.setTimerOf theSbiIpiIpi.clearIpiOf theSbiIpiIpi.hypercallOf theSbiCalls.callEffect theFetchFaults.askFetchOf theFetchFaults.missedOf theFetchFaults.trapStatusOf theFetchFaults.injectedOf theFetchFaults.missedEffect theVirtualInstStimecmp.setOf theVirtualInstStimecmp.clearedOf theVirtualInstStimecmp.stimecmpOf theVirtualInstStimecmp.csrBy theVirtualInstStimecmp.csrOf theVirtualInstStimecmp.startBy theVirtualInstStimecmp.startOf theVirtualInstStimecmp.csrEffect thePageFaultMmio.loadOf thePageFaultMmio.storeOf thePageFaultMmio.faultOf thePageFaultMmio.faultEffect theSbiIpiIpi.maskOf theSbiIpiIpi.copiedOf theSbiIpiIpi.readOf theSbiIpiIpi.copiedOutOf theSbiIpiIpi.answeredOf theSbiIpiIpi.answeredEffect thePageFaultMmio.completedOf theHostCallsHostCalls.setupCsrs theHostCallsHostCalls.entryCsrs theHostCallsHostCalls.writeEffect theHostCallsHostCalls.tableCsrs theHostCallsHostCalls.pagingBy theHostCallsHostCalls.pagingEffect theHostCallsHostCalls.pendingBy theHostCallsHostCalls.pendingEffect theHostCallsHostCalls.ipiWrites theCallsCalls.newOf theCallsCalls.setupOf theCallsCalls.setEntryOf theCallsCalls.getGprOf theCallsCalls.setGprOf theCallsCalls.setReturnOf theCallsCalls.pagingOf theCallsCalls.pendingOf theCallsCalls.latchOf theCallsCalls.completeIpiOf theCallsCalls.startOf theCallsCalls.answerOf theCallsCalls.completeLoadOf theCallsCalls.printCount theCallsCalls.firstOf theCallsCalls.printedOf theCallsResume.resumedOf theCallsResume.fetchedOf theCallsResume.plainOf theCallsResume.continuedOf theCallsResume.answerEffect theCallsTraps.argumentsOf theCallsTraps.sbiOf theCallsTraps.stimecmpOf theCallsTraps.mmioOf theCallsTraps.pageFaultOf theCallsTraps.externalOf theCallsTraps.otherOf theCallsTraps.trapOf theCallsTraps.startEffect theStepsPairs.fetchFor theStepsPairs.answerFor theStepsSteps.nextOf theStepsSteps.codeOf theStepsSteps.calledOf theStepsSteps.trappedOf theStepsSteps.settledOf theStepsSteps.badOf theStepsSteps.startedOf theStepsSteps.pairedOf theStepsSteps.moreOf theOrderOrder.begun theOrderOrder.headedOf theOrderOrder.headerOf theOrderOrder.keptOf theOrderOrder.tookOf theOrderOrder.withOf theOrderOrder.gaveOf theOrderOrder.endOf theSbiIpiIpi.ecallEffect theSbiIpiIpi.timeEffect theSbiIpiIpi.spiEffect theSbiIpiIpi.hsmEffect theSbiIpiIpi.srstEffect theSbiIpiIpi.spanEffect theSbiIpiIpi.consoleEffect theSbiIpiIpi.dbcnEffect theSbiIpiIpi.rfncEffect theSbiIpiIpi.forwardEffect theSbiIpiIpi.notSupportedEffect
+unfolding theIsaConstsTraps.supervisorExternal theIsaConstsTraps.knownInterrupt theIsaConstsTraps.knownException theIsaConstsTraps.knownCause theIsaDecoderDecode.loadOf theIsaDecoderDecode.storeOf theIsaDecoderDecode.decodeBy theIsaDecoderDecode.decodeOf theIsaDecoderLength.transformedOf theIsaDecoderLength.htinstOf theIsaDecoderLength.fetchedOf theIsaDecoderLength.opSource theIsaDecoderLength.storeSource theIsaExtensionExtend.widthBits theIsaExtensionExtend.signedBy theIsaExtensionExtend.extendBy theIsaExtensionExtend.cutOf theIsaExtensionExtend.extendOf theIsaFieldsFields.opcodeField theIsaFieldsFields.rdField theIsaFieldsFields.funct3Field theIsaFieldsFields.rs1Field theIsaFieldsFields.rs2Field theIsaFieldsFields.csrField theIsaRegistersBits.spvpOf theIsaRegistersBits.sieOf theIsaRegistersBits.withBits theIsaRegistersValues.hgatpOf theIsaRegistersValues.guestPageFaultAddr theIsaRegistersValues.delegatedExceptions theIsaRegistersValues.delegatedInterrupts theScopeOneTrap.widthBytes theScopeOneTrap.accessNumber theScopeOneTrap.exitNumber theScopeOneTrap.askNumber theScopeOneTrap.answerNumber theScopeOneTrap.fetchNumber theScopeOneTrap.abiNumber theScopeOneTrap.flagOf theScopeOneTrap.exitValues theScopeOneTrap.askValues theScopeOneTrap.fetchValue theScopeOneTrap.answerValues theScopeOneTrap.fetchOf theScopeOneTrap.answerFor theScopeAnswers.wordEffect theScopeAnswers.fetchEffect theScopeAnswers.numbersEffect theScopeAnswers.fittingEffect theScopeAnswers.answerEffect theScopeRefusals.errorNumber theScopeRefusals.finishedOf theScopeRefusals.askingOf theScopeRefusals.failedOf theScopeRefusals.leavesOf theScopeRefusals.refusedOf theScopeRefusals.doneOf theScopeRefusals.unlessAsking theScopeRecord.valueOf theScopeRecord.stored theScopeRecord.moved theScopeRecord.timed theScopeRecord.pended theScopeRecord.eventNumber theScopeRecord.bumped theScopeRecord.counted theScopeRecord.ecallAskNumber theScopeRecord.waitingAsk theScopeRecord.isIdle theScopeRecord.listed theScopeRecord.applied theScopeRecord.noArgs theScopeHost.setupCsrs theScopeHost.entryCsrs theScopeHost.writeEffect theScopeHost.tableCsrs theScopeHost.pagingBy theScopeHost.pagingEffect theScopeHost.pendingEffect theScopeHost.ipiWrites theScopeClasses.classOf theScopeClasses.argumentsOf theScopeClasses.classEffect theScopeClasses.startEffect theScopeEcalls.returnsOf theScopeEcalls.movesOf theScopeEcalls.givesOf theScopeEcalls.staysOf theScopeEcalls.asksOf theScopeEcalls.setTimerOf theScopeEcalls.clearIpiOf theScopeEcalls.hypercallOf theScopeEcalls.lesserOf theScopeEcalls.notSupportedEffect theScopeEcalls.forwardEffect theScopeEcalls.timeEffect theScopeEcalls.standardRequest theScopeEcalls.spiEffect theScopeEcalls.hsmEffect theScopeEcalls.srstEffect theScopeEcalls.spanEffect theScopeEcalls.consoleEffect theScopeEcalls.dbcnEffect theScopeEcalls.rfncEffect theScopeEcalls.ecallEffect theScopeEcalls.legacyRequest theScopeEcalls.maskEffect theScopeEcalls.copiedEffect theScopeEcalls.consoleReadEffect theScopeEcalls.copiedOutEffect theScopeEcalls.ecallAnswer theScopeEcalls.completionNumber theScopeVirtualInstruction.askFetchOf theScopeVirtualInstruction.setBits theScopeVirtualInstruction.clearBits theScopeVirtualInstruction.stimecmpBy theScopeVirtualInstruction.stimecmpWord theScopeVirtualInstruction.stimecmpStval theScopeVirtualInstruction.stimecmpEffect theScopeVirtualInstruction.virtualEffect theScopeVirtualInstruction.missedOf theScopeVirtualInstruction.trapStatusOf theScopeVirtualInstruction.injectedOf theScopeVirtualInstruction.missedEffect theScopeGuestPageFault.loadUnder theScopeGuestPageFault.storeUnder theScopeGuestPageFault.faultOf theScopeGuestPageFault.faultEffect theScopeGuestPageFault.mmioOf theScopeGuestPageFault.pageFaultOf theScopeGuestPageFault.completedOf theScopeCalls.newOf theScopeCalls.gprReply theScopeCalls.effectOf theScopeCalls.calledOf theScopeCalls.askedCount theScopeCalls.printCount theScopeCalls.firstOf theScopeCalls.printedOf theScopeWords.tested theScopeWords.widthOf theScopeWords.accessOf theScopeWords.abiOf theScopeWords.completionOf theScopeWords.waitingBy theScopeWords.waitingOf theScopeWords.askedWords theScopeWords.waitingWords theScopeWords.csrsOf theScopeWords.csrsWords theScopeWords.unpackOf theScopeWords.packOf theScopeWords.answerBy theScopeWords.callBy theReplayScopeLines.registerKeys theReplayScopeLines.headerKey theReplayScopeLines.keyOf theReplayScopeLines.nibbleOf theReplayScopeLines.pushOf theReplayScopeLines.lineOf theReplayScopeLines.sixteen theReplayScopeLines.lineText theReplayScopeOutput.followedBy theReplayScopeOutput.readTo theReplayScopeOutput.keeping theReplayScopeOutput.saying theReplayScopeOutput.overAt theReplayScopeOutput.begun theReplayScopeOutput.headedOf theReplayScopeOutput.afterHeader theReplayScopeOutput.exitSaid theReplayScopeOutput.settledBy theReplayScopeOutput.settledOf theReplayScopeOutput.unfitOf theReplayScopeOutput.trapStarted theReplayScopeOutput.pairTaken theReplayScopeOutput.lineDoes theReplayScopeOutput.numberTaken theReplayScopeOutput.gotOf theReplayScopeOutput.byteOf theReplayScopeOutput.mayEnd theReplayScopeOutput.endGives theReplayScopeOutput.textOf theReplayScopeOutput.stateAfter theReplayScopeOutput.outputOf theReplayScopeOutput.replayOf
 rows-60 = tt

@@ -20,21 +20,22 @@ use Rattle.scope.specs.declared.traps.Reply.the-variants as reply
 use Rattle.isa_types.specs.declared.Width.the-variants as width
 use Rattle.isa_consts.specs.Sbi.{eidPmu}
 use Rattle.isa_registers.specs.Values.{delegatedExceptions, delegatedInterrupts}
+use Rattle.scope.specs.declared.machine.EcallAsk.the-variants as asked
 use Rattle.scope.specs.declared.machine.Outcome.{Outcome}
 use Rattle.scope.specs.declared.machine.Vcpu.{Vcpu}
 use Rattle.scope.specs.declared.machine.Waiting.{Waiting}
 use Rattle.scope.specs.declared.machine.Waiting.the-variants as waiting
-use Rattle.scope.specs.Calls.{firstOf, newOf, printCount, printedOf}
-use Rattle.scope.specs.Words.{waitingWords}
-use Rattle.in_place_record.specs.View.{askCount, besideOf, exitCount, hostLeaves, outOf, refusalWord, replyWord, trapLeaves, waitingCount}
-use Rattle.replay_lines.specs.Keys.{bytes}
-use Rattle.replay_digits.specs.Hex.{digitOf, nibbleOf, pushOf, pushedOf, readOf}
-use Rattle.replay_lines.specs.Lines.{Taken, atEndOf, begins, inDigitsOf, inKeyOf, lineOf, takenOf}
+use Rattle.scope.specs.Calls.{askedCount, firstOf, newOf, printCount, printedOf}
+use Rattle.scope.specs.Words.{askedWords, waitingWords}
+use Rattle.in_place_record.specs.View.{askCount, askedWordCount, besideOf, exitCount, hostLeaves, outOf, refusalWord, replyWord, trapLeaves, waitingCount}
+use Rattle.replay_scope.specs.Lines.{bytes, lineOf, nibbleOf, pushOf}
+use Rattle.replay_digits.specs.Hex.{digitOf, hexOf}
+use Rattle.replay_lines.specs.Read.{Taken, begins, takenOf}
 use Rattle.replay_output.specs.Put.{putAt}
 use Rattle.replay_digits.specs.declared.Digits.{Digits}
 use Rattle.replay_digits.specs.declared.Digits.the-variants as digits
-use Rattle.replay_lines.specs.declared.Got.{Got}
-use Rattle.replay_lines.specs.declared.Got.the-variants as got
+use Rattle.replay_scope.specs.declared.Got.{Got}
+use Rattle.replay_scope.specs.declared.Got.the-variants as got
 
 -- an answer: its ask's number, word and more
 abbrev pair : Answer → List ℕ
@@ -102,10 +103,10 @@ further =
     ∷ row (pair (answer.Char 7)) (8 ∷ 7 ∷ 0 ∷ [])
     ∷ row (pair (answer.Forwarded 8 6)) (9 ∷ 8 ∷ 6 ∷ [])
     -- 01, One trap: the bytes to print are the buffer's first n under ask 4 if it has n, otherwise the empty part
-    ∷ row (printedOf (holding (waiting.Print 2)) (7 ∷ 8 ∷ 9 ∷ [])) (7 ∷ 8 ∷ [])
-    ∷ row (printedOf (holding (waiting.Print 3)) (7 ∷ 8 ∷ 9 ∷ [])) (7 ∷ 8 ∷ 9 ∷ [])
-    ∷ row (printedOf (holding (waiting.Print 4)) (7 ∷ 8 ∷ 9 ∷ [])) []
-    ∷ row (printedOf (holding (waiting.CopyIn 2)) (7 ∷ 8 ∷ 9 ∷ [])) []
+    ∷ row (printedOf (holding (waiting.Ecall (asked.Print 2))) (7 ∷ 8 ∷ 9 ∷ [])) (7 ∷ 8 ∷ [])
+    ∷ row (printedOf (holding (waiting.Ecall (asked.Print 3))) (7 ∷ 8 ∷ 9 ∷ [])) (7 ∷ 8 ∷ 9 ∷ [])
+    ∷ row (printedOf (holding (waiting.Ecall (asked.Print 4))) (7 ∷ 8 ∷ 9 ∷ [])) []
+    ∷ row (printedOf (holding (waiting.Ecall (asked.CopyIn 2))) (7 ∷ 8 ∷ 9 ∷ [])) []
     ∷ row (printedOf (holding waiting.Idle) (7 ∷ 8 ∷ 9 ∷ [])) []
     -- 01, One trap, Ecalls and Guest page fault: what each exit and ask carries; every other word of `out` stays
     ∷ row (over (reply.Exit exit.Nothing)) (kept 8)
@@ -139,12 +140,12 @@ further =
     ∷ row (taken (takenOf (bytes "a0=") 0 0 (bytes "a0=00000000000001F9\nx"))) (2 ∷ bytes "9\nx")
     ∷ row (taken (takenOf (bytes "a0=") 0 0 (bytes "a1=0"))) (2 ∷ bytes "=0")
     ∷ row (taken (takenOf (bytes "a0=") 2 5 (bytes "=0"))) (0 ∷ 4 ∷ 0x50 ∷ [])
-    ∷ row (digitNumbers (readOf (bytes "00000000000001f9"))) (1 ∷ 0x1f9 ∷ [])
-    ∷ row (digitNumbers (readOf (bytes "fedcba9876543210"))) (1 ∷ 0xFEDC_BA98_7654_3210 ∷ [])
-    ∷ row (digitNumbers (readOf (bytes "fedcba987654321"))) (2 ∷ [])
-    ∷ row (digitNumbers (readOf (bytes "fedcba98765432100"))) (2 ∷ [])
-    ∷ row (digitNumbers (readOf (bytes "fedcba987654321F"))) (2 ∷ [])
-    ∷ row (digitNumbers (readOf (bytes "gedcba9876543210"))) (2 ∷ [])
+    ∷ row (digitNumbers (hexOf (bytes "00000000000001f9"))) (1 ∷ 0x1f9 ∷ [])
+    ∷ row (digitNumbers (hexOf (bytes "fedcba9876543210"))) (1 ∷ 0xFEDC_BA98_7654_3210 ∷ [])
+    ∷ row (digitNumbers (hexOf (bytes "fedcba987654321"))) (2 ∷ [])
+    ∷ row (digitNumbers (hexOf (bytes "fedcba98765432100"))) (2 ∷ [])
+    ∷ row (digitNumbers (hexOf (bytes "fedcba987654321F"))) (2 ∷ [])
+    ∷ row (digitNumbers (hexOf (bytes "gedcba9876543210"))) (2 ∷ [])
     -- each key is compared byte for byte with its fixed spelling
     ∷ row (flagOf (begins (bytes "a0=") (bytes "a0=1")) ∷ flagOf (begins (bytes "a0=") (bytes "a0=")) ∷ []) (1 ∷ 1 ∷ [])
     ∷ row (flagOf (begins (bytes "a0=") (bytes "a0")) ∷ flagOf (begins (bytes "a0=") (bytes "b0=")) ∷ flagOf (begins (bytes "a0=") (bytes "a1=")) ∷ []) (0 ∷ 0 ∷ 0 ∷ [])
@@ -158,15 +159,15 @@ further =
     ∷ row (stays (waiting.Load 5 width.Half true)) (1 ∷ 5 ∷ 2 ∷ 1 ∷ [])
     ∷ row (stays waiting.FetchCsr) (2 ∷ 22 ∷ 23 ∷ 24 ∷ [])
     ∷ row (stays (waiting.FetchFault (record { 0 = 6 }) access.Write)) (3 ∷ 6 ∷ 2 ∷ 24 ∷ [])
-    ∷ row (stays waiting.CopyMask) (4 ∷ 22 ∷ 23 ∷ 24 ∷ [])
-    ∷ row (stays (waiting.CopyIn 6)) (5 ∷ 6 ∷ 23 ∷ 24 ∷ [])
-    ∷ row (stays (waiting.Print 6)) (6 ∷ 6 ∷ 23 ∷ 24 ∷ [])
-    ∷ row (stays (waiting.ReadConsole 6 (record { 0 = 7 }))) (7 ∷ 6 ∷ 7 ∷ 24 ∷ [])
-    ∷ row (stays (waiting.CopyOut 6)) (8 ∷ 6 ∷ 23 ∷ 24 ∷ [])
-    ∷ row (stays waiting.PutChar) (9 ∷ 22 ∷ 23 ∷ 24 ∷ [])
-    ∷ row (stays waiting.PutByte) (10 ∷ 22 ∷ 23 ∷ 24 ∷ [])
-    ∷ row (stays waiting.GetChar) (11 ∷ 22 ∷ 23 ∷ 24 ∷ [])
-    ∷ row (stays waiting.Forward) (12 ∷ 22 ∷ 23 ∷ 24 ∷ [])
+    ∷ row (stays (waiting.Ecall asked.CopyMask)) (4 ∷ 22 ∷ 23 ∷ 24 ∷ [])
+    ∷ row (stays (waiting.Ecall (asked.CopyIn 6))) (5 ∷ 6 ∷ 23 ∷ 24 ∷ [])
+    ∷ row (stays (waiting.Ecall (asked.Print 6))) (6 ∷ 6 ∷ 23 ∷ 24 ∷ [])
+    ∷ row (stays (waiting.Ecall (asked.ReadConsole 6 (record { 0 = 7 })))) (7 ∷ 6 ∷ 7 ∷ 24 ∷ [])
+    ∷ row (stays (waiting.Ecall (asked.CopyOut 6))) (8 ∷ 6 ∷ 23 ∷ 24 ∷ [])
+    ∷ row (stays (waiting.Ecall asked.PutChar)) (9 ∷ 22 ∷ 23 ∷ 24 ∷ [])
+    ∷ row (stays (waiting.Ecall asked.PutByte)) (10 ∷ 22 ∷ 23 ∷ 24 ∷ [])
+    ∷ row (stays (waiting.Ecall asked.GetChar)) (11 ∷ 22 ∷ 23 ∷ 24 ∷ [])
+    ∷ row (stays (waiting.Ecall asked.Forward)) (12 ∷ 22 ∷ 23 ∷ 24 ∷ [])
     -- a refusal leaves them as they were, an error does not; a host's own call leaves them as they were
     ∷ row (left waiting.Idle (reply.Error error.WrongAnswer)) (21 ∷ 22 ∷ 23 ∷ 24 ∷ [])
     ∷ row (left waiting.Idle (reply.Error error.Unsupported)) (0 ∷ 22 ∷ 23 ∷ 24 ∷ [])
@@ -185,5 +186,5 @@ all (r ∷ rs) = and (equal (r .got) (r .wanted)) (all rs)
 
 -- the whole table
 table : T (all further)
-unfolding all equal further row holding gotNumbers digitNumbers taken answerNumber answerValues fetchNumber fetchValue flagOf firstOf newOf printCount printedOf delegatedExceptions delegatedInterrupts takenOf lineOf inKeyOf inDigitsOf atEndOf digitOf nibbleOf pushOf pushedOf readOf outOf hostLeaves trapLeaves waitingCount waitingWords refusalWord replyWord errorNumber putAt exitCount askCount besideOf exitValues askValues exitNumber accessNumber abiNumber widthBytes
+unfolding all equal further row holding gotNumbers digitNumbers taken answerNumber answerValues fetchNumber fetchValue flagOf firstOf newOf printCount askedCount printedOf delegatedExceptions delegatedInterrupts takenOf lineOf digitOf nibbleOf pushOf hexOf outOf hostLeaves trapLeaves waitingCount askedWordCount waitingWords askedWords refusalWord replyWord errorNumber putAt exitCount askCount besideOf exitValues askValues exitNumber accessNumber abiNumber widthBytes
 table = tt

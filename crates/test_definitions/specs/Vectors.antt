@@ -1,11 +1,10 @@
 -- Every fortieth of the vectors (docs/VECTORS.md): what the definitions give. objdump and qemu say what is right.
 -- tools/definitions.py listed writes this file.
-use Rattle.scope.specs.Refusals as theTypesNumbers
-use Rattle.scope.specs.Trap as theTypesNumbers2
-use Rattle.isa_fields.specs.Fields as theFieldsFields
-use Rattle.isa_extension.specs.Extend as theExtensionExtend
-use Rattle.isa_decoder.specs.Decode as theDecoderDecode
-use Rattle.isa_decoder.specs.Length as theDecoderLength
+use Rattle.isa_decoder.specs.Decode as theIsaDecoderDecode
+use Rattle.isa_decoder.specs.Length as theIsaDecoderLength
+use Rattle.isa_extension.specs.Extend as theIsaExtensionExtend
+use Rattle.isa_fields.specs.Fields as theIsaFieldsFields
+use Rattle.scope.specs.OneTrap as theScopeOneTrap
 use Rattle.scope.specs.OneTrap.{widthBytes}
 use Rattle.isa_types.specs.declared.Width.the-variants as width
 use Rattle.isa_decoder.specs.declared.Decoded.{Decoded}
@@ -15,11 +14,11 @@ use Rattle.isa_decoder.specs.declared.Trapped.the-variants as trapped
 use Rattle.isa_decoder.specs.Decode.{decodeOf}
 use Rattle.isa_decoder.specs.Length.{fetchedOf, htinstOf}
 use Rattle.isa_extension.specs.Extend.{cutOf, extendOf}
-use Rattle.test_definitions.specs.Same.{both, equal}
 use Prim.Native.Nat.{ℕ, _+_, _-_, _*_, _%_, _^_}
 use mathlib.Core.Bool.{Bool, true, false}
 use mathlib.Core.List.{List, [], _∷_, _++_}
 use lib.Dec.{eqb, ltb, T}
+use Rattle.test_definitions.specs.Same.{both, equal}
 
 -- the digits of docs/VECTORS.md
 abbrev signOf : Bool → ℕ
@@ -86,5 +85,5 @@ abbrev row-13 : Bool
 row-13 = all (cutOf width.Double) (0 ∷ 0 ∷ 4294967297 ∷ 4294967297 ∷ 137438953472 ∷ 137438953472 ∷ 18446744073709518847 ∷ 18446744073709518847 ∷ 18410715276690587647 ∷ 18410715276690587647 ∷ 15087276252849057494 ∷ 15087276252849057494 ∷ 5366605226737614285 ∷ 5366605226737614285 ∷ 5929391460607741632 ∷ 5929391460607741632 ∷ [])
 
 rows-13 : T (both row-0 (both row-1 (both row-2 (both row-3 (both row-4 (both row-5 (both row-6 (both row-7 (both row-8 (both row-9 (both row-10 (both row-11 (both row-12 (both row-13 (true)))))))))))))))
-unfolding theTypesNumbers2.widthBytes theTypesNumbers2.accessNumber theTypesNumbers2.exitNumber theTypesNumbers2.askNumber theTypesNumbers2.answerNumber theTypesNumbers2.fetchNumber theTypesNumbers.errorNumber theTypesNumbers2.abiNumber theTypesNumbers2.flagOf theFieldsFields.opcodeField theFieldsFields.rdField theFieldsFields.funct3Field theFieldsFields.rs1Field theFieldsFields.rs2Field theFieldsFields.csrField theExtensionExtend.widthBits theExtensionExtend.signedBy theExtensionExtend.extendBy theExtensionExtend.cutOf theExtensionExtend.extendOf theDecoderDecode.loadOf theDecoderDecode.storeOf theDecoderDecode.decodeBy theDecoderDecode.decodeOf theDecoderLength.transformedOf theDecoderLength.htinstOf theDecoderLength.fetchedOf theDecoderLength.opSource theDecoderLength.storeSource
+unfolding theIsaDecoderDecode.loadOf theIsaDecoderDecode.storeOf theIsaDecoderDecode.decodeBy theIsaDecoderDecode.decodeOf theIsaDecoderLength.transformedOf theIsaDecoderLength.htinstOf theIsaDecoderLength.fetchedOf theIsaDecoderLength.opSource theIsaDecoderLength.storeSource theIsaExtensionExtend.widthBits theIsaExtensionExtend.signedBy theIsaExtensionExtend.extendBy theIsaExtensionExtend.cutOf theIsaExtensionExtend.extendOf theIsaFieldsFields.opcodeField theIsaFieldsFields.rdField theIsaFieldsFields.funct3Field theIsaFieldsFields.rs1Field theIsaFieldsFields.rs2Field theIsaFieldsFields.csrField theScopeOneTrap.widthBytes theScopeOneTrap.accessNumber theScopeOneTrap.exitNumber theScopeOneTrap.askNumber theScopeOneTrap.answerNumber theScopeOneTrap.fetchNumber theScopeOneTrap.abiNumber theScopeOneTrap.flagOf theScopeOneTrap.exitValues theScopeOneTrap.askValues theScopeOneTrap.fetchValue theScopeOneTrap.answerValues theScopeOneTrap.fetchOf theScopeOneTrap.answerFor
 rows-13 = tt
