@@ -49,14 +49,16 @@ supervisorExternal v = or (eqb v 9) (eqb v supervisorExt)
 unfoldable pub knownInterrupt : ℕ → Bool
 knownInterrupt code = leb code 12
 
--- the known exception codes: 0 to 13, 15 and 20 to 23
+-- the known exception codes that are not handled: 0 to 9, 11, 12, 13, 15 and 20
 unfoldable pub knownException : ℕ → Bool
 knownException code =
-    pick (leb code 13) true
+    pick (leb code 9) true
+    (pick (eqb code 11) true
+    (pick (eqb code 12) true
+    (pick (eqb code 13) true
     (pick (eqb code 15) true
-    (pick (ltb code 20) false
-    (leb code 23)))
+    (eqb code 20)))))
 
--- scause is a known code, with the interrupt bit or without
+-- scause is a known code, with the interrupt bit or without, of an exception that is not handled or of an interrupt
 unfoldable pub knownCause : ℕ → Bool
 knownCause scause = pick (ltb scause interruptBit) (knownException scause) (knownInterrupt (scause - interruptBit))

@@ -145,22 +145,21 @@ pub fn is_known_cause(scause: u64) -> bool
     is_known_interrupt(scause - INTC_IRQ_BASE)
 }
 
+// The codes of exceptions that are known and not handled.
 fn is_known_exception(code: u64) -> bool
     ensures { λ r. ⌜ r ≡ knownException code ⌝ }
 {
-    if code <= LOAD_PAGE_FAULT {
+    if code <= 9 {
         return true;
     }
-    if code == STORE_PAGE_FAULT {
-        return true;
+    match code {
+        11 => true,
+        INST_PAGE_FAULT => true,
+        LOAD_PAGE_FAULT => true,
+        STORE_PAGE_FAULT => true,
+        INST_GUEST_PAGE_FAULT => true,
+        _ => false,
     }
-    if code < INST_GUEST_PAGE_FAULT {
-        return false;
-    }
-    if code <= STORE_GUEST_PAGE_FAULT {
-        return true;
-    }
-    false
 }
 
 fn is_known_interrupt(code: u64) -> bool

@@ -1,6 +1,6 @@
 -- The loads and stores of RV64I. ISA, 'Load and Store Instructions' and the opcode map: LOAD is 0x03, STORE 0x23.
 use Prim.Native.Nat.{ℕ}
-use mathlib.Core.Bool.{Bool, true, false}
+use mathlib.Core.Bool.{true, false}
 use lib.Dec.{eqb}
 use Rattle.isa_types.specs.Pick.{pick}
 use Rattle.isa_types.specs.declared.Width.the-variants as width
