@@ -59,6 +59,9 @@ field-by rs2 false false f p q h k n = refl
 pub store-field : (w : ℕ) → opSource (decodeOf w) ≡ pick (isStore w) (rs2Field w) 0
 unfolding decodeOf decodeBy loadOf storeOf isStore
 store-field w =
-    field-by (rs2Field w) (eqb (opcodeField w) 0x03) (eqb (opcodeField w) 0x23) _ _ _
-    (load-source (funct3Field w) (rdField w) _ _ _ _ _ _ _) (store-by (rs2Field w) _ _ _ _)
+    let f : ℕ = funct3Field w in
+    field-by (rs2Field w) (eqb (opcodeField w) 0x03) (eqb (opcodeField w) 0x23)
+    (or (eqb f 0) (or (eqb f 1) (or (eqb f 2) (eqb f 3)))) (loadOf f (rdField w)) (storeOf f (rs2Field w))
+    (load-source f (rdField w) (eqb f 0) (eqb f 1) (eqb f 2) (eqb f 3) (eqb f 4) (eqb f 5) (eqb f 6))
+    (store-by (rs2Field w) (eqb f 0) (eqb f 1) (eqb f 2) (eqb f 3))
     (λ h. ne-eqb (opcodeField w) 0x23 (λ e. omega (arith, eqb-true (opcodeField w) 0x03 h)))
