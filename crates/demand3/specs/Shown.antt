@@ -21,9 +21,10 @@ use Rattle.scope.specs.declared.machine.Vcpu.{Vcpu}
 use Rattle.scope.specs.declared.machine.Waiting.the-variants as waiting
 use Rattle.scope.specs.Record.{listed}
 use Rattle.demand3_table.specs.Table.{namesOf}
-use Rattle.demand3_table.specs.Runs.{Sight, runOf, seenOf, among, Untouched}
+use Rattle.demand3_table.specs.Runs.{Sight, runOf, seenOf, among, Untouched, written}
 use Rattle.demand3_table.specs.Alike.{Alike}
 use Rattle.scope.specs.declared.hosts.HostCall.the-variants as hostCall
+use Rattle.scope.specs.declared.machine.Waiting.{Waiting}
 
 -- a record after setup, with sepc 0x80000000, vstimecmp 7 and these registers
 abbrev pub exampleRecord : List ℕ → Vcpu
@@ -57,6 +58,19 @@ pub record Met (r n : ℕ) (v : Vcpu) (cs : List Turn) (rs : List Reply) : Type 
   pub seen : replies (seenOf v cs) ≡ rs
   pub before : eqb (getD (v .x) r 0) (getD (other r n v .x) r 0) ≡ false
   pub after : eqb (getD (runOf v cs .x) r 0) (getD (runOf (other r n v) cs .x) r 0) ≡ false
+
+-- the same where a call of the sequence writes r: it differs before, and the registers are the same after
+pub record Joined (r n : ℕ) (v : Vcpu) (cs : List Turn) (rs : List Reply) : Type 0 where
+  pub alike : Alike r v (other r n v)
+  pub untouched : Untouched r v cs
+  pub seen : replies (seenOf v cs) ≡ rs
+  pub before : eqb (getD (v .x) r 0) (getD (other r n v .x) r 0) ≡ false
+  pub writes : written r v cs ≡ true
+  pub after : runOf v cs .x ≡ runOf (other r n v) cs .x
+
+-- the record with this waiting
+abbrev pub waits : Waiting → Vcpu → Vcpu
+waits w v = record { x = v .x; csrs = v .csrs; counts = v .counts; waiting = w }
 
 -- an exit, ask or reply as numbers: its own in 01, then its data
 unfoldable pub exitNumbers : Exit → List ℕ

@@ -1,5 +1,6 @@
--- Demand 3 is not vacuous: closed examples, computed by the checker. Four sequences meet its premises with r different before and
--- after; and in rows of the reading table two records that differ in a named register come out differently.
+-- Demand 3 is not vacuous: closed examples, computed by the checker. Sequences meet its premises with r different before and
+-- after, among them one that starts with an ask waiting, with a refused call and a register read out; in one r is written and
+-- agrees from then on; and in rows of the reading table two records that differ in a named register come out differently.
 use Prim.Native.Nat.{ℕ}
 use mathlib.Core.Bool.{true}
 use mathlib.Core.List.{List, [], _∷_}
@@ -29,11 +30,14 @@ use Rattle.scope.specs.GuestPageFault.{loadUnder, storeUnder, faultOf, faultEff
 use Rattle.scope.specs.Classes.{argumentsOf, startEffect, classOf, classEffect}
 use Rattle.scope.specs.Calls.{printCount, firstOf, printedOf, calledOf, effectOf, askedCount, gprReply}
 use Rattle.demand3_table.specs.Table.{a0, a1, a2, a3, a4, a5, a7, sourceNames, forwardNames, timeNames, srstNames, spiNames, hsmNames, consoleNames, byteNames, dbcnNames, eidNames, ecallNames, funct3Names, stimecmpNames, storeNames, accessNames, wordNames, fetchNames, answerNames, namesOf, readsOf, callNames, callReads, classNames}
-use Rattle.demand3_table.specs.Runs.{sightOf, stepOf, runOf, seenOf, Apart, Untouched}
+use Rattle.demand3_table.specs.Runs.{sightOf, stepOf, runOf, seenOf, Apart, Untouched, writesOf, written, wrote}
 use Rattle.demand3_table.specs.Alike.{Alike}
-use Rattle.demand3.specs.Shown.{exampleRecord, other, Met, exitNumbers, askNumbers, replyNumbers, sightNumbers, toldOf, sameList, Row, matters, allMatter}
+use Rattle.demand3.specs.Shown.{exampleRecord, other, Met, exitNumbers, askNumbers, replyNumbers, sightNumbers, toldOf, sameList, Row, matters, allMatter, Joined, waits}
 use Rattle.scope.specs.Answers.{answerEffect, fetchEffect, fittingEffect, numbersEffect, wordEffect}
 use Rattle.scope.specs.declared.hosts.HostCall.the-variants as hostCall
+use Rattle.scope.specs.declared.machine.EcallAsk.the-variants as asked
+use Rattle.scope.specs.declared.traps.Error.the-variants as error
+use Rattle.scope.specs.declared.machine.Waiting.the-variants as waiting
 
 other-alike : (r n : ℕ) (v : Vcpu) → length (v .x) ≡ 32 → Alike r v (other r n v)
 other-alike r n v h =
@@ -46,7 +50,7 @@ other-alike r n v h =
 
 -- one name that opens what a call goes through; the decoder stays shut
 opened : ℕ
-unfolding answerNumber exitNumber askNumber errorNumber spvpOf sieOf withBits guestPageFaultAddr standardRequest valueOf stored moved timed pended eventNumber bumped counted waitingAsk isIdle listed applied noArgs finishedOf askingOf failedOf refusedOf doneOf lesserOf returnsOf movesOf staysOf asksOf setTimerOf hypercallOf askFetchOf missedOf trapStatusOf injectedOf missedEffect setBits clearBits stimecmpBy stimecmpWord stimecmpStval calledOf effectOf stimecmpEffect loadUnder storeUnder faultOf faultEffect copiedEffect ecallAnswer ecallAskNumber completedOf argumentsOf ecallEffect virtualEffect mmioOf pageFaultOf classOf classEffect startEffect wordEffect fetchEffect numbersEffect fittingEffect answerEffect printCount firstOf printedOf sourceNames forwardNames timeNames srstNames spiNames hsmNames consoleNames byteNames dbcnNames eidNames ecallNames funct3Names stimecmpNames storeNames classNames accessNames wordNames fetchNames answerNames namesOf readsOf sightOf stepOf runOf seenOf Untouched exitNumbers askNumbers replyNumbers sightNumbers toldOf sameList matters allMatter timeEffect spiEffect hsmEffect srstEffect spanEffect consoleEffect dbcnEffect rfncEffect forwardEffect notSupportedEffect leavesOf unlessAsking callNames callReads askedCount givesOf consoleReadEffect copiedOutEffect gprReply
+unfolding answerNumber exitNumber askNumber errorNumber spvpOf sieOf withBits guestPageFaultAddr standardRequest valueOf stored moved timed pended eventNumber bumped counted waitingAsk isIdle listed applied noArgs finishedOf askingOf failedOf refusedOf doneOf lesserOf returnsOf movesOf staysOf asksOf setTimerOf hypercallOf askFetchOf missedOf trapStatusOf injectedOf missedEffect setBits clearBits stimecmpBy stimecmpWord stimecmpStval calledOf effectOf stimecmpEffect loadUnder storeUnder faultOf faultEffect copiedEffect ecallAnswer ecallAskNumber completedOf argumentsOf ecallEffect virtualEffect mmioOf pageFaultOf classOf classEffect startEffect wordEffect fetchEffect numbersEffect fittingEffect answerEffect printCount firstOf printedOf sourceNames forwardNames timeNames srstNames spiNames hsmNames consoleNames byteNames dbcnNames eidNames ecallNames funct3Names stimecmpNames storeNames classNames accessNames wordNames fetchNames answerNames namesOf readsOf sightOf stepOf runOf seenOf Untouched exitNumbers askNumbers replyNumbers sightNumbers toldOf sameList matters allMatter timeEffect spiEffect hsmEffect srstEffect spanEffect consoleEffect dbcnEffect rfncEffect forwardEffect notSupportedEffect leavesOf unlessAsking callNames callReads askedCount givesOf consoleReadEffect copiedOutEffect gprReply written writesOf wrote
 opened = 0
 
 abbrev zeros : List ℕ
@@ -141,6 +145,50 @@ missed-met =
       seen = rw zero-opcode;
       before = refl;
       after = rw zero-opcode;
+    }
+
+-- legacy get character writes a0: before it the two records differ there, after it in nothing
+
+abbrev reading : Vcpu
+reading = exampleRecord (set (set zeros 17 2) 10 1)
+
+abbrev readingCalls : List Turn
+readingCalls = call (hostCall.Start ecall) ∷ call (hostCall.Answer (answers.Char 65)) ∷ []
+
+pub written-joined : Joined a0 2 reading readingCalls (reply.Ask ask.GetChar ∷ reply.Exit exit.Nothing ∷ [])
+unfolding opened
+written-joined =
+    record {
+      alike = other-alike a0 2 reading refl;
+      untouched = (record { free = refl }, apart, (apart, apart, tt));
+      seen = refl;
+      before = refl;
+      writes = refl;
+      after = refl;
+    }
+
+-- ask 4 waits when the sequence starts; a start is refused, x6 is read out, and the answer ends the trap
+
+abbrev printing : Vcpu
+printing = waits (waiting.Ecall (asked.Print 3)) (exampleRecord (set (set zeros 5 1) 6 8))
+
+abbrev printingCalls : List Turn
+printingCalls =
+    call (hostCall.Start ecall)
+    ∷ call (hostCall.GetGpr 6)
+    ∷ print (65 ∷ 66 ∷ 67 ∷ [])
+    ∷ call (hostCall.Answer (answers.Printed 0 3))
+    ∷ []
+
+pub waiting-met : Met 5 2 printing printingCalls (reply.Error error.BadState ∷ reply.Value 8 ∷ reply.Done ∷ reply.Exit exit.Nothing ∷ [])
+unfolding opened
+waiting-met =
+    record {
+      alike = other-alike 5 2 printing refl;
+      untouched = (apart, apart, (apart, record { free = refl }, (apart, apart, (apart, apart, tt))));
+      seen = refl;
+      before = refl;
+      after = refl;
     }
 
 -- in these rows the named register matters
