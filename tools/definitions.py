@@ -3,8 +3,11 @@
 
     tools/definitions.py make             the definitions alone, with the lists as equations over them; all must hold
     tools/definitions.py mutants          the wrong definitions, one to a line
-    tools/definitions.py run [PART/PARTS] tries each that has no verdict yet
-    tools/definitions.py laws             holds those that nothing noticed to the laws of every specs/
+    tools/definitions.py run [PART/PARTS] [CRATE/FILE..]
+                                          tries each that has no verdict yet, or those of some files of definitions
+    tools/definitions.py laws [CRATE/FILE..]
+                                          holds those that nothing noticed to the laws of every specs/, or those of some files,
+                                          which may be files that no list rests on
     tools/definitions.py table            what noticed each
     tools/definitions.py listed           writes crates/test_definitions, which holds the definitions to some of the lists in the gate
 
@@ -12,6 +15,9 @@ A function is proved equal to its definition, so a wrong definition with a funct
 notice it comes from outside: document 01's marked cases, the vectors, the fixed list of calls and the stored captures. Here each
 is written as equations over the definitions, which the checker computes, in one crate with every definition and no function.
 A mutant is one change of one definition. The crate is checked with it, and the equations that fail say what noticed it.
+
+What is kept below target/definitions is known by content: a verdict by every definition and equation and the mutant's own file,
+so that after any change of them all are tried anew, and what a check left to load, and the calls written out, by what they are of.
 
 Python's standard library alone; the Rattle toolchain; cargo, for the list of calls with every word written out."""
 import hashlib
@@ -41,6 +47,10 @@ def write(path, text):
     os.makedirs(os.path.dirname(path), exist_ok=True)
     with open(path, 'w', encoding='utf-8') as f:
         f.write(text)
+
+
+def digest(*parts):
+    return hashlib.sha256(json.dumps(parts, ensure_ascii=False, sort_keys=True).encode()).hexdigest()[:16]
 
 
 # ---- the repository as it is
@@ -241,14 +251,16 @@ def summed(words):
 
 def traced():
     """The list of calls written out: before, call, code, out and after of each line that is a call."""
-    path = f'{WORK}/trace'
     folder = f'{ROOT}/host'
+    files = sorted(f'{at}/{n}' for top in ['host/src', 'host/tests', 'oracle/model/src'] for at, _, names in os.walk(f'{ROOT}/{top}') for n in names)
+    data = read(f'{ROOT}/crates/test_call_list/data/list')
+    path = f'{WORK}/trace.{digest(data, [read(f) for f in files])}'
     if not os.path.exists(path):
         # no call is made on the library, so an archive with nothing in it will do
         write(f'{WORK}/none/libin_place.a', '!<arch>\n')
         env = dict(os.environ, TRACE=path, CURBIZZOLU_LIB_DIR=f'{WORK}/none', CARGO_TARGET_DIR=f'{WORK}/cargo')
-        subprocess.run(['cargo', 'test', '--quiet', '--offline', '--test', 'trace'], cwd=folder, env=env, check=True)
-    calls = [line for line in map(hexes, read(f'{ROOT}/crates/test_call_list/data/list').splitlines()) if line[0] != 0]
+        subprocess.run(['cargo', 'test', '--quiet', '--offline', '--test', 'trace'], cwd=folder, env=env, check=True, stdout=sys.stderr)
+    calls = [line for line in map(hexes, data.splitlines()) if line[0] != 0]
     lines = [hexes(line) for line in read(path).splitlines()]
     assert len(lines) == len(calls)
     for line, call in zip(lines, calls):
@@ -453,30 +465,47 @@ def reached(mods, texts):
     return [m for m in mods.values() if m.short in found]
 
 
-def make():
-    """target/definitions/crate, with all of it accepted, and target/definitions/clean, what its check left to load."""
-    began = time.time()
+def pieces():
+    """The files of the scratch crate, of the damaged captures beside it, and the definitions that calls rest on."""
     mods = modules()
     calls, rows = listed(mods)
     equations = {'Marked': table_of(mods, 'marked'), 'Further': table_of(mods, 'further'), 'Vectors': vectors(mods), 'Listed': calls, 'Rows': rows, 'Published': published(mods), 'Sound': whole(mods, ['sound'], False)}
     used = reached(mods, equations.values())
-    shutil.rmtree(f'{WORK}/crate', ignore_errors=True)
-    write(f'{WORK}/crate/src/lib.rt', declared()[0])
-    for m in used:
-        write(f'{WORK}/crate/specs/{m.short}.antt', opened(m))
-    for name, text in equations.items():
-        write(f'{WORK}/crate/specs/{name}.antt', text)
-    write(f'{WORK}/Damaged.antt', whole(mods, damaged(), True))
-    write(f'{WORK}/calls', '\n'.join(m.short for m in reached(mods, [equations[n] for n in ['Marked', 'Vectors', 'Listed', 'Rows']])))
-    write(f'{WORK}/crate/specs/Lib.antt', ''.join(f'pub mod {n}\n' for n in [m.short for m in used] + list(equations)))
-    for folder in ['clean', 'inc']:
-        shutil.rmtree(f'{WORK}/{folder}', ignore_errors=True)
+    files = {'crate/src/lib.rt': declared()[0], 'Damaged.antt': whole(mods, damaged(), True)}
+    files.update({f'crate/specs/{m.short}.antt': opened(m) for m in used})
+    files.update({f'crate/specs/{name}.antt': text for name, text in equations.items()})
+    files['calls'] = '\n'.join(m.short for m in reached(mods, [equations[n] for n in ['Marked', 'Vectors', 'Listed', 'Rows']]))
+    files['crate/specs/Lib.antt'] = ''.join(f'pub mod {n}\n' for n in [m.short for m in used] + list(equations))
+    return used, files
+
+
+def kept(name):
+    return read(f'{WORK}/{name}') if os.path.exists(f'{WORK}/{name}') else ''
+
+
+def make(anew=True):
+    """target/definitions/crate, with all of it accepted, and target/definitions/clean, what its check left to load. Gives what
+    they are known by."""
+    began = time.time()
+    used, files = pieces()
+    key = digest(files)
+    if not anew and kept('made') == key:
+        return key
+    for name in ['crate', 'clean', 'inc']:
+        shutil.rmtree(f'{WORK}/{name}', ignore_errors=True)
+    write(f'{WORK}/made', '')
+    for name, text in files.items():
+        write(f'{WORK}/{name}', text)
     said = check('clean')
-    print(f'{len(used)} files of definitions, {sum(len([b for b in m.blocks() if b[2]]) for m in used)} definitions')
-    print(said[-1] if said else 'nothing was said', f'({time.time() - began:.0f} s)')
+    # another command's own lines go to standard output
+    out = sys.stdout if anew else sys.stderr
+    print(f'{len(used)} files of definitions, {sum(len([b for b in m.blocks() if b[2]]) for m in used)} definitions', file=out)
+    print(said[-1] if said else 'nothing was said', f'({time.time() - began:.0f} s)', file=out)
     if 'logic=proved' not in '\n'.join(said):
-        print('\n'.join([line[:300] for line in said if 'error' in line][:5]))
+        print('\n'.join([line[:300] for line in said if 'error' in line][:5]), file=out)
         raise SystemExit(1)
+    write(f'{WORK}/made', key)
+    return key
 
 
 def check(inc, crate='crate', seconds=SECONDS):
@@ -898,11 +927,12 @@ def order(of):
                 yield rules[r].pop(0)
 
 
-def plan():
-    """For each definition, in the order of the crates: its file, and its candidates in the order in which they are tried."""
+def plan(files=()):
+    """For each definition that the lists rest on, or of these files, in the order of the crates: its file, and its candidates in
+    the order in which they are tried."""
     mods = modules()
     _, structs, enums = declared()
-    used = [m for m in mods.values() if os.path.exists(f'{WORK}/crate/specs/{m.short}.antt')]
+    used = [m for m in mods.values() if (m.path in files if files else os.path.exists(f'{WORK}/crate/specs/{m.short}.antt'))]
     for m in used:
         found = {}
         for c in candidates(m, mods, structs, enums):
@@ -942,23 +972,21 @@ def attempt(module, changed, sources, part):
     return failed, ''
 
 
-def run(part, parts):
+def run(part, parts, files):
+    made = make(anew=False)
     path = f'{WORK}/verdicts.{part}'
-    done = {}
-    if os.path.exists(path):
-        for line in read(path).splitlines():
-            v = json.loads(line)
-            done[v['name']] = v
-    todo = [[module, name, iter(of[:12]), share(len(of))] for i, (module, name, of) in enumerate(plan()) if i % parts == part]
+    done = {v['key']: v for v in map(json.loads, kept(f'verdicts.{part}').splitlines())}
+    todo = [[module, name, iter(of[:12]), share(len(of))] for i, (module, name, of) in enumerate(plan())
+            if i % parts == part and (not files or f'{module.crate}/{module.name}' in files)]
     # one of each definition first, then a second, so that a run that is stopped has some of each
     for turn in range(4):
         for module, name, of, wanted in todo:
             if turn >= wanted:
                 continue
             for c in of:
-                title = titled(module, name, c)
-                v = done.get(title) or judged(module, name, c, title, part)
-                if title not in done:
+                title, key = titled(module, name, c), digest(made, module.short, c[5])
+                v = done.get(key) or judged(module, name, c, title, key, part)
+                if key not in done:
                     with open(path, 'a', encoding='utf-8') as f:
                         f.write(json.dumps(v, ensure_ascii=False) + '\n')
                     print(v['seconds'], title[:150], '|', v['why'] or {k: len(n) for k, n in v['failed'].items()}, flush=True)
@@ -966,59 +994,86 @@ def run(part, parts):
                     break
 
 
-def judged(module, name, c, title, part):
+def judged(module, name, c, title, key, part):
     began = time.time()
     # a definition that calls rest on is not seen better in a capture's bytes
     calls = module.short in read(f'{WORK}/calls').split()
     failed, why = attempt(module, c[5], SOURCES[:-2] if calls else SOURCES[:-1], part)
     if failed == {} and not calls:
         failed, why = attempt(module, c[5], ['Damaged'], part)
-    return dict(name=title, crate=module.crate, module=module.name, definition=name, rule=c[1], why=why,
+    return dict(key=key, name=title, crate=module.crate, module=module.name, definition=name, rule=c[1], why=why,
                 failed=failed if failed is None else {k: n[:20] for k, n in failed.items()}, seconds=round(time.time() - began, 1))
 
 
 # ---- the laws
 
-def make_laws():
-    """target/definitions/laws: every file of every specs/ as it is, definitions and laws, and what its check left to load."""
-    shutil.rmtree(f'{WORK}/laws', ignore_errors=True)
-    shutil.rmtree(f'{WORK}/laws-clean', ignore_errors=True)
+def law_files():
+    """Every file of every specs/ as it is, definitions and laws."""
     # a program's own types are not declared here, and a table of cases is no law
     mods = [m for m in modules().values() if os.path.exists(f'{ROOT}/crates/{m.crate}/src/lib.rt') and not re.search(r'^\w+ : List Row|^rows-', m.text, re.M)]
-    write(f'{WORK}/laws/src/lib.rt', declared()[0])
-    for m in mods:
-        write(f'{WORK}/laws/specs/{m.short}.antt', renamed(m.text))
-    write(f'{WORK}/laws/specs/Lib.antt', ''.join(f'pub mod {m.short}\n' for m in mods))
+    files = {f'specs/{m.short}.antt': renamed(m.text) for m in mods}
+    files.update({'src/lib.rt': declared()[0], 'specs/Lib.antt': ''.join(f'pub mod {m.short}\n' for m in mods)})
+    return files
+
+
+def make_laws():
+    """target/definitions/laws, with all of it accepted, and what its check left to load. Gives what they are known by."""
+    files = law_files()
+    key = digest(files)
+    if kept('laws-made') == key:
+        return key
+    for name in ['laws', 'laws-clean']:
+        shutil.rmtree(f'{WORK}/{name}', ignore_errors=True)
+    write(f'{WORK}/laws-made', '')
+    for name, text in files.items():
+        write(f'{WORK}/laws/{name}', text)
     began = time.time()
     said = check('laws-clean', 'laws', 1200)
     print(said[-1][:200], f'({time.time() - began:.0f} s)')
     if 'logic=proved' not in '\n'.join(said):
         print('\n'.join([line[:300] for line in said if 'error' in line][:5]))
         raise SystemExit(1)
+    write(f'{WORK}/laws-made', key)
+    return key
 
 
-def laws():
-    """Holds the mutants that no equation notices to the laws."""
-    if not os.path.exists(f'{WORK}/laws-clean'):
-        make_laws()
-    path = f'{WORK}/verdicts.laws'
-    done = {json.loads(line)['name'] for line in read(path).splitlines()} if os.path.exists(path) else set()
-    unseen = {v['name'] for v in verdicts() if v['failed'] == {}}
+def laws(files):
+    """Holds the mutants that no equation notices, or those of some files, to the laws."""
+    lawful = make_laws()
+    done = {v['key']: v for v in map(json.loads, kept('verdicts.laws').splitlines())}
+    if files:
+        for module, name, of in plan(files):
+            taken = 0
+            for c in of[:12]:
+                v = held(module, name, c, lawful, done)
+                # errors in the mutant's own file are of its types
+                taken += module.short not in v['laws']
+                if taken == share(len(of)):
+                    break
+        return
+    made = make(anew=False)
+    unseen = {v['key'] for v in verdicts() if v['failed'] == {}}
     for module, name, of in plan():
         for c in of:
-            title = titled(module, name, c)
-            if title not in unseen or title in done:
-                continue
-            began = time.time()
-            for folder, origin in [('laws.0', 'laws'), ('laws-inc', 'laws-clean')]:
-                shutil.rmtree(f'{WORK}/{folder}', ignore_errors=True)
-                shutil.copytree(f'{WORK}/{origin}', f'{WORK}/{folder}')
-            write(f'{WORK}/laws.0/specs/{module.short}.antt', renamed(c[5]))
-            said = check('laws-inc', 'laws.0', 900)
-            v = dict(name=title, laws={k: n[:3] for k, n in errors(said).items()}, said=said[-1][:80], seconds=round(time.time() - began, 1))
-            with open(path, 'a', encoding='utf-8') as f:
-                f.write(json.dumps(v, ensure_ascii=False) + '\n')
-            print(v['seconds'], title[:140], '|', v['laws'] or v['said'], flush=True)
+            if digest(made, module.short, c[5]) in unseen:
+                held(module, name, c, lawful, done)
+
+
+def held(module, name, c, lawful, done):
+    title, key = titled(module, name, c), digest(lawful, module.short, c[5])
+    if key in done:
+        return done[key]
+    began = time.time()
+    for folder, origin in [('laws.0', 'laws'), ('laws-inc', 'laws-clean')]:
+        shutil.rmtree(f'{WORK}/{folder}', ignore_errors=True)
+        shutil.copytree(f'{WORK}/{origin}', f'{WORK}/{folder}')
+    write(f'{WORK}/laws.0/specs/{module.short}.antt', renamed(c[5]))
+    said = check('laws-inc', 'laws.0', 900)
+    v = dict(key=key, name=title, laws={k: n[:3] for k, n in errors(said).items()}, said=said[-1][:80], seconds=round(time.time() - began, 1))
+    with open(f'{WORK}/verdicts.laws', 'a', encoding='utf-8') as f:
+        f.write(json.dumps(v, ensure_ascii=False) + '\n')
+    print(v['seconds'], title[:140], '|', v['laws'] or v['said'], flush=True)
+    return v
 
 
 # ---- the table
@@ -1028,31 +1083,30 @@ def titled(module, name, c):
 
 
 def verdicts():
-    """The verdicts of every part, each of a mutant that was taken."""
-    found = {}
+    """The verdicts of every part on the definitions as they are, each of a mutant that was taken, with the key of the laws' verdict."""
+    made, lawful, found = make(anew=False), digest(law_files()), {}
+    current = {digest(made, module.short, c[5]): digest(lawful, module.short, c[5]) for module, _, of in plan() for c in of}
     for name in sorted(os.listdir(WORK)):
         if re.fullmatch(r'verdicts\.\d+', name):
-            for line in read(f'{WORK}/{name}').splitlines():
-                v = json.loads(line)
-                if v['failed'] is not None:
-                    found[v['name']] = v
+            for v in map(json.loads, read(f'{WORK}/{name}').splitlines()):
+                if v['failed'] is not None and v['key'] in current:
+                    found[v['key']] = dict(v, law=current[v['key']])
     return list(found.values())
 
 
 def table():
-    path = f'{WORK}/verdicts.laws'
-    lawful = {v['name']: v['laws'] for v in map(json.loads, read(path).splitlines())} if os.path.exists(path) else {}
+    lawful = {v['key']: v['laws'] for v in map(json.loads, kept('verdicts.laws').splitlines())}
     columns = [('mutants', lambda v: True), ('marked cases', lambda v: 'Marked' in v['failed']), ('further cases', lambda v: 'Further' in v['failed']), ('vectors', lambda v: 'Vectors' in v['failed']),
                ('list', lambda v: {'Listed', 'Rows'} & set(v['failed'])), ('captures', lambda v: {'Published', 'Sound', 'Damaged'} & set(v['failed'])),
                ('what was added alone', lambda v: v['failed'] and not set(v['failed']) - {'Rows', 'Further'}),
-               ('a law alone', lambda v: not v['failed'] and lawful.get(v['name'])), ('none', lambda v: not v['failed'] and not lawful.get(v['name']))]
+               ('a law alone', lambda v: not v['failed'] and lawful.get(v['law'])), ('none', lambda v: not v['failed'] and not lawful.get(v['law']))]
     all_of = verdicts()
-    print('| crate | ' + ' | '.join(c for c, _ in columns) + ' |')
+    print('| definitions | ' + ' | '.join(c for c, _ in columns) + ' |')
     print('|---' * (len(columns) + 1) + '|')
-    for crate in crates():
-        of = [v for v in all_of if v['crate'] == crate]
+    for crate, module in modules():
+        of = [v for v in all_of if (v['crate'], v['module']) == (crate, module)]
         if of:
-            print(f'| {crate} | ' + ' | '.join(str(sum(bool(test(v)) for v in of)) for _, test in columns) + ' |')
+            print(f'| {crate}/{module} | ' + ' | '.join(str(sum(bool(test(v)) for v in of)) for _, test in columns) + ' |')
     print('| all | ' + ' | '.join(str(sum(bool(test(v)) for v in all_of)) for _, test in columns) + ' |')
     print()
     rules = {}
@@ -1062,7 +1116,7 @@ def table():
     print(len({(v['crate'], v['module'], v['definition']) for v in all_of}), 'definitions')
     for v in all_of:
         if not v['failed']:
-            print(v['name'], '|', 'law: ' + ', '.join(lawful[v['name']]) if lawful.get(v['name']) else 'none')
+            print(v['name'], '|', 'law: ' + ', '.join(lawful[v['law']]) if lawful.get(v['law']) else 'none' if v['law'] in lawful else 'not held to the laws')
 
 
 def main():
@@ -1070,16 +1124,17 @@ def main():
     if words == ['make']:
         make()
     elif words == ['mutants']:
+        make(anew=False)
         for module, name, of in plan():
             for c in of[:share(len(of))]:
                 print(titled(module, name, c))
     elif words[:1] == ['run']:
-        part, parts = map(int, (words[1:] or ['1/1'])[0].split('/'))
-        run(part - 1, parts)
+        part, parts = map(int, words[1].split('/')) if words[1:] and re.fullmatch(r'\d+/\d+', words[1]) else (1, 1)
+        run(part - 1, parts, [w for w in words[1:] if not re.fullmatch(r'\d+/\d+', w)])
     elif words == ['listed']:
         write_listed()
-    elif words == ['laws']:
-        laws()
+    elif words[:1] == ['laws']:
+        laws([f'crates/{w.replace("/", "/specs/")}.antt' for w in words[1:]])
     elif words == ['table']:
         table()
     else:

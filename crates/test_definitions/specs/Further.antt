@@ -20,13 +20,15 @@ use Rattle.scope.specs.declared.traps.Reply.the-variants as reply
 use Rattle.isa_types.specs.declared.Width.the-variants as width
 use Rattle.isa_consts.specs.Sbi.{eidPmu}
 use Rattle.isa_registers.specs.Values.{delegatedExceptions, delegatedInterrupts}
+use Rattle.scope.specs.declared.hosts.HostCall.{HostCall}
+use Rattle.scope.specs.declared.hosts.HostCall.the-variants as hostCall
 use Rattle.scope.specs.declared.machine.EcallAsk.the-variants as asked
 use Rattle.scope.specs.declared.machine.Outcome.{Outcome}
 use Rattle.scope.specs.declared.machine.Vcpu.{Vcpu}
 use Rattle.scope.specs.declared.machine.Waiting.{Waiting}
 use Rattle.scope.specs.declared.machine.Waiting.the-variants as waiting
 use Rattle.scope.specs.Calls.{askedCount, firstOf, newOf, printCount, printedOf}
-use Rattle.scope.specs.Words.{askedWords, waitingWords}
+use Rattle.scope.specs.Words.{askedWords, callBy, waitingWords}
 use Rattle.in_place_record.specs.View.{askCount, askedWordCount, besideOf, exitCount, hostLeaves, outOf, refusalWord, replyWord, trapLeaves, waitingCount}
 use Rattle.replay_scope.specs.Lines.{bytes, lineOf, nibbleOf, pushOf}
 use Rattle.replay_digits.specs.Hex.{digitOf, hexOf}
@@ -62,6 +64,21 @@ left w r = trapLeaves marked (record { vcpu = holding w; reply = r; args = [] })
 
 abbrev stays : Waiting → List ℕ
 stays w = left w (reply.Exit exit.Nothing)
+
+-- the register that a call reads
+unfoldable registerRead : HostCall → List ℕ
+registerRead hostCall.Setup = []
+registerRead (hostCall.SetEntry a) = []
+registerRead (hostCall.GetGpr i) = i ∷ []
+registerRead (hostCall.SetGpr i n) = []
+registerRead (hostCall.SetReturnValue n) = []
+registerRead (hostCall.SetNestedPageTable l m r) = []
+registerRead (hostCall.SetPending n l) = []
+registerRead (hostCall.LatchHvip n) = []
+registerRead (hostCall.CompleteIpi k c) = []
+registerRead (hostCall.Start t) = []
+registerRead (hostCall.Answer a) = []
+registerRead (hostCall.CompleteLoad n) = []
 
 -- how a line was read: its number, where it stands and the bytes that are left
 unfoldable gotNumbers : Got → List ℕ
@@ -172,6 +189,9 @@ further =
     ∷ row (left waiting.Idle (reply.Error error.WrongAnswer)) (21 ∷ 22 ∷ 23 ∷ 24 ∷ [])
     ∷ row (left waiting.Idle (reply.Error error.Unsupported)) (0 ∷ 22 ∷ 23 ∷ 24 ∷ [])
     ∷ row (hostLeaves marked (record { vcpu = holding waiting.Idle; reply = reply.Done; args = [] })) (21 ∷ 22 ∷ 23 ∷ 24 ∷ [])
+    -- docs/DECISIONS.md: a call of no known kind reads a register that isn't there
+    ∷ row (registerRead (callBy 0 1 2 3 4 5)) (32 ∷ [])
+    ∷ row (registerRead (callBy 13 1 2 3 4 5)) (32 ∷ [])
     ∷ []
 
 equal : List ℕ → List ℕ → Bool
@@ -186,5 +206,5 @@ all (r ∷ rs) = and (equal (r .got) (r .wanted)) (all rs)
 
 -- the whole table
 table : T (all further)
-unfolding all equal further row holding gotNumbers digitNumbers taken answerNumber answerValues fetchNumber fetchValue flagOf firstOf newOf printCount askedCount printedOf delegatedExceptions delegatedInterrupts takenOf lineOf digitOf nibbleOf pushOf hexOf outOf hostLeaves trapLeaves waitingCount askedWordCount waitingWords askedWords refusalWord replyWord errorNumber putAt exitCount askCount besideOf exitValues askValues exitNumber accessNumber abiNumber widthBytes
+unfolding all equal further row holding registerRead callBy gotNumbers digitNumbers taken answerNumber answerValues fetchNumber fetchValue flagOf firstOf newOf printCount askedCount printedOf delegatedExceptions delegatedInterrupts takenOf lineOf digitOf nibbleOf pushOf hexOf outOf hostLeaves trapLeaves waitingCount askedWordCount waitingWords askedWords refusalWord replyWord errorNumber putAt exitCount askCount besideOf exitValues askValues exitNumber accessNumber abiNumber widthBytes
 table = tt
