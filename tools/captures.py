@@ -228,7 +228,10 @@ def long_one():
 def main():
     os.chdir(os.path.join(os.path.dirname(os.path.abspath(__file__)), ".."))
     if sys.argv[1:2] == ["--try"]:
-        compare(*[int(word) for word in sys.argv[2:]] + [1000, 1][len(sys.argv) - 2:])
+        count, seed = [int(word) for word in sys.argv[2:]] + [1000, 1][len(sys.argv) - 2:]
+        if count < 1:
+            sys.exit("tools/captures.py: COUNT is a number, 1 or more")
+        compare(count, seed)
     names = []
     if os.environ.get("RISCV_VCPU_SRC"):
         build("diff")

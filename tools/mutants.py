@@ -16,6 +16,7 @@ not count. The rest is sorted:
     fit        the proof file did not fit, and tools/prove.py writes none that does
     unfit      the proof file did not fit, and no new one was tried (--later); `left` in the table
     run        accepted, and the program then writes something else than its file `stdout`
+    broken     accepted, and the program is not built, ends by a signal or with a status, or does not end: nothing was compared
     accepted   proved, by the proof as it is or by a new one. Each has its reason in tools/mutants.txt, or is open
 
 --each N takes at most N mutants of a function and a rule, --most N at most N of a function, chosen by a hash, so the
@@ -43,7 +44,7 @@ WORK = f"{ROOT}/target/mutants"
 RESULTS = f"{ROOT}/docs/mutants.jsonl"
 # A library whose functions promise safety alone, and the program whose output shows what they do.
 SHOWN_BY = {"test_call_lines": "test_call_list"}
-SORTS = ("fact", "fact-new", "fit", "unfit", "run", "accepted")
+SORTS = ("fact", "fact-new", "fit", "unfit", "run", "broken", "accepted")
 
 # ---- reading the code
 
@@ -410,12 +411,11 @@ def mutants(crates, each, most):
 
 def kit():
     """The toolchain's folder, and what of it is for this machine."""
-    home = os.environ.get("RATTLE_HOME")
-    if not home:
-        guide = subprocess.run(["rt", "doc"], capture_output=True, text=True).stdout.strip()
-        home = os.path.dirname(os.path.dirname(guide))
-    own = f"{home}/on/{os.uname().machine}"
-    return home, own if os.path.isdir(own) else home
+    found = subprocess.run([f"{ROOT}/tools/kit"], stdout=subprocess.PIPE, text=True)
+    if found.returncode:
+        sys.exit(found.returncode)  # it has said what it looked for
+    home = found.stdout.strip()
+    return home, f"{home}/on/{os.uname().machine}"
 
 
 class Copy:
@@ -463,9 +463,10 @@ class Copy:
     def check(self, *words):
         return self.rattle("check", "--incremental", f"{self.root}/target/inc/{self.crate}", *words)
 
-    def runs_alike(self, program=None):
-        """Whether the crate, or a program over it, still writes what its file `stdout` has; and what happened. It runs as
-        under `rt check`: over a copy of its data, and as nobody where this is root."""
+    def by_run(self, program=None):
+        """The sort of an accepted mutant by its run: `accepted` where the crate, or a program over it, still writes what its
+        file `stdout` has, `run` where it writes something else, `broken` where it wrote nothing to judge; and what happened.
+        It runs as under `rt check`: over a copy of its data, and as nobody where this is root."""
         tools, room = f"{self.own}/toolchain", tempfile.mkdtemp()
         folder = f"{ROOT}/crates/{program}" if program else self.dir
         try:
@@ -476,9 +477,11 @@ class Copy:
                 status, said = self.rattle("build", "--incremental", kept, "--toolchain", tools, "-o", f"{room}/program.o",
                                            program=program, rlib=f"{room}/{self.crate}.rlib")
             if status:
-                return False, said[-160:]
-            subprocess.run([f"{self.own}/bin/rattle-link", "--target", "x86_64-unknown-linux-gnu", "--toolchain", tools, "-o", f"{room}/program",
-                            f"{room}/program.o", f"{self.home}/lib/libos_c.a"], check=True, capture_output=True)
+                return "broken", said[-160:]
+            linked = subprocess.run([f"{self.own}/bin/rattle-link", "--target", "x86_64-unknown-linux-gnu", "--toolchain", tools, "-o", f"{room}/program",
+                                     f"{room}/program.o", f"{self.home}/lib/libos_c.a"], capture_output=True, text=True)
+            if linked.returncode:
+                return "broken", f"rattle-link: {linked.stderr[-140:]}"
             part = lambda name: open(f"{folder}/{name}", "rb").read() if os.path.isfile(f"{folder}/{name}") else b""
             shutil.copytree(f"{folder}/data", f"{room}/data") if os.path.isdir(f"{folder}/data") else os.mkdir(f"{room}/data")
             line = [f"{tools}/lib/ld-linux-x86-64.so.2", "--library-path", f"{tools}/lib", f"{room}/program", *part("args").decode().split("\n")]
@@ -493,10 +496,10 @@ class Copy:
             try:
                 done = subprocess.run(line, input=part("stdin"), capture_output=True, cwd=f"{room}/data", timeout=120)
             except subprocess.TimeoutExpired:
-                return False, "the program does not end"
+                return "broken", "the program does not end"
             if done.returncode:
-                return False, f"the program ends with status {done.returncode}"
-            return done.stdout == part("stdout"), "" if done.stdout == part("stdout") else "the program writes something else"
+                return "broken", f"the program ends with status {done.returncode}"
+            return ("accepted", "") if done.stdout == part("stdout") else ("run", "the program writes something else")
         finally:
             shutil.rmtree(room, ignore_errors=True)
 
@@ -661,8 +664,7 @@ def run_accepted(copy, done):
         for k, (m, sort, message) in enumerate(done):
             if sort == "accepted":
                 change(copy, [m])
-                alike, said = copy.runs_alike(SHOWN_BY.get(copy.crate))
-                done[k] = (m, "accepted" if alike else "run", said)
+                done[k] = (m, *copy.by_run(SHOWN_BY.get(copy.crate)))
     return done
 
 
@@ -755,7 +757,7 @@ def table(deps):
         rows.setdefault(m.crate, dict.fromkeys(SORTS, 0))[r["sort"]] += 1
         if r["sort"] == "accepted":
             accepted.append(m)
-    out = ["| crate | tried | fact | fact, new proof | fit | left | noticed by the run | accepted |", "|---|---|---|---|---|---|---|---|"]
+    out = ["| crate | tried | fact | fact, new proof | fit | left | noticed by the run | broken | accepted |", "|---|---|---|---|---|---|---|---|---|"]
     for crate in [c for c in deps if c in rows] + ["all"]:
         row = rows.get(crate) or {s: sum(r[s] for r in rows.values()) for s in SORTS}
         out.append(f"| {crate} | {sum(row.values())} | " + " | ".join(str(row[s]) for s in SORTS) + " |")
@@ -796,6 +798,9 @@ def apply_edit(copy, path):
 def edits(names, deps):
     folder = f"{ROOT}/edits"
     crates = sorted(os.listdir(folder), key=lambda c: list(deps).index(c) if c in deps else -1) if os.path.isdir(folder) else []
+    unknown = [n for n in names if n not in crates]
+    if unknown or not crates:
+        sys.exit(f"tools/mutants.py: edits/ has no folder {' '.join(unknown)}".rstrip())
     crates = [c for c in crates if not names or c in names]
     refused, bad = 0, []
     gone = [c for c in crates if c not in deps]
@@ -818,7 +823,7 @@ def edits(names, deps):
             bad += [f"{crate}/{file}"] if wrong else []
             print(f"{crate}/{file[:-5]}: {wrong or 'refused, as it must be'} ({time.time() - began:.0f} s)", flush=True)
     print(f"{refused} edits refused, {len(bad)} not")
-    return 1 if bad else 0
+    return 1 if bad or not refused else 0
 
 
 def main():

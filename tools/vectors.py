@@ -240,7 +240,7 @@ def wrong_lines():
 
 
 def main():
-    folder = sys.argv[1] if len(sys.argv) > 1 else os.path.join(os.path.dirname(__file__), "..", "crates", "vectors", "data")
+    folder = sys.argv[1] if len(sys.argv) > 1 else os.path.join(os.path.dirname(__file__), "..", "crates", "test_vectors", "data")
     lists = {
         "decode": decode_list(random.Random(1)),
         "fetched": fetched_list(random.Random(2)),

@@ -7,6 +7,10 @@ int main(int argc, char **argv) {
         return 2;
     }
     word seed = strtoull(argv[1], NULL, 10), calls = strtoull(argv[2], NULL, 10), sum = 0;
+    if (calls == 0) {
+        fprintf(stderr, "random: CALLS is a number, 1 or more\n");
+        return 2;
+    }
     word record[58] = {0};
     state = seed;
     for (word i = 0; i < calls; i++) {

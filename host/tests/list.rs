@@ -164,7 +164,7 @@ fn spread() -> Record {
 
 /// The list of a seed: a line for each word that the run writes into the record and for each call. A line is the call's six
 /// words, the returned number, and the sum of `out` and of the record after it. The rows follow.
-fn list_of(seed: u64) -> (String, BTreeSet<(u64, u64, u64, u64)>) {
+fn list_of(seed: u64, rows: &[(Vec<(usize, u64)>, Call)]) -> (String, BTreeSet<(u64, u64, u64, u64)>) {
     let mut text = String::new();
     let mut reached = BTreeSet::new();
     let mut r = Random(seed);
@@ -176,7 +176,6 @@ fn list_of(seed: u64) -> (String, BTreeSet<(u64, u64, u64, u64)>) {
         let sum = reply.out.iter().fold(0, |sum, word| sum_word(sum, *word));
         writeln!(text, "{:016x} {:016x}", reply.code, sum_record(sum, record)).unwrap();
     };
-    let rows = rows();
     for i in 0..CALLS + rows.len() as u64 {
         let mut changed = record;
         let call = match i.checked_sub(CALLS) {
@@ -217,7 +216,7 @@ fn missing(reached: &BTreeSet<(u64, u64, u64, u64)>) -> (Vec<u64>, Vec<u64>) {
 
 #[test]
 fn the_list_is_the_models() {
-    let (text, reached) = list_of(SEED);
+    let (text, reached) = list_of(SEED, &rows());
     let (codes, kinds) = missing(&reached);
     assert!(codes.is_empty() && kinds.is_empty(), "not reached: {codes:x?}, calls {kinds:?}");
     if std::env::var_os("WRITE_LIST").is_some() {
@@ -265,7 +264,9 @@ fn the_wrong_list_is_wrong_in_one_byte_of_each_line() {
 #[test]
 fn the_library_gives_what_the_list_says() {
     let mut record: Record = [0; 58];
-    for (i, line) in std::fs::read_to_string(LIST).unwrap().lines().enumerate() {
+    let list = std::fs::read_to_string(LIST).unwrap();
+    assert!(!list.is_empty(), "the list is empty: nothing would be compared");
+    for (i, line) in list.lines().enumerate() {
         let words: Vec<u64> = line.split(' ').map(|word| u64::from_str_radix(word, 16).unwrap()).collect();
         let [call @ .., code, sum] = &words[..] else { panic!("line {}", i + 1) };
         let call: Call = call.try_into().unwrap();
@@ -280,11 +281,12 @@ fn the_library_gives_what_the_list_says() {
     }
 }
 
-/// Prints the seed to use.
+/// Prints the seed to use: the rows are the same for every seed, and are left out.
 #[test]
 #[ignore]
 fn search() {
-    let whole = (0..3000).map(|seed| (seed, list_of(seed).1)).filter(|(_, reached)| missing(reached) == (vec![], vec![]));
+    let whole = (0..3000).map(|seed| (seed, list_of(seed, &[]).1)).filter(|(_, reached)| missing(reached) == (vec![], vec![]));
     let best = whole.map(|(seed, reached)| (reached.len(), std::cmp::Reverse(seed))).max().expect("no seed reaches all");
     println!("seed {}: {} outcomes", best.1 .0, best.0);
+    assert_eq!(best.1 .0, SEED, "SEED is another");
 }

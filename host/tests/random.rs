@@ -18,6 +18,7 @@ fn setting(name: &str, otherwise: u64) -> u64 {
 #[test]
 fn random_calls_give_what_the_model_gives() {
     let (calls, seed) = (setting("CALLS", 20_000), setting("SEED", 1));
+    assert!(calls > 0, "CALLS is 0: nothing would be compared");
     let mut r = Random(seed);
     let mut record: Record = [0; 58];
     let (mut sum, mut alike, mut reached) = (0, 0, BTreeMap::new());

@@ -4,8 +4,9 @@
     export RISCV_VCPU_SRC=<folder of riscv_vcpu 0.6.3, with src/vcpu.rs in it>
     oracle/plant/plant.py [--results FILE] [--part I/N] [--only NAME] [--traps N] [--table FILE] [--list]
 
-Each fault is planted in a copy in a temporary folder. A fault is noticed if the run ends with a mismatch, with a class that was not
-reached, or by a signal. A fault that is not noticed needs a reason in reasons.py; one without a reason fails the script. What was
+Each fault is planted in a copy in a temporary folder. A fault is noticed if the run ends with a mismatch, or with a class that was
+not reached. A run that says neither (it does not end, or ends by a signal or a panic) is broken: the comparison has not seen the
+fault, whatever else did. A fault that is not noticed needs a reason in reasons.py; one without a reason fails the script. What was
 found is kept in --results (plant.results in the temporary folder's parent by default), and a later start goes on from there.
 """
 
@@ -27,15 +28,20 @@ PUBLISHED = ["vcpu.rs", "sbi_ipi.rs", "registers.rs", "consts.rs", "types.rs"]
 # The stand-in of log has no line that is run, and host and thiserror have no token that a rule counts.
 STANDINS = ["published/src", "stand-ins"]
 GIB = 1 << 30
+NOT_BUILT = "broken: cargo build:"
 
 
 def main():
     options = read_options()
+    if options.traps < 1 or not 1 <= options.part[0] <= options.part[1]:
+        sys.exit("--traps is 1 or more, and --part is I/N with I from 1 to N")
     source = Path(os.environ.get("RISCV_VCPU_SRC", ""))
     if not (source / "src/vcpu.rs").is_file():
         sys.exit("Set RISCV_VCPU_SRC to the folder of riscv_vcpu 0.6.3, the one with src/vcpu.rs in it.")
     planted = [(name, fault) for name, text in texts(source) for fault in faults(text)]
     planted = [(name, fault) for name, fault in planted if not options.only or options.only in name]
+    if not planted:
+        sys.exit(f"no file's name holds {options.only}: no fault is planted")
     if options.list:
         for name, fault in planted:
             print(f"{title(name, fault)}\t{fault.function}")
@@ -96,8 +102,15 @@ class Bench:
         return (self.source / "src" / name if name in PUBLISHED else ORACLE / name).read_text()
 
     def build(self):
+        """What is wrong with the copy as it stands, if anything."""
         command = ["nice", "-n", "10", "cargo", "build", "--offline", "--quiet", "-p", "diff"]
-        return subprocess.run(command, cwd=self.folder, env=self.environment, capture_output=True).returncode == 0
+        done = subprocess.run(command, cwd=self.folder, env=self.environment, capture_output=True, text=True)
+        if done.returncode == 0:
+            return ""
+        # The compiler's word, with a place in the text, makes a fault one that does not compile. A full disk or a linker says nothing of it.
+        if re.search(r"^error(\[E\d+\])?: .*\n +--> ", done.stderr, re.M):
+            return "does not compile"
+        return f"{NOT_BUILT} {(done.stderr.strip().splitlines() or ['status ' + str(done.returncode)])[0]}"
 
     def run(self):
         """What the run says of the copy as it stands."""
@@ -107,24 +120,24 @@ class Bench:
         try:
             done = subprocess.run(command, capture_output=True, text=True, timeout=120, preexec_fn=limit)
         except subprocess.TimeoutExpired:
-            return "noticed: the run does not end"
+            return "broken: the run does not end"
         if done.returncode == 0:
             return "not noticed"
         if done.returncode < 0:
-            return f"noticed: signal {-done.returncode}"
+            return f"broken: signal {-done.returncode}"
         last = re.search(r"^(\d+) traps, (\d+) unexplained$", done.stdout, re.M)
         if last and last[2] != "0":
             return f"noticed after {last[1]}"
         missed = [line for line in done.stdout.splitlines() if line.startswith("not reached")]
         if missed:
             return f"noticed: {missed[0]}"
-        return f"noticed: status {done.returncode}"
+        return f"broken: status {done.returncode}"
 
     def plant(self, name, fault):
         text = self.original(name)
         self.path(name).write_text(text[: fault.start] + fault.text + text[fault.end :])
         try:
-            return self.run() if self.build() else "does not compile"
+            return self.build() or self.run()
         finally:
             self.path(name).write_text(text)
 
@@ -133,8 +146,9 @@ def plant_all(mine, results, options, bench):
     due = [(name, fault) for name, fault in mine if title(name, fault) not in results]
     if not due:
         return
-    if not bench.build() or bench.run() != "not noticed":
-        sys.exit("the program does not run through without a fault: nothing can be learned from it")
+    found = bench.build() or bench.run()
+    if found != "not noticed":
+        sys.exit(f"the program does not run through without a fault ({found}): nothing can be learned from it")
     with options.results.open("a") as kept:
         for at, (name, fault) in enumerate(due, 1):
             found = bench.plant(name, fault)
@@ -149,7 +163,9 @@ def read_results(path):
     if path.is_file():
         for line in path.read_text().splitlines():
             start, found = line.rsplit("\t", 1)
-            results[start] = found
+            # a run that broke says nothing that should be kept: it is tried again
+            if not found.startswith("broken"):
+                results[start] = found
     return results
 
 
@@ -157,18 +173,22 @@ def finish(mine, results, options):
     """Writes the table; fails if a fault was not noticed and has no reason."""
     rows = [(name, fault, results[title(name, fault)]) for name, fault in mine]
     built = [row for row in rows if row[2] != "does not compile"]
-    noticed = [row for row in built if row[2] != "not noticed"]
+    broken = [row for row in built if row[2].startswith("broken")]
+    noticed = [row for row in built if row[2].startswith("noticed")]
     missed = [row for row in built if row[2] == "not noticed"]
     without = [(name, fault) for name, fault, _ in missed if not reason_for(name, fault)]
-    text = table(rows, built, noticed, missed)
+    text = table(rows, built, noticed, broken, missed)
     if options.table:
         options.table.write_text(text)
     else:
         print(text)
     for name, fault in without:
         print(f"no reason: {name} {fault.kind} {fault.ordinal} in {fault.function}")
-    print(f"{len(built)} faults planted, {len(noticed)} noticed, {len(missed)} not, {len(without)} of these without a reason")
-    sys.exit(1 if without else 0)
+    print(f"{len(built)} faults planted, {len(noticed)} noticed, {len(broken)} broken, {len(missed)} not noticed, {len(without)} of these without a reason")
+    unbuilt = [row for row in broken if row[2].startswith(NOT_BUILT)]
+    for name, fault, found in unbuilt:
+        print(f"not tried: {name} {fault.kind} {fault.ordinal}: {found}")
+    sys.exit(1 if without or unbuilt else 0)
 
 
 HEADER = """# Planted faults
@@ -180,9 +200,9 @@ HEADER = """# Planted faults
 """
 
 
-def table(rows, built, noticed, missed):
+def table(rows, built, noticed, broken, missed):
     lines = [HEADER + "\n".join(f"| {kind} | {what} |" for kind, what in KINDS.items()), ""]
-    lines.append(f"{len(rows)} faults, of which {len(built)} compile. {len(noticed)} are noticed and {len(missed)} are not.")
+    lines.append(f"{len(rows)} faults, of which {len(built)} compile. {len(noticed)} are noticed, {len(broken)} break the run and {len(missed)} are not noticed.")
     counts = sorted(int(found.rsplit(" ", 1)[1]) for _, _, found in noticed if found.startswith("noticed after"))
     if counts:
         lines[-1] += f" Half of those noticed by a mismatch are noticed within {counts[len(counts) // 2]:,} traps, all within {counts[-1]:,}."
@@ -193,7 +213,7 @@ def table(rows, built, noticed, missed):
     for (name, function, reason), which in groups.items():
         lines.append(f"| {name} | {function} | {', '.join(which)} | {reason} |")
     lines += ["", "## Noticed", ""]
-    lines += ["In brackets: after how many traps, where 0 is before the first; or how the run ended otherwise.", ""]
+    lines += ["In brackets: after how many traps, where 0 is before the first; or the class that was not reached.", ""]
     lines += ["| file | kind | faults |", "|---|---|---|"]
     groups = {}
     for name, fault, found in noticed:
@@ -201,6 +221,10 @@ def table(rows, built, noticed, missed):
         groups.setdefault((name, fault.kind), []).append(f"{fault.ordinal} ({how})")
     for (name, kind), which in groups.items():
         lines.append(f"| {name} | {kind} | {', '.join(which)} |")
+    if broken:
+        lines += ["", "## Broken", "", "The run ends before it compares: by a signal, by a panic, or not at all.", ""]
+        lines += ["| file | fault | how |", "|---|---|---|"]
+        lines += [f"| {name} | {fault.kind} {fault.ordinal} | {found.removeprefix('broken: ')} |" for name, fault, found in broken]
     return "\n".join(lines) + "\n"
 
 
