@@ -20,6 +20,7 @@ the facts off those places and fills the frame. What a function needs beside tha
 
 The proof files are part of the repository and are checked by the gate; this script is not.
 """
+import glob
 import os
 import re
 import shutil
@@ -171,6 +172,12 @@ def main():
         sys.exit(__doc__)
     crate, names = sys.argv[1], [a for a in sys.argv[2:] if a != "--all"]
     proofs = f"crates/{crate}/proofs"
+    if not os.path.isdir(f"crates/{crate}/src"):
+        sys.exit(f"tools/prove.py: there is no crate {crate} in crates/")
+    source = "".join(open(path).read() for path in glob.glob(f"crates/{crate}/src/**/*.rt", recursive=True))
+    unknown = [name for name in names if name.rsplit("/", 1)[-1] not in re.findall(r"\bfn\s+(\w+)", source)]
+    if unknown:  # before anything is removed
+        sys.exit(f"tools/prove.py: the crate {crate} has no function {', '.join(unknown)}")
     if "--all" in sys.argv:
         names = [f for f in os.listdir(proofs) if os.path.isfile(f"{proofs}/{f}/Proof.antt")] if os.path.isdir(proofs) else []
     for name in names:
