@@ -10,6 +10,7 @@
                                           which may be files that no list rests on
     tools/definitions.py table            what noticed each
     tools/definitions.py listed           writes crates/test_definitions, which holds the definitions to some of the lists in the gate
+    tools/definitions.py listed --check   writes nothing, and fails where a file of it is not what would be written
 
 A function is proved equal to its definition, so a wrong definition with a function that is wrong alike is accepted. What would
 notice it comes from outside: document 01's marked cases, the vectors, the fixed list of calls and the stored captures. Here each
@@ -580,18 +581,32 @@ def housed(mods, text):
     return lines + text
 
 
-def write_listed():
-    """crates/test_definitions: the rows of the list, and some of the vectors and captures, for the gate."""
+def listed_files():
+    """crates/test_definitions: the rows of the list, and some of the vectors and captures, for the gate. Each file with its text."""
     mods = {k: m for k, m in modules().items() if k[0] != 'test_definitions' or k[1] == 'Further'}
     about = {'Rows': ('The rows of the fixed list of calls (docs/CALLS.md): what the definitions give on each. The plain Rust program of document 01 says what is right.', rows_of(mods)),
              'Vectors': ('Every fortieth of the vectors (docs/VECTORS.md): what the definitions give. objdump and qemu say what is right.', vectors(mods, 40, 10 ** 6)),
              'Captures': ('The first four traps of each stored capture of the published Rust (docs/CAPTURES.md), by the numbers of its lines.', published(mods, 4, 10 ** 6))}
-    folder = f'{ROOT}/crates/test_definitions/specs'
-    for name, (said, text) in about.items():
-        write(f'{folder}/{name}.antt', f'-- {said}\n-- tools/definitions.py listed writes this file.\n' + housed(mods, text))
+    files = {name: f'-- {said}\n-- tools/definitions.py listed writes this file.\n' + housed(mods, text) for name, (said, text) in about.items()}
     needed = re.sub(r', (_[^\w∷]_|_\+\+_|ltb|T)(?=[,}])', '', IMPORTS)
-    write(f'{folder}/Same.antt', '-- Lists of numbers compared, by computing.\n-- tools/definitions.py listed writes this file.\n' + needed + SAME.replace('abbrev', 'abbrev pub'))
-    write(f'{folder}/Lib.antt', ''.join(f'pub mod {n}\n' for n in ['Same', 'Further', *about]))
+    files['Same'] = '-- Lists of numbers compared, by computing.\n-- tools/definitions.py listed writes this file.\n' + needed + SAME.replace('abbrev', 'abbrev pub')
+    files['Lib'] = ''.join(f'pub mod {n}\n' for n in ['Same', 'Further', *about])
+    return {f'crates/test_definitions/specs/{name}.antt': text for name, text in files.items()}
+
+
+def write_listed():
+    for path, text in listed_files().items():
+        write(f'{ROOT}/{path}', text)
+
+
+def check_listed():
+    """A row that is gone leaves a crate that is proved, so the rows are held to what makes them."""
+    wrong = [path for path, text in listed_files().items() if not os.path.exists(f'{ROOT}/{path}') or open(f'{ROOT}/{path}', encoding='utf-8').read() != text]
+    for path in wrong:
+        print(f'{path} is not what tools/definitions.py listed writes')
+    print(f'crates/test_definitions: {len(wrong)} files differ from what makes them')
+    raise SystemExit(1 if wrong else 0)
+
 
 
 # ---- the mutants
@@ -1133,6 +1148,8 @@ def main():
         run(part - 1, parts, [w for w in words[1:] if not re.fullmatch(r'\d+/\d+', w)])
     elif words == ['listed']:
         write_listed()
+    elif words == ['listed', '--check']:
+        check_listed()
     elif words[:1] == ['laws']:
         laws([f'crates/{w.replace("/", "/specs/")}.antt' for w in words[1:]])
     elif words == ['table']:
