@@ -1,6 +1,7 @@
 // A virtual-instruction trap: the guest's CSR instruction on stimecmp, in its six forms.
 ghost use mathlib.Core.Path.{_≡_};
-ghost use Rattle.scope.specs.VirtualInstruction.{clearBits, stimecmpWord, setBits, stimecmpStval, stimecmpBy};
+ghost use Rattle.scope.specs.VirtualInstruction.{stimecmpWord, stimecmpStval, stimecmpBy};
+ghost use Rattle.decide_virtual_inst.specs.Straight.{timerOf};
 ghost use lib.Dec.{eqb};
 ghost use Rattle.isa_types.specs.Pick.{pick};
 ghost use Rattle.isa_consts.specs.Csr.{stimecmp, systemOpcode};
@@ -60,43 +61,26 @@ fn decide_by(opcode: u64, number: u64, word: u64, old: u64, rs1: u64) -> Stimecm
 fn stimecmp(funct3: u64, rd: usize, field: u64, old: u64, rs1: u64) -> Stimecmp
     ensures { λ r. ⌜ r ≡ stimecmpBy funct3 rd field old rs1 ⌝ }
 {
-    match funct3 {
-        1 => Stimecmp::Write { rd, timer: rs1 },
-        2 => Stimecmp::Write {
-            rd,
-            timer: set(field, old, rs1),
-        },
-        3 => Stimecmp::Write {
-            rd,
-            timer: clear(field, old, rs1),
-        },
-        5 => Stimecmp::Write { rd, timer: field },
-        6 => Stimecmp::Write {
-            rd,
-            timer: set(field, old, field),
-        },
-        7 => Stimecmp::Write {
-            rd,
-            timer: clear(field, old, field),
-        },
-        _ => Stimecmp::Illegal,
+    if funct3 % 4 == 0 {
+        return Stimecmp::Illegal;
     }
+    if funct3 < 8 {
+        return Stimecmp::Write {
+            rd,
+            timer: timer(funct3, field, old, rs1),
+        };
+    }
+    Stimecmp::Illegal
 }
 
-fn set(field: u64, old: u64, bits: u64) -> u64
-    ensures { λ r. ⌜ r ≡ setBits field old bits ⌝ }
+// The new timer: rs1 or the field, alone, set or cleared in the old one; the last two write nothing where the field is 0. Each
+// choice is of two numbers that are there, so that no jump follows the guest's words.
+fn timer(funct3: u64, field: u64, old: u64, rs1: u64) -> u64
+    ensures { λ r. ⌜ r ≡ timerOf funct3 field old rs1 ⌝ }
 {
-    if field == 0 {
-        return old;
-    }
-    isa_registers::with_bits(old, bits, true)
-}
-
-fn clear(field: u64, old: u64, bits: u64) -> u64
-    ensures { λ r. ⌜ r ≡ clearBits field old bits ⌝ }
-{
-    if field == 0 {
-        return old;
-    }
-    isa_registers::with_bits(old, bits, false)
+    let given = isa_types::select(funct3 < 4, rs1, field);
+    let set = isa_types::select(funct3 % 4 == 1, 0, old) | given;
+    let new = isa_types::select(funct3 % 4 == 3, old & !given, set);
+    let unwritten = isa_types::select(funct3 % 4 == 1, new, old);
+    isa_types::select(field == 0, unwritten, new)
 }

@@ -27,11 +27,8 @@ pub fn waiting(r: &[u64; 58]) -> Waiting
 pub fn read(r: &[u64; 58], i: usize) -> u64
     ensures { λ n. ⌜ n ≡ readWord (now (r .entry)) i ⌝ }
 {
-    if i == 0 {
-        return 0;
-    }
     if i < 32 {
-        return r[i];
+        return isa_types::select(i == 0, 0, r[i]);
     }
     0
 }

@@ -1,11 +1,11 @@
 -- Through the view, what each class does to words is the effect of the same decision.
 use Prim.Native.Nat.{ℕ, _<_}
 use native.Mathlib.Omega.{arith}
-use borrow.Author.Tests.{ltb-true}
+use borrow.Author.Tests.{eqb-true, ltb-true}
 use lib.Dec.{eqb, ltb}
 use lib.Seq.{drop-set-lt, getD-take, take-set-lt}
 use mathlib.Core.Bool.{Bool, true, false}
-use mathlib.Core.List.{List}
+use mathlib.Core.List.{List, [], _∷_}
 use mathlib.Core.Path.{_≡_, refl, ap, sym, subst, _∙_}
 use lib.ListN.{getD, length, set, take, drop}
 use Rattle.isa_types.specs.Pick.{pick}
@@ -227,6 +227,40 @@ csrs-spelled k = refl
 
 pub csrs-words : (r : List ℕ) → length r ≡ 58 → csrsAt r ≡ viewOf r .csrs
 csrs-words r e = over (λ r. csrsAt r ≡ viewOf r .csrs) csrs-spelled r e
+
+-- the register that a write chooses: x0's slot gets what it holds
+
+slot-kept : (r : List ℕ) → set r 0 (getD r 0 0) ≡ r
+slot-kept [] = refl
+slot-kept (n ∷ l) = refl
+
+put-by-slot : (r : List ℕ) (i n : ℕ) (b : Bool) → eqb i 0 ≡ b → ltb i 32 ≡ true → set r i (pick b (getD r 0 0) n) ≡ pick b r (pick (ltb i 32) (set r i n) r)
+put-by-slot r i n true e h = ap (λ (k : ℕ). set r k (getD r 0 0)) (eqb-true i 0 e) ∙ slot-kept r
+put-by-slot r i n false e h = rw h refl
+
+pub put-straight : (r : List ℕ) (i n : ℕ) → ltb i 32 ≡ true → set r i (pick (eqb i 0) (getD r 0 0) n) ≡ putWord r i n
+unfolding putWord
+put-straight r i n h = put-by-slot r i n (eqb i 0) refl h
+
+same-pick : (b : Bool) (r : List ℕ) → r ≡ pick b r r
+same-pick true r = refl
+same-pick false r = refl
+
+pub put-beyond : (r : List ℕ) (i n : ℕ) → ltb i 32 ≡ false → r ≡ putWord r i n
+unfolding putWord
+put-beyond r i n h = rw h (same-pick (eqb i 0) r)
+
+no-register : (b : Bool) → _≡_ {A = ℕ} 0 (pick b 0 0)
+no-register true = refl
+no-register false = refl
+
+pub read-straight : (r : List ℕ) (i : ℕ) → ltb i 32 ≡ true → pick (eqb i 0) 0 (getD r i 0) ≡ readWord r i
+unfolding readWord
+read-straight r i h = rw h refl
+
+pub read-beyond : (r : List ℕ) (i : ℕ) → ltb i 32 ≡ false → 0 ≡ readWord r i
+unfolding readWord
+read-beyond r i h = rw h (no-register (eqb i 0))
 
 -- a register, read of the words or of the record
 

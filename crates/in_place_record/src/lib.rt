@@ -64,15 +64,13 @@ pub fn sized(r: &[u64; 58]) -> usize
     count(r)
 }
 
-// Writes a general register; x0 stays.
+// Writes a general register; x0's slot is written with what it holds, so that no jump hangs on the register.
 pub fn put(r: &mut [u64; 58], i: usize, n: u64)
     ensures { λ _. ⌜ now (r .exit) ≡ putWord (now (r .entry)) i n ⌝ }
 {
-    if i == 0 {
-        return;
-    }
+    let word = isa_types::select(i == 0, r[0], n);
     if i < 32 {
-        r[i] = n;
+        r[i] = word;
     }
 }
 

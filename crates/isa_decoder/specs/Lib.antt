@@ -3,3 +3,4 @@ pub mod Length
 pub mod Laws
 pub mod Examples
 pub mod Errors
+pub mod Straight

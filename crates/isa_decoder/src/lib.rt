@@ -2,6 +2,7 @@
 // The handler knows this crate by its promises alone.
 ghost use mathlib.Core.Path.{_≡_};
 ghost use Rattle.isa_decoder.specs.Decode.{decodeBy, decodeOf, loadOf, storeOf};
+ghost use Rattle.isa_decoder.specs.Straight.{widthAt};
 ghost use Rattle.isa_decoder.specs.Length.{fetchedOf, htinstOf, opSource, storeSource, transformedOf};
 use isa_types::Width;
 
@@ -50,19 +51,14 @@ fn transformed(word: u64) -> Trapped
     if word == 0x3020 {
         return Trapped::Pseudo;
     }
-    if word % 4 == 1 {
-        return Trapped::Instruction {
-            op: decode(word | 2),
-            length: 2,
-        };
+    if word % 2 == 0 {
+        return Trapped::Unfit;
     }
-    if word % 4 == 3 {
-        return Trapped::Instruction {
-            op: decode(word | 2),
-            length: 4,
-        };
+    // bit 1 is the length: 2 bytes or 4
+    Trapped::Instruction {
+        op: decode(word | 2),
+        length: 2 + word / 2 % 2 * 2,
     }
-    Trapped::Unfit
 }
 
 // What a fetched word says.
@@ -130,71 +126,41 @@ fn op_source(op: Decoded) -> usize
     }
 }
 
-// The seven loads by funct3.
+// The seven loads by funct3: the width is its low two bits, and from 4 on nothing is extended.
 fn load(funct3: u64, rd: usize) -> Decoded
     ensures { λ r. ⌜ r ≡ loadOf funct3 rd ⌝ }
 {
-    match funct3 {
-        0 => Decoded::Load {
-            width: Width::Byte,
-            signed: true,
+    if funct3 < 7 {
+        return Decoded::Load {
+            width: width(funct3 % 4),
+            signed: funct3 < 4,
             rd,
-        },
-        1 => Decoded::Load {
-            width: Width::Half,
-            signed: true,
-            rd,
-        },
-        2 => Decoded::Load {
-            width: Width::Word,
-            signed: true,
-            rd,
-        },
-        3 => Decoded::Load {
-            width: Width::Double,
-            signed: true,
-            rd,
-        },
-        4 => Decoded::Load {
-            width: Width::Byte,
-            signed: false,
-            rd,
-        },
-        5 => Decoded::Load {
-            width: Width::Half,
-            signed: false,
-            rd,
-        },
-        6 => Decoded::Load {
-            width: Width::Word,
-            signed: false,
-            rd,
-        },
-        _ => Decoded::Neither,
+        };
     }
+    Decoded::Neither
 }
 
 // The four stores by funct3.
 fn store(funct3: u64, rs2: usize) -> Decoded
     ensures { λ r. ⌜ r ≡ storeOf funct3 rs2 ⌝ }
 {
-    match funct3 {
-        0 => Decoded::Store {
-            width: Width::Byte,
+    if funct3 < 4 {
+        return Decoded::Store {
+            width: width(funct3),
             rs2,
-        },
-        1 => Decoded::Store {
-            width: Width::Half,
-            rs2,
-        },
-        2 => Decoded::Store {
-            width: Width::Word,
-            rs2,
-        },
-        3 => Decoded::Store {
-            width: Width::Double,
-            rs2,
-        },
-        _ => Decoded::Neither,
+        };
+    }
+    Decoded::Neither
+}
+
+// The four widths in order, as constants alone: the compiler makes arithmetic of it, and no jump.
+fn width(n: u64) -> Width
+    ensures { λ r. ⌜ r ≡ widthAt n ⌝ }
+{
+    match n {
+        0 => Width::Byte,
+        1 => Width::Half,
+        2 => Width::Word,
+        _ => Width::Double,
     }
 }

@@ -1,2 +1,3 @@
 pub mod Extend
 pub mod Extended
+pub mod Asked

@@ -1,51 +1,68 @@
-// A number cut to a width and extended from it.
+// A number cut to a width and extended from it. No branch hangs on the width or the sign: a guest's loads come in any order, and a
+// jump that follows them is often foretold wrong.
 ghost use mathlib.Core.Path.{_≡_};
-ghost use Prim.Native.Nat.{_+_, _<_, _≤_, _^_};
-ghost use Rattle.isa_extension.specs.Extend.{cutOf, extendBy, extendOf, signedBy};
+ghost use Prim.Native.Nat.{_-_, _^_};
+ghost use Rattle.isa_extension.specs.Extend.{cutOf, extendOf, widthBits};
+ghost use Rattle.isa_extension.specs.Asked.{isByte, isHalf, isWord};
 use isa_types::Width;
 
 // A number cut to a width: what a store writes.
 pub fn cut(width: Width, n: u64) -> u64
     ensures { λ r. ⌜ r ≡ cutOf width n ⌝ }
 {
-    match width {
-        Width::Byte => n % 0x100,
-        Width::Half => n % 0x1_0000,
-        Width::Word => n % 0x1_0000_0000,
-        Width::Double => n,
-    }
+    n & mask(width)
 }
 
 // A number cut to a width and extended: what a load writes.
 pub fn extend(width: Width, signed: bool, n: u64) -> u64
     ensures { λ r. ⌜ r ≡ extendOf width signed n ⌝ }
 {
+    let m = mask(width);
+    let low = n & m;
+    // from here on a number stands for a negative one; for an unsigned load no number below the last does
+    let negative = isa_types::select(signed, m / 2 + 1, 0xFFFF_FFFF_FFFF_FFFF);
+    let above = isa_types::select(low < negative, 0, 0xFFFF_FFFF_FFFF_FFFF - m);
+    std::num::wrapping_add_u64(low, above)
+}
+
+// The bits of a width, all set. Each width is asked for alone: one match for all four becomes a jump where the caller has another.
+fn mask(width: Width) -> u64
+    ensures { λ r. ⌜ r ≡ 2 ^ widthBits width - 1 ⌝ }
+{
+    let wide = isa_types::select(is_word(width), 0xFFFF_FFFF, 0xFFFF_FFFF_FFFF_FFFF);
+    let half = isa_types::select(is_half(width), 0xFFFF, wide);
+    isa_types::select(is_byte(width), 0xFF, half)
+}
+
+fn is_byte(width: Width) -> bool
+    ensures { λ r. ⌜ r ≡ isByte width ⌝ }
+{
     match width {
-        Width::Byte => extend_by(0x100, 0x80, 0xffff_ffff_ffff_ff00, signed, n),
-        Width::Half => extend_by(0x1_0000, 0x8000, 0xffff_ffff_ffff_0000, signed, n),
-        Width::Word => extend_by(0x1_0000_0000, 0x8000_0000, 0xffff_ffff_0000_0000, signed, n),
-        Width::Double => n,
+        Width::Byte => true,
+        Width::Half => false,
+        Width::Word => false,
+        Width::Double => false,
     }
 }
 
-// Cut to `size`, a power of two, and where signed and at least `half` of it, with every bit above set.
-fn extend_by(size: u64, half: u64, above: u64, signed: bool, n: u64) -> u64
-    requires { ⌜ (0 < size) × (size + above ≤ 2 ^ 64) ⌝ }
-    ensures { λ r. ⌜ r ≡ extendBy size half above signed n ⌝ }
+fn is_half(width: Width) -> bool
+    ensures { λ r. ⌜ r ≡ isHalf width ⌝ }
 {
-    let low = n % size;
-    if signed {
-        return sign_by(half, above, low);
+    match width {
+        Width::Byte => false,
+        Width::Half => true,
+        Width::Word => false,
+        Width::Double => false,
     }
-    low
 }
 
-fn sign_by(half: u64, above: u64, low: u64) -> u64
-    requires { ⌜ low + above < 2 ^ 64 ⌝ }
-    ensures { λ r. ⌜ r ≡ signedBy half above low ⌝ }
+fn is_word(width: Width) -> bool
+    ensures { λ r. ⌜ r ≡ isWord width ⌝ }
 {
-    if low < half {
-        return low;
+    match width {
+        Width::Byte => false,
+        Width::Half => false,
+        Width::Word => true,
+        Width::Double => false,
     }
-    low + above
 }

@@ -1,5 +1,7 @@
 // The types that stand below all others: the two kinds of guest address, and the width of an access. specs/Pick.antt has the
 // choice by a test that every definition is written with.
+ghost use mathlib.Core.Path.{_≡_};
+ghost use Rattle.isa_types.specs.Pick.{pick};
 
 // An address in a guest's physical memory.
 pub struct GuestPhysAddr(pub u64);
@@ -13,4 +15,14 @@ pub enum Width {
     Half,
     Word,
     Double,
+}
+
+// The choice of two numbers that are there: no jump follows the test, so it may hang on a guest's words at no cost.
+pub fn select(test: bool, one: u64, other: u64) -> u64
+    ensures { λ r. ⌜ r ≡ pick test one other ⌝ }
+{
+    if test {
+        return one;
+    }
+    other
 }

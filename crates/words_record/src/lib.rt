@@ -4,6 +4,7 @@ ghost use Rattle.scope.specs.OneTrap.{flagOf, fetchOf};
 ghost use mathlib.Core.List.{[], _∷_};
 ghost use lib.ListN.{set, take};
 ghost use lib.Seq.{sets};
+ghost use Rattle.words_record.specs.Places.{widthPlace};
 ghost use Rattle.scope.specs.Words.{abiOf, askedWordCount, waitingCount, accessOf, completionOf, csrsOf, csrsWords, laidWith, tested, unpackOf, waitingBy, waitingOf, waitingWords, widthOf, askedWords};
 use isa_types::GuestPhysAddr;
 use isa_types::GuestVirtAddr;
@@ -256,14 +257,23 @@ pub fn fetch_of(word: u64, fault: u64) -> Fetch
     }
 }
 
-// The width of this many bytes; any other number is read as 8.
+// The width of this many bytes; any other number is read as 8. The place of the width is chosen first, so that no jump hangs on
+// which load waits.
 pub fn width_of(n: u64) -> Width
     ensures { λ r. ⌜ r ≡ widthOf n ⌝ }
 {
-    match n {
-        1 => Width::Byte,
-        2 => Width::Half,
-        4 => Width::Word,
+    let wide = isa_types::select(n == 4, 2, 3);
+    let more = isa_types::select(n == 2, 1, wide);
+    width_at(isa_types::select(n == 1, 0, more))
+}
+
+fn width_at(place: u64) -> Width
+    ensures { λ r. ⌜ r ≡ widthPlace place ⌝ }
+{
+    match place {
+        0 => Width::Byte,
+        1 => Width::Half,
+        2 => Width::Word,
         _ => Width::Double,
     }
 }

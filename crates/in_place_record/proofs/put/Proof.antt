@@ -1,13 +1,15 @@
 -- `in_place_record::put` meets its contract.
-use borrow.Author.Tests.{eq-eqb, ne-eqb, lt-ltb, lt-leb, le-ltb, le-leb}
-use Rattle.in_place_record.specs.Rows.{putWord}
+use borrow.Author.Tests.{lt-ltb, le-ltb}
+use Rattle.in_place_record.specs.Laws.{put-straight, put-beyond}
 use borrow.Author.Needs.{needs}
 use Rattle.in_place_record.proofs.put.Statement.{statement}
 use Rattle.in_place_record.proofs.put.Tie as tie
 
-returns : tie.Need-returns
-unfolding putWord
-returns c = simp (eq-eqb _ _ (c .if1 .taken))
+element-copy-out-select : tie.Need-element-copy-out-select
+element-copy-out-select c = search needs
+
+select-requires : tie.Need-select-requires
+select-requires c κs = search needs
 
 mul-r : tie.Need-mul-r
 mul-r c = search needs
@@ -15,13 +17,13 @@ mul-r c = search needs
 element-write-r : tie.Need-element-write-r
 element-write-r c = search needs
 
-returns-2 : tie.Need-returns-2
-unfolding putWord
-returns-2 c = simp (lt-ltb _ _ (c .if2 .taken), lt-leb _ _ (c .if2 .taken), ne-eqb _ _ (c .before .if1 .left))
+returns : tie.Need-returns
+returns c = rw (c .before .select .ensures) (put-straight _ _ _ (lt-ltb _ _ (c .if1 .taken)))
 
-returns-3 : tie.Need-returns-3
-unfolding putWord
-returns-3 c = simp (le-ltb _ _ (c .if2 .left), le-leb _ _ (c .if2 .left), ne-eqb _ _ (c .before .if1 .left))
+returns-2 : tie.Need-returns-2
+returns-2 c = put-beyond _ _ _ (le-ltb _ _ (c .if1 .left))
 
 pub put-spec : {M : Type 1} → statement M
-put-spec = tie.close (tie.spec returns mul-r element-write-r returns-2 returns-3)
+put-spec =
+    tie.close
+    (tie.spec element-copy-out-select select-requires mul-r element-write-r returns returns-2)

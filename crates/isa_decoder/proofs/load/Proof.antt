@@ -1,42 +1,17 @@
 -- `isa_decoder::load` meets its contract.
-use borrow.Author.Tests.{ne-eqb}
-use Rattle.isa_decoder.specs.Decode.{loadOf}
+use Rattle.isa_decoder.specs.Straight.{load-straight, load-none}
+use borrow.Author.Needs.{needs}
 use Rattle.isa_decoder.proofs.load.Statement.{statement}
 use Rattle.isa_decoder.proofs.load.Tie as tie
 
+width-requires : tie.Need-width-requires
+width-requires c κs = search needs
+
 returns : tie.Need-returns
-unfolding loadOf
-returns c = simp (c .match .keys1)
+returns c = simp (c .width .ensures) (load-straight _ _ (c .before .if1 .taken))
 
 returns-2 : tie.Need-returns-2
-unfolding loadOf
-returns-2 c = simp (c .match .keys2)
-
-returns-3 : tie.Need-returns-3
-unfolding loadOf
-returns-3 c = simp (c .match .keys3)
-
-returns-4 : tie.Need-returns-4
-unfolding loadOf
-returns-4 c = simp (c .match .keys4)
-
-returns-5 : tie.Need-returns-5
-unfolding loadOf
-returns-5 c = simp (c .match .keys5)
-
-returns-6 : tie.Need-returns-6
-unfolding loadOf
-returns-6 c = simp (c .match .keys6)
-
-returns-7 : tie.Need-returns-7
-unfolding loadOf
-returns-7 c = simp (c .match .keys7)
-
-returns-8 : tie.Need-returns-8
-unfolding loadOf
-returns-8 c = simp (ne-eqb _ _ (c .match .rest .1), ne-eqb _ _ (c .match .rest .0 .1), ne-eqb _ _ (c .match .rest .0 .0 .1), ne-eqb _ _ (c .match .rest .0 .0 .0 .1), ne-eqb _ _ (c .match .rest .0 .0 .0 .0 .1), ne-eqb _ _ (c .match .rest .0 .0 .0 .0 .0 .1), ne-eqb _ _ (c .match .rest .0 .0 .0 .0 .0 .0 .1))
+returns-2 c = load-none _ _ (c .if1 .left)
 
 pub load-spec : {M : Type 1} → statement M
-load-spec =
-    tie.close
-    (tie.spec returns returns-2 returns-3 returns-4 returns-5 returns-6 returns-7 returns-8)
+load-spec = tie.close (tie.spec width-requires returns returns-2)
