@@ -7,7 +7,13 @@ fn main() {
     println!("cargo:rerun-if-env-changed=CURBIZZOLU_LIB_DIR");
     let arch = env::var("CARGO_CFG_TARGET_ARCH").unwrap_or_default();
     let none = env::var("CARGO_CFG_TARGET_OS").is_ok_and(|os| os == "none");
-    let processor = if none { format!("{arch}-none") } else { arch };
+    // a RISC-V target without the D extension is lp64, and its linker takes no lp64d object
+    let soft = env::var("CARGO_CFG_TARGET_FEATURE").is_ok_and(|list| !list.split(',').any(|one| one == "d"));
+    let processor = match (none, arch.as_str()) {
+        (true, "riscv64") if soft => format!("{arch}-none-lp64"),
+        (true, _) => format!("{arch}-none"),
+        (false, _) => arch,
+    };
     let dir = match env::var_os("CURBIZZOLU_LIB_DIR") {
         Some(dir) => PathBuf::from(dir),
         None => Path::new(&env::var("CARGO_MANIFEST_DIR").unwrap())
