@@ -67,10 +67,11 @@ void finish(struct guest *g, const struct vcpu_trap *t, u64 reply, const u64 *wo
     case VCPU_EXIT_MMIO_WRITE:
         if (is_device(at, bytes)) device_write(g, at, bytes, word[VCPU_WORD_MMIO_DATA]);
         return;
-    case VCPU_ERROR + VCPU_UNSUPPORTED:
-        if (t->scause != 22) break;
-        inject(v, 2, t->stval); /* a CSR or an instruction that this guest has not */
-        return;
+    case VCPU_ERROR + VCPU_UNSUPPORTED: /* nothing changed, and sepc is at the instruction */
+        switch (t->scause) {
+        case 1: case 4: case 5: case 6: case 7: inject(v, t->scause, t->stval); return; /* not delegated, and the guest's own */
+        case 22: inject(v, 2, t->stval); return;                                        /* a CSR or an instruction that it has not */
+        }
     }
     cannot(g, t, reply);
 }

@@ -39,7 +39,7 @@ extern volatile u64 cause, epc, faults, ticks, ipis, externals;
 extern volatile int off_by_csr; /* the handler ends a tick by stimecmp, and not by a call */
 
 /* start.S */
-extern char trap[], user_done[], user_load[];
+extern char user_done[], user_load[], user_amo[];
 u64 run_user(u64 pc, u64 a1); /* user code from pc on; a0 at its ecall */
 
 /* Loads from a1 into a0, which held 0x77 before, and stores. Where C is there the assembler makes lw, ld, sw, sd 16 bits long. */

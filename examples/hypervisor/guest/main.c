@@ -68,6 +68,7 @@ void main(u64 hart, u64 dtb) {
     check("sie at the start", csr_get(sie), 0x222);
     csr_put(sie, 0), csr_set(sstatus, 0x2002); /* no source; SIE, and FS for the register that is to be kept */
     asm volatile(".option push\n .option arch, +d\n fmv.d.x fs0, %0\n .option pop" ::"r"(FINGERPRINT ^ COMPRESSED));
+    csr_put(scounteren, 2 + COMPRESSED), csr_put(senvcfg, COMPRESSED); /* TM, CY; FIOM */
     check("the host has the test's knobs", call(HVC, CALL_HERE, 0, 0, 0).error, 1);
 
     sbi_calls();
@@ -78,6 +79,7 @@ void main(u64 hart, u64 dtb) {
 
     asm volatile(".option push\n .option arch, +d\n fmv.x.d %0, fs0\n .option pop" : "=r"(fp));
     check("a floating-point register is kept", fp, FINGERPRINT ^ COMPRESSED);
+    check("scounteren is kept", csr_get(scounteren), 2 + COMPRESSED), check("senvcfg is kept", csr_get(senvcfg), COMPRESSED);
     say("results:"), decimal(bad), say(" FAIL,"), decimal(gaps), say(" gap\n");
     switch (seen(GET_END)) {
     case 0: call(SRST, 0, 0, 0, 0); break;

@@ -46,6 +46,8 @@ static void crossing(void) {
 static void user(void) {
     u64 code = USER_RAM(user_load);
     check("lw in user mode", run_user(code, USER_DEVICE), 0xffffffffbbaa9988), check("back by its ecall", cause, 8);
+    run_user(USER_RAM(user_amo), USER_DEVICE);
+    check("an AMO on the device in user mode: the guest takes the fault in S mode", (cause == 5 || cause == 7) && epc == USER_RAM(user_amo), 1);
     knob(KNOB_HTINST_ZERO, 1), check("lw in user mode, htinst 0", run_user(code, USER_DEVICE), 0xffffffffbbaa9988);
     check("the handler asked for the word", seen(GET_FIRST_REPLY), 0x21), check("and it was a device read", seen(GET_REPLY), 9);
     knob(KNOB_FAIL_FETCH, 1), run_user(code, USER_DEVICE), check("a fetch of user code that faults: page fault", cause, 12);

@@ -5,7 +5,8 @@
 
 static struct state {
     u64 knob[KNOBS], scause, htinst, reply, first_reply, reply_before, bytes, data, soft, hart_htinst, given_htinst;
-} states[128]; /* by the guest's name */
+} states[128];                /* by the guest's name */
+static struct state *soft_for; /* whose KNOB_SOFT it was: the interrupt may come when another guest's turn has begun */
 
 static struct state *of(const void *guest) { return &states[((const struct guest *)guest)->name & 127]; }
 
@@ -17,7 +18,7 @@ static void set(struct guest *g, u64 knob, u64 to) {
         g->henvcfg = to ? HENVCFG_STCE : 0;
         if (to) vcpu_set_pending(&g->v, VCPU_VECTOR_TIMER, 0); /* from here on the hart's comparison is the tick */
         break;
-    case KNOB_SOFT: csr_set(sip, 2); break;
+    case KNOB_SOFT: soft_for = of(g), csr_set(sip, 2); break;
     case KNOB_LINE: vcpu_set_pending(&g->v, VCPU_VECTOR_EXTERNAL, to); break;
     case KNOB_LATCH: vcpu_latch_hvip(&g->v, to); break;
     default: of(g)->knob[knob % KNOBS] = to;
@@ -88,7 +89,7 @@ u64 __wrap_vcpu_start(struct vcpu *v, const struct vcpu_trap *t, struct vcpu_out
     trace_start(v, t, s->hart_htinst);
     u64 reply = __real_vcpu_start(v, t, out);
     trace_reply(reply);
-    if (t->scause == VCPU_VECTOR_SOFT && reply == VCPU_EXIT_EXTERNAL_INTERRUPT && out->word[VCPU_WORD_INTERRUPT_VECTOR] == t->scause) s->soft++;
+    if (t->scause == VCPU_VECTOR_SOFT && reply == VCPU_EXIT_EXTERNAL_INTERRUPT && out->word[VCPU_WORD_INTERRUPT_VECTOR] == t->scause) soft_for->soft++;
     if (t->scause != 10 && t->scause >> 63 == 0) s->scause = t->scause, s->htinst = t->htinst, s->first_reply = reply;
     return reply;
 }
