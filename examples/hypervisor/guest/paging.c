@@ -3,6 +3,7 @@
 
 static u64 root[512] __attribute__((aligned(4096))), middle[512] __attribute__((aligned(4096))), leaf[512] __attribute__((aligned(4096)));
 static u64 page[512] __attribute__((aligned(4096))), other[512] __attribute__((aligned(4096)));
+static unsigned short code[2048] __attribute__((aligned(4096)));
 static u64 mask = 1;
 
 #define TABLE(at) ((u64)(at) >> 12 << 10 | 1)
@@ -11,12 +12,12 @@ static u64 mask = 1;
 #define NEW_TABLE 0xc0000000ull              /* 3 GiB: behind a table that was never touched */
 #define USER_RAM(at) ((u64)(at) - 0x40000000) /* 1 GiB: memory again, for user mode */
 #define USER_DEVICE (0x100000000ull + DEVICE) /* 4 GiB: and the device */
-#define SMALL 0x140000000ull                  /* 5 GiB: a page of memory, and behind it the device */
+#define SMALL 0x140000000ull                  /* 5 GiB: a page of memory, the device, a page of user code, and nothing behind it */
 
 static void tables(void) {
     root[0] = SUPERVISOR(0), root[2] = SUPERVISOR(0x80000000); /* the device and memory where they are */
     root[1] = USER(0x80000000), root[4] = USER(0), root[3] = TABLE(0x80900000);
-    root[5] = TABLE(middle), middle[0] = TABLE(leaf), leaf[0] = SUPERVISOR(page), leaf[1] = SUPERVISOR(DEVICE);
+    root[5] = TABLE(middle), middle[0] = TABLE(leaf), leaf[0] = SUPERVISOR(page), leaf[1] = SUPERVISOR(DEVICE), leaf[2] = USER(code);
     faults = 0, csr_put(satp, 8ull << 60 | (u64)root >> 12);
     check("satp is the guest's own", faults, 0);
     asm volatile("sfence.vma" ::: "memory");
@@ -56,6 +57,17 @@ static void user(void) {
     check("it does where the host sets sstatus.SPP", epc == code && cause == 12, 1), knob(KNOB_FETCH_SPP, 0), knob(KNOB_HTINST_ZERO, 0);
 }
 
+/* c.lw a0, 0(a1) is the last of its page. A host that fetches four bytes at once meets the page that is not there. */
+static void page_end(void) {
+    u64 at = SMALL + 0x2ffe;
+    code[2047] = 0x4188;
+    asm volatile("fence.i" ::: "memory");
+    check("c.lw at a page's end", run_user(at, USER_DEVICE), 0xffffffffbbaa9988), check("then the fetch behind it faults", cause == 12 && epc == at + 2, 1);
+    knob(KNOB_HTINST_ZERO, 1), known("c.lw at a page's end, htinst 0", run_user(at, USER_DEVICE), 0xffffffffbbaa9988, at), knob(KNOB_HTINST_ZERO, 0);
+    /* 01 does not decode it, and the host injects an access fault (5) */
+    known("then the fetch behind it faults", cause << 4 | (epc == at + 2), 12 << 4 | 1, 5 << 4);
+}
+
 static void fetches(void) {
     u64 n;
     knob(KNOB_HTINST_ZERO, 1);
@@ -76,5 +88,6 @@ void paging(void) {
     tables();
     crossing();
     user();
+    page_end();
     fetches();
 }
