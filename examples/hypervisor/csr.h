@@ -6,9 +6,11 @@
 
 typedef uint64_t u64;
 
+/* The compiler's assembler knows H where it is told of it. */
+#define WITH_H(text) ".option push\n .option arch, +h\n " text "\n .option pop"
 /* 0 where the access traps and the guest's handler skips it */
-#define csr_get(name) ({ u64 n_ = 0; asm volatile(".option push\n .option arch, +h\n csrr %0, " #name "\n .option pop" : "+r"(n_)::"memory"); n_; })
-#define csr_put(name, n) ({ asm volatile(".option push\n .option arch, +h\n csrw " #name ", %0\n .option pop" ::"r"((u64)(n)) : "memory"); })
+#define csr_get(name) ({ u64 n_ = 0; asm volatile(WITH_H("csrr %0, " #name) : "+r"(n_)::"memory"); n_; })
+#define csr_put(name, n) ({ asm volatile(WITH_H("csrw " #name ", %0") ::"r"((u64)(n)) : "memory"); })
 #define csr_set(name, n) ({ asm volatile("csrs " #name ", %0" ::"r"((u64)(n)) : "memory"); })
 #define csr_clear(name, n) ({ asm volatile("csrc " #name ", %0" ::"r"((u64)(n)) : "memory"); })
 

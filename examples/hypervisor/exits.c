@@ -46,7 +46,7 @@ static void cannot(struct guest *g, const struct vcpu_trap *t, u64 reply) {
 
 void finish(struct guest *g, const struct vcpu_trap *t, u64 reply, const u64 *word) {
     struct vcpu *v = &g->v;
-    u64 at = word[VCPU_WORD_MMIO_ADDRESS], bytes = word[VCPU_WORD_MMIO_BYTES];
+    u64 at = word[VCPU_WORD_MMIO_ADDRESS], bytes = word[VCPU_WORD_MMIO_BYTES], access = word[VCPU_WORD_FAULT_ACCESS];
     switch (reply) {
     case VCPU_EXIT_NOTHING: return;
     case VCPU_EXIT_EXTERNAL_INTERRUPT: interrupt(word[VCPU_WORD_INTERRUPT_VECTOR]); return;
@@ -59,7 +59,7 @@ void finish(struct guest *g, const struct vcpu_trap *t, u64 reply, const u64 *wo
     case VCPU_EXIT_CPU_DOWN:
     case VCPU_EXIT_SYSTEM_DOWN: g->down = 1; return;
     case VCPU_EXIT_NESTED_PAGE_FAULT: /* no load or store of the base, or a fetch; RAM was mapped before */
-        inject(v, word[VCPU_WORD_FAULT_ACCESS] == VCPU_ACCESS_READ ? 5 : word[VCPU_WORD_FAULT_ACCESS] == VCPU_ACCESS_WRITE ? 7 : 1, t->stval);
+        inject(v, access == VCPU_ACCESS_READ ? 5 : access == VCPU_ACCESS_WRITE ? 7 : 1, t->stval);
         return;
     case VCPU_EXIT_MMIO_READ: /* sepc has moved: where there is no device, a bus gives ones */
         vcpu_complete_load(v, is_device(at, bytes) ? device_read(g, at, bytes) : -1ull);

@@ -22,7 +22,7 @@ void map(struct guest *g, u64 gpa) {
         table = (u64 *)(table[i] >> 10 << 12), i = gpa >> shift & 0x1ff;
     }
     table[i] = (u64)ram_at(g, gpa & ~0xfffull, 4096) >> 12 << 10 | 0xdf; /* D A U X W R V: every G-stage access is as of U */
-    asm volatile(".option push\n .option arch, +h\n hfence.gvma\n .option pop" ::: "memory");
+    asm volatile(WITH_H("hfence.gvma") ::: "memory");
 }
 
 /* A host that maps on demand looks for RAM before it starts the trap. A load or store of RAM would decode, and exit as MmioRead with

@@ -22,7 +22,7 @@ void load(struct guest *g, u64 slice_end) {
     csr_put(scounteren, g->scounteren), csr_put(senvcfg, g->senvcfg);
     if (last == g) return;
     csr_put(hgatp, v->hgatp); /* VMID 0 for every guest, so the other's translations have to go */
-    asm volatile(".option push\n .option arch, +h\n hfence.gvma\n hfence.vvma\n .option pop" ::: "memory");
+    asm volatile(WITH_H("hfence.gvma\n hfence.vvma") ::: "memory");
     csr_set(sstatus, SSTATUS_FS_INITIAL);
     if (last) save_fp(last->f);
     load_fp(g->f);

@@ -3,7 +3,8 @@
 typedef unsigned long u64;
 
 static long sys(long number, u64 x0, u64 x1, u64 x2, u64 x3, u64 x4, u64 x5) {
-    register u64 a0 asm("a0") = x0, a1 asm("a1") = x1, a2 asm("a2") = x2, a3 asm("a3") = x3, a4 asm("a4") = x4, a5 asm("a5") = x5, a7 asm("a7") = number;
+    register u64 a0 asm("a0") = x0, a1 asm("a1") = x1, a2 asm("a2") = x2, a3 asm("a3") = x3, a4 asm("a4") = x4, a5 asm("a5") = x5,
+                 a7 asm("a7") = number;
     asm volatile("ecall" : "+r"(a0) : "r"(a1), "r"(a2), "r"(a3), "r"(a4), "r"(a5), "r"(a7) : "memory");
     return (long)a0;
 }

@@ -4,7 +4,8 @@
 #define KERNEL 0xa0000000ull /* host physical, where run says that they lie */
 #define INITRD 0xa8000000ull
 #define TREE 0xa9000000ull
-enum { RAM_SIZE = 256 << 20, KERNEL_AT = 0x200000, INITRD_AT = 0x8000000, TREE_AT = 0x7000000 }; /* behind GUEST_RAM, as guest.dts has them */
+/* Behind GUEST_RAM, as guest.dts has them. */
+enum { RAM_SIZE = 256 << 20, KERNEL_AT = 0x200000, INITRD_AT = 0x8000000, TREE_AT = 0x7000000 };
 
 extern const char kernel_size[], initrd_size[], tree_size[]; /* numbers that run gives the linker */
 

@@ -24,7 +24,8 @@ static void hypercall(void) {
     v.x[17] = VCPU_EID_HVC, v.x[16] = 7, v.x[10] = 11, v.x[15] = 16;
     uint64_t reply = vcpu_start(&v, &ecall, &out);
     check("a call of VCPU_EID_HVC", reply, reply == VCPU_EXIT_HYPERCALL && out.word[VCPU_WORD_HYPERCALL_NUMBER] == 7, 1);
-    check("its a0 and a5", out.word[VCPU_WORD_HYPERCALL_A0], out.word[VCPU_WORD_HYPERCALL_A0] == 11 && out.word[VCPU_WORD_HYPERCALL_A0 + 5] == 16, 1);
+    uint64_t *args = out.word + VCPU_WORD_HYPERCALL_A0;
+    check("its a0 and a5", args[0], args[0] == 11 && args[5] == 16, 1);
 }
 
 /* Each vector is a bit of hvip that is delegated. */
@@ -45,13 +46,15 @@ static void asks(void) {
     v.x[17] = 0x10, v.x[16] = 3;
     uint64_t reply = vcpu_start(&v, &ecall, &out);
     check("BASE is an ask", reply, vcpu_is_ask(reply) && reply - VCPU_ASK == VCPU_ASK_FORWARD, 1);
-    check("its eid and fid", out.word[VCPU_WORD_FORWARD_EID], out.word[VCPU_WORD_FORWARD_EID] == 0x10 && out.word[VCPU_WORD_FORWARD_FID] == 3, 1);
+    uint64_t eid = out.word[VCPU_WORD_FORWARD_EID];
+    check("its eid and fid", eid, eid == 0x10 && out.word[VCPU_WORD_FORWARD_FID] == 3, 1);
     reply = vcpu_answer(&v, &(struct vcpu_answer_words){VCPU_ASK_FORWARD, 0, 0}, &out);
     check("its end is none", reply, vcpu_is_ask(reply), 0);
     v.x[7] = 0xFFFFFFFF12345678;
     reply = vcpu_start(&v, &store, &out);
-    check("a store", reply, reply == VCPU_EXIT_MMIO_WRITE && out.word[VCPU_WORD_MMIO_ADDRESS] == 0x10000000 && out.word[VCPU_WORD_MMIO_BYTES] == 4 &&
-          out.word[VCPU_WORD_MMIO_DATA] == 0x12345678, 1);
+    uint64_t at = out.word[VCPU_WORD_MMIO_ADDRESS];
+    check("a store", reply, reply == VCPU_EXIT_MMIO_WRITE && out.word[VCPU_WORD_MMIO_BYTES] == 4, 1);
+    check("its address and data", at, at == 0x10000000 && out.word[VCPU_WORD_MMIO_DATA] == 0x12345678, 1);
     for (uint64_t n = 0; n <= 0x200; n++) check("vcpu_is_ask", n, vcpu_is_ask(n), n >= 0x21 && n <= 0x29);
 }
 

@@ -11,7 +11,10 @@
 #define FINGERPRINT 0xefeeddccbbaa9988ull /* what the device holds at 0 */
 #define IRQ (1ull << 63)
 
-enum { BASE = 0x10, TIME = 0x54494D45, SPI = 0x735049, HSM = 0x48534D, HVC = 0x485643, SRST = 0x53525354, DBCN = 0x4442434E, RFNC = 0x52464E43, PMU = 0x504D55 };
+enum {
+    BASE = 0x10, TIME = 0x54494D45, SPI = 0x735049, HSM = 0x48534D, SRST = 0x53525354, DBCN = 0x4442434E, RFNC = 0x52464E43, PMU = 0x504D55,
+    HVC = 0x485643
+};
 #define FAILED (-1ull)
 #define NOT_SUPPORTED (-2ull)
 #define INVALID_PARAMETER (-3ull)

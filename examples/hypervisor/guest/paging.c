@@ -1,9 +1,9 @@
 /* The guest's own page tables, its user mode, fetches that fault, and an access that crosses into the device. */
 #include "guest.h"
 
-static u64 root[512] __attribute__((aligned(4096))), middle[512] __attribute__((aligned(4096))), leaf[512] __attribute__((aligned(4096)));
-static u64 page[512] __attribute__((aligned(4096))), other[512] __attribute__((aligned(4096)));
-static unsigned short code[2048] __attribute__((aligned(4096)));
+#define PAGE __attribute__((aligned(4096)))
+static u64 root[512] PAGE, middle[512] PAGE, leaf[512] PAGE, page[512] PAGE, other[512] PAGE;
+static unsigned short code[2048] PAGE;
 static u64 mask = 1;
 
 #define TABLE(at) ((u64)(at) >> 12 << 10 | 1)
@@ -39,7 +39,8 @@ static void tables(void) {
 static void crossing(void) {
     u64 n;
     faults = 0, n = LOAD_LONG("ld", SMALL + 0xffc);
-    check("ld from memory into the device: a fault", faults == 1 && cause == 5 && n == 0x77, 1), check("its htinst", seen(GET_HTINST), 0x23503);
+    check("ld from memory into the device: a fault", faults == 1 && cause == 5 && n == 0x77, 1);
+    check("its htinst", seen(GET_HTINST), 0x23503);
     knob(KNOB_HTINST_ZERO, 1), n = LOAD_LONG("ld", SMALL + 0xffc), knob(KNOB_HTINST_ZERO, 0);
     known("the same with htinst 0: a0 is kept", n, 0x77, FINGERPRINT);
 }
@@ -48,7 +49,8 @@ static void user(void) {
     u64 code = USER_RAM(user_load);
     check("lw in user mode", run_user(code, USER_DEVICE), 0xffffffffbbaa9988), check("back by its ecall", cause, 8);
     run_user(USER_RAM(user_amo), USER_DEVICE);
-    check("an AMO on the device in user mode: the guest takes the fault in S mode", (cause == 5 || cause == 7) && epc == USER_RAM(user_amo), 1);
+    check("an AMO on the device in user mode: the guest takes the fault in S mode",
+          (cause == 5 || cause == 7) && epc == USER_RAM(user_amo), 1);
     knob(KNOB_HTINST_ZERO, 1), check("lw in user mode, htinst 0", run_user(code, USER_DEVICE), 0xffffffffbbaa9988);
     check("the handler asked for the word", seen(GET_FIRST_REPLY), 0x21), check("and it was a device read", seen(GET_REPLY), 9);
     knob(KNOB_FAIL_FETCH, 1), run_user(code, USER_DEVICE), check("a fetch of user code that faults: page fault", cause, 12);
@@ -62,8 +64,11 @@ static void page_end(void) {
     u64 at = SMALL + 0x2ffe;
     code[2047] = 0x4188;
     asm volatile("fence.i" ::: "memory");
-    check("c.lw at a page's end", run_user(at, USER_DEVICE), 0xffffffffbbaa9988), check("then the fetch behind it faults", cause == 12 && epc == at + 2, 1);
-    knob(KNOB_HTINST_ZERO, 1), known("c.lw at a page's end, htinst 0", run_user(at, USER_DEVICE), 0xffffffffbbaa9988, at), knob(KNOB_HTINST_ZERO, 0);
+    check("c.lw at a page's end", run_user(at, USER_DEVICE), 0xffffffffbbaa9988);
+    check("then the fetch behind it faults", cause == 12 && epc == at + 2, 1);
+    knob(KNOB_HTINST_ZERO, 1);
+    known("c.lw at a page's end, htinst 0", run_user(at, USER_DEVICE), 0xffffffffbbaa9988, at);
+    knob(KNOB_HTINST_ZERO, 0);
     /* 01 does not decode it, and the host injects an access fault (5) */
     known("then the fetch behind it faults", cause << 4 | (epc == at + 2), 12 << 4 | 1, 5 << 4);
 }
@@ -77,7 +82,8 @@ static void fetches(void) {
               faults == 1 && cause == (fault == 1 ? 12 : fault == 2 ? 1 : 0) && n == 0x77, 1);
     }
     faults = 0, knob(KNOB_FAIL_FETCH, 4), n = LOAD("lbu", DEVICE);
-    check("with a guest page fault: mapped, and tried again", faults == 0 && n == 0x88, 1), check("it was NestedPageFault", seen(GET_REPLY_BEFORE), 8);
+    check("with a guest page fault: mapped, and tried again", faults == 0 && n == 0x88, 1);
+    check("it was NestedPageFault", seen(GET_REPLY_BEFORE), 8);
     faults = 0, knob(KNOB_FAIL_FETCH, 5), n = LOAD("lbu", DEVICE);
     check("with another fault: tried again", faults == 0 && n == 0x88, 1), check("it was error 6", seen(GET_REPLY_BEFORE), 0x106);
     knob(KNOB_HTINST_ZERO, 0);

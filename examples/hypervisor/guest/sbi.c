@@ -11,7 +11,8 @@ static void legacy(void) {
     knob(KNOB_TYPED, 1);
     r = call(2, 0, 0, 0, 0), check("legacy 2, getchar", r.error, '!');
     /* the address is the compiler's, so what is printed is whether a0 kept it */
-    for (u64 eid = 5; eid <= 7; eid++) r = call(eid, 0, &mask, 0, 0x1000), known("legacy 5 to 7, a fence: a0 kept", r.error == (u64)&mask, 0, 1);
+    for (u64 eid = 5; eid <= 7; eid++)
+        r = call(eid, 0, &mask, 0, 0x1000), known("legacy 5 to 7, a fence: a0 kept", r.error == (u64)&mask, 0, 1);
 }
 
 static void console(void) {

@@ -11,12 +11,12 @@ static void wait_for(u64 n, u64 most) {
 static void set_and_wait(const char *how, int by_csr) {
     u64 at, old;
     say(how), off_by_csr = by_csr, ticks = 0, csr_set(sie, 1 << 5);
-    at = csr_get(time) + 20000, call(TIME, 0, at, 0, 0), wait_for(1, 2000000);
+    at = csr_get(time) + 20000, call(TIME, 0, at, 0, 0), wait_for(1, 10000000);
     check("TIME set_timer: one tick", ticks, 1), check("not early", csr_get(time) >= at, 1);
-    at = csr_get(time) + 20000, call(0, 0, at, 0, 0), wait_for(2, 2000000);
+    at = csr_get(time) + 20000, call(0, 0, at, 0, 0), wait_for(2, 10000000);
     check("legacy 0, set_timer: one tick", ticks, 2);
-    at = csr_get(time) + 2000000, csr_put(stimecmp, at), check("stimecmp reads back", csr_get(stimecmp), at);
-    at = csr_get(time) + 20000, csr_put(stimecmp, at), wait_for(3, 2000000);
+    at = csr_get(time) + (1ull << 40), csr_put(stimecmp, at), check("stimecmp reads back", csr_get(stimecmp), at);
+    at = csr_get(time) + 20000, csr_put(stimecmp, at), wait_for(3, 10000000);
     check("stimecmp: one tick", ticks, 3), check("not early", csr_get(time) >= at, 1), check("and off again", csr_get(stimecmp), -1ull);
     asm volatile("csrrw %0, stimecmp, %1" : "=&r"(old) : "r"(-16ull));
     check("csrrw gives the old", old, -1ull);
@@ -30,7 +30,7 @@ static void set_and_wait(const char *how, int by_csr) {
     check("csrrci gives the old", old, -11ull);
     asm volatile("csrrwi %0, stimecmp, 31" : "=r"(old));
     check("csrrwi gives the old", old, -27ull);
-    wait_for(4, 2000000), check("a deadline that is past: a tick at once", ticks, 4);
+    wait_for(4, 10000000), check("a deadline that is past: a tick at once", ticks, 4);
     csr_put(stimecmp, -1), wait_for(5, 30000), check("no tick more", ticks, 4);
 }
 
@@ -45,7 +45,7 @@ void timers(void) {
     knob(KNOB_HTINST_ZERO, 0);
     check("each set_timer was event 1", seen(1) - before, 4 * 2 + 2 * 4); /* two a turn, and in two turns four ticks that a call ended */
     off_by_csr = 0, ticks = 0, csr_set(sie, 1 << 5), knob(KNOB_KEEP_TICK, 1);
-    call(TIME, 0, csr_get(time) + 1000, 0, 0), wait_for(9, 50000);
+    call(TIME, 0, csr_get(time) + 1000, 0, 0), wait_for(1, 10000000), wait_for(9, 50000);
     known("set_timer ends a tick that the host latched", ticks, 1, 5);
     knob(KNOB_KEEP_TICK, 0), call(TIME, 0, -1, 0, 0), knob(KNOB_STCE, 1), csr_put(sie, 0);
 }

@@ -89,7 +89,8 @@ u64 __wrap_vcpu_start(struct vcpu *v, const struct vcpu_trap *t, struct vcpu_out
     trace_start(v, t, s->hart_htinst);
     u64 reply = __real_vcpu_start(v, t, out);
     trace_reply(reply);
-    if (t->scause == VCPU_VECTOR_SOFT && reply == VCPU_EXIT_EXTERNAL_INTERRUPT && out->word[VCPU_WORD_INTERRUPT_VECTOR] == t->scause) soft_for->soft++;
+    if (t->scause == VCPU_VECTOR_SOFT && reply == VCPU_EXIT_EXTERNAL_INTERRUPT && out->word[VCPU_WORD_INTERRUPT_VECTOR] == t->scause)
+        soft_for->soft++;
     if (t->scause != 10 && t->scause >> 63 == 0) s->scause = t->scause, s->htinst = t->htinst, s->first_reply = reply;
     return reply;
 }
@@ -98,7 +99,8 @@ u64 __real_vcpu_answer(struct vcpu *v, const struct vcpu_answer_words *a, struct
 u64 __wrap_vcpu_answer(struct vcpu *v, const struct vcpu_answer_words *a, struct vcpu_out *out) {
     u64 reply = __real_vcpu_answer(v, a, out);
     trace_reply(reply);
-    if (of(v)->knob[KNOB_FETCH_SPP] && a->ask == VCPU_ASK_FETCH && a->second != VCPU_FETCH_WORD && reply == VCPU_EXIT_NOTHING) v->sstatus |= SSTATUS_SPP;
+    int injected = a->ask == VCPU_ASK_FETCH && a->second != VCPU_FETCH_WORD && reply == VCPU_EXIT_NOTHING;
+    if (injected && of(v)->knob[KNOB_FETCH_SPP]) v->sstatus |= SSTATUS_SPP;
     return reply;
 }
 

@@ -23,7 +23,8 @@ u64 transformed(struct guest *g, const struct vcpu_trap *t) {
         reg = !sp ? 8 + bits(word, 2, 3) : store ? bits(word, 2, 5) : bits(word, 7, 5);
         if (!sp) offset = bits(word, 10, 3) << 3 | (eight ? bits(word, 5, 2) << 6 : bits(word, 6, 1) << 2 | bits(word, 5, 1) << 6);
         else if (store) offset = eight ? bits(word, 10, 3) << 3 | bits(word, 7, 3) << 6 : bits(word, 9, 4) << 2 | bits(word, 7, 2) << 6;
-        else offset = bits(word, 12, 1) << 5 | (eight ? bits(word, 5, 2) << 3 | bits(word, 2, 3) << 6 : bits(word, 4, 3) << 2 | bits(word, 2, 2) << 6);
+        else if (eight) offset = bits(word, 12, 1) << 5 | bits(word, 5, 2) << 3 | bits(word, 2, 3) << 6;
+        else offset = bits(word, 12, 1) << 5 | bits(word, 4, 3) << 2 | bits(word, 2, 2) << 6;
         plain = (eight ? 3 : 2) << 12 | (store ? 0x21 | reg << 20 : 0x01 | reg << 7);
     }
     return plain | bits(t->stval - (g->v.x[rs1] + offset), 0, 5) << 15;
