@@ -61,14 +61,14 @@ void sbi_calls(void) {
     legacy();
     console();
     interrupts();
-    r = sbi(HVC, CALL_DIGITS, 1, 2, 3, 4, 5, 6), check("hypercall: a6 and a0 to a5", r.error, 123456), check("a1 is kept", r.value, 2);
+    r = sbi(HVC, CALL_DIGITS, 1, 2, 3, 4, 5, 6), check("hypercall: a6 and a0 to a5", r.error, 123456), check("its a1 is kept", r.value, 2);
     r = call(RFNC, 0, 1, 0, 0), check("RFNC fence.i", r.error, 0), check("is event 3", seen(3), 1);
     r = call(RFNC, 1, 1, 0, 0), check("RFNC sfence.vma", r.error, 0), check("is event 4", seen(4), 1);
     r = call(RFNC, 2, 1, 0, 0), check("RFNC sfence.vma with ASID", r.error, 0), check("is event 5", seen(5), 1);
     r = call(RFNC, 1, 2, 0, 0), check("RFNC to a hart that is not there", r.error, INVALID_PARAMETER);
     r = call(RFNC, 3, 1, 0, 0), check("RFNC hfence.gvma", r.error, NOT_SUPPORTED);
     r = call(HSM, 2, 0, 0, 0), known("HSM status", r.error, 0, NOT_SUPPORTED);
-    r = call(HSM, 0, 1, 0x80000000, 0), check("HSM start of a hart that is not there", r.error, INVALID_PARAMETER), check("a1", r.value, 0);
+    r = call(HSM, 0, 1, 0x80000000, 0), check("HSM start of a hart that is not there", r.error, INVALID_PARAMETER), check("its a1", r.value, 0);
     r = call(HSM, 3, 0, 0, 0), check("HSM suspend", r.error | r.value, 0);
     r = call(SRST, 0, 1, 0, 0), check("SRST reboot", r.error, NOT_SUPPORTED);
 }
