@@ -1,11 +1,10 @@
 /* The timer: by call and by stimecmp, kept by the hart (STCE 1) and by the host (STCE 0). */
 #include "guest.h"
 
-/* Until n ticks came, or it is too late. The turns at the end are for an emulator that was held up: time is over, and the interrupt not
- * yet there. */
+/* Until n ticks came, or it is too late. */
 static void wait_for(u64 n, u64 most) {
-    u64 end = csr_get(time) + most, turns = 100000;
-    while (ticks < n && (csr_get(time) < end || --turns)) ;
+    u64 end = csr_get(time) + most;
+    while (ticks < n && csr_get(time) < end) ;
 }
 
 static void set_and_wait(const char *how, int by_csr) {
