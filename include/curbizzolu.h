@@ -32,7 +32,7 @@ struct vcpu_answer_words {
     uint64_t ask, first, second;
 };
 
-/* The numbers that a reply carries, in order. Words that it does not carry keep what they held. */
+/* The numbers that a reply carries, in order. Words that it does not carry are 0, whatever they held: a call sets all eight. */
 struct vcpu_out {
     uint64_t word[8];
 };
@@ -45,7 +45,7 @@ enum {
     VCPU_EXIT_CPU_UP = 3,             /* hart, entry (guest physical), argument */
     VCPU_EXIT_CPU_DOWN = 4,           /* state */
     VCPU_EXIT_HALT = 5,
-    VCPU_EXIT_HYPERCALL = 6, /* number; from word 2 on a0 to a5 */
+    VCPU_EXIT_HYPERCALL = 6, /* number, 0, a0 to a5 */
     VCPU_EXIT_SYSTEM_DOWN = 7,
     VCPU_EXIT_NESTED_PAGE_FAULT = 8, /* guest physical address, VCPU_ACCESS_ */
     VCPU_EXIT_MMIO_READ = 9,         /* guest physical address, bytes; then vcpu_complete_load */
@@ -82,7 +82,11 @@ enum {
 
 enum { VCPU_ACCESS_READ = 1, VCPU_ACCESS_WRITE = 2, VCPU_ACCESS_EXECUTE = 4 };
 enum { VCPU_IPI_LEGACY = 0, VCPU_IPI_SBI_V02 = 1 };
-enum { VCPU_IPI_SUCCESS = 0, VCPU_IPI_INVALID_PARAMETER = 1, VCPU_IPI_FAILED = 2 };
+
+/* What came of VCPU_EXIT_SEND_IPI, as SBI numbers it: 64 bits, which an enum need not hold. */
+#define VCPU_IPI_SUCCESS ((uint64_t)0)
+#define VCPU_IPI_INVALID_PARAMETER ((uint64_t)-3)
+#define VCPU_IPI_FAILED ((uint64_t)-1)
 
 /* The second number of the answer to VCPU_ASK_FETCH; the first is the word, or the fault's address. */
 enum {
@@ -130,7 +134,7 @@ uint64_t vcpu_new(struct vcpu *v, uint64_t hart_id, uint64_t dtb_addr);
 uint64_t vcpu_setup(struct vcpu *v);
 /* sepc. */
 uint64_t vcpu_set_entry(struct vcpu *v, uint64_t entry);
-/* A register, in word 0 of out. */
+/* A register, in word 0 of out; 0 in every word beside a refusal. */
 uint64_t vcpu_get_gpr(const struct vcpu *v, uint64_t index, struct vcpu_out *out);
 uint64_t vcpu_set_gpr(struct vcpu *v, uint64_t index, uint64_t value);
 /* a0. */
@@ -141,16 +145,18 @@ uint64_t vcpu_set_nested_page_table(struct vcpu *v, uint64_t levels, uint64_t mo
 uint64_t vcpu_set_pending(struct vcpu *v, uint64_t vector, uint64_t level);
 /* hvip |= bits. */
 uint64_t vcpu_latch_hvip(struct vcpu *v, uint64_t bits);
-/* The result of VCPU_EXIT_SEND_IPI. */
+/* The result of VCPU_EXIT_SEND_IPI: VCPU_IPI_SUCCESS, VCPU_IPI_INVALID_PARAMETER; any other number is VCPU_IPI_FAILED. abi 0 is
+ * VCPU_IPI_LEGACY, any other VCPU_IPI_SBI_V02. */
 uint64_t vcpu_complete_ipi(struct vcpu *v, uint64_t abi, uint64_t completion);
 /* Starts a trap: an exit, an ask or an error. */
 uint64_t vcpu_start(struct vcpu *v, const struct vcpu_trap *trap, struct vcpu_out *out);
-/* Answers the ask that waits: an exit, an ask or an error. */
+/* Answers the ask that waits: an exit, an ask or an error. A number that is no ask's is VCPU_WRONG_ANSWER. */
 uint64_t vcpu_answer(struct vcpu *v, const struct vcpu_answer_words *answer, struct vcpu_out *out);
 /* Completes the load that waits, after VCPU_EXIT_MMIO_READ. */
 uint64_t vcpu_complete_load(struct vcpu *v, uint64_t number);
-/* How many bytes of the buffer are to be printed: VCPU_ASK_PRINT's count while it waits, else 0. */
-uint64_t vcpu_to_print(const struct vcpu *v);
+/* How many bytes of a buffer of this length are to be printed, from its start: VCPU_ASK_PRINT's count while it waits, if the buffer
+ * has that many; else 0. */
+uint64_t vcpu_to_print(const struct vcpu *v, uint64_t length);
 
 /* ---- Names for hosts. docs/HOSTS.md says how they are used. */
 

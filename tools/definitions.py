@@ -253,7 +253,7 @@ def summed(words):
 def traced():
     """The list of calls written out: before, call, code, out and after of each line that is a call."""
     folder = f'{ROOT}/host'
-    files = sorted(f'{at}/{n}' for top in ['host/src', 'host/tests', 'oracle/model/src'] for at, _, names in os.walk(f'{ROOT}/{top}') for n in names)
+    files = sorted(f'{at}/{n}' for top in ['host/src', 'host/tests', 'oracle/from01/src'] for at, _, names in os.walk(f'{ROOT}/{top}') for n in names)
     data = read(f'{ROOT}/crates/test_call_list/data/list')
     path = f'{WORK}/trace.{digest(data, [read(f) for f in files])}'
     if not os.path.exists(path):
@@ -272,25 +272,29 @@ def traced():
 
 
 def listed_head(mods):
-    return f'''use {SPECS}declared.Vcpu.{{Vcpu}}
+    return f'''use {SPECS}declared.HostCall.{{HostCall}}
 use {SPECS}declared.Outcome.{{Outcome}}
-use {SPECS}{home(mods, 'viewOf')}.{{recordOf, viewOf, outOf, replyWord}}
+use {SPECS}declared.Record.{{Record}}
+use {SPECS}{home(mods, 'viewOf')}.{{recordOf, viewOf}}
+use {SPECS}{home(mods, 'outOf')}.{{outOf, replyWord}}
 use {SPECS}declared.After.{{After}}
-use {SPECS}{home(mods, 'packOf')}.{{packOf}}
-use {SPECS}{home(mods, 'callBy')}.{{callBy}}
+use {SPECS}{home(mods, 'leftBy')}.{{callBy, leftBy}}
 use {SPECS}{home(mods, 'exportedOf')}.{{exportedOf}}
-use {SPECS}{home(mods, 'calledOf', 'Vcpu → HostCall')}.{{calledOf}}
-use {SPECS}{home(mods, 'newOf')}.{{newOf, printCount}}
+use {SPECS}{home(mods, 'calledOf', 'Vcpu → HostCall')}.{{calledOf, printable}}
 use {SPECS}{home(mods, 'startCall')}.{{answerCall, startCall}}
 use lib.ListN.{{drop, getD, replicate, set}}
 ''' + HEAD + '''
 -- the 58 words of a record
-abbrev words : Vcpu → List ℕ
-words v = packOf v .x ++ (packOf v .csrs ++ (packOf v .counts ++ packOf v .waiting))
+abbrev words : Record → List ℕ
+words r = r .x ++ (r .csrs ++ (r .counts ++ r .waiting))
 
--- the word returned, the eight words given, the array beside the reply, the record after it
-abbrev shown : Outcome → List ℕ
-shown o = replyWord (o .reply) ∷ (outOf (replicate 8 0) (o .reply) (o .args) ++ (o .args ++ words (o .vcpu)))
+-- the word returned, the eight words given, the array beside the reply, the words of the record after it
+abbrev left : List ℕ → HostCall → Outcome → List ℕ
+left r c o = replyWord (o .reply) ∷ (outOf (o .reply) (o .args) ++ (o .args ++ words (leftBy (recordOf r) c o)))
+
+-- the same of a call on 58 words
+abbrev shown : List ℕ → HostCall → List ℕ
+shown r c = left r c (calledOf (viewOf r) c)
 
 -- 01: a hypercall's array stands beside the exit and is all 0 beside any other
 abbrev beside : Bool → List ℕ → List ℕ
@@ -303,9 +307,7 @@ wanted code out after = code ∷ (out ++ (beside (eqb code 6) out ++ after))
 
 -- the same through the words of the exported entry: a reply's kind and number, its values, the array, the record
 abbrev reported : After → List ℕ
-reported a =
-    a .reply .kind ∷ a .reply .number
-    ∷ (a .reply .values ++ (a .reply .args ++ (a .rec .x ++ (a .rec .csrs ++ (a .rec .counts ++ a .rec .waiting)))))
+reported a = a .reply .kind ∷ a .reply .number ∷ (a .reply .values ++ (a .reply .args ++ words (a .rec)))
 
 abbrev exported : ℕ → List ℕ → List ℕ → List ℕ
 exported k c r = reported (exportedOf (recordOf r) (record { kind = k; numbers = c }))
@@ -327,25 +329,22 @@ told code out after =
     kindOf code ∷ numberOf code
     ∷ (choose (eqb code 6) (getD out 0 0 ∷ replicate 7 0) out ++ (beside (eqb code 6) out ++ after))
 
--- the entry's call, the count to print, and a new record
+-- the entry's call, and the count to print
 abbrev called : ℕ → List ℕ → List ℕ → List ℕ
-called k c r = shown (calledOf (viewOf r) (callBy k (getD c 0 0) (getD c 1 0) (getD c 2 0) (getD c 3 0) (getD c 4 0)))
+called k c r = shown r (callBy k (getD c 0 0) (getD c 1 0) (getD c 2 0) (getD c 3 0) (getD c 4 0))
 
 abbrev started : ℕ → List ℕ → List ℕ → List ℕ
-started k c r = shown (calledOf (viewOf r) (startCall c))
+started k c r = shown r (startCall c)
 
 abbrev answered : ℕ → List ℕ → List ℕ → List ℕ
-answered k c r = shown (calledOf (viewOf r) (answerCall c))
+answered k c r = shown r (answerCall c)
 
 abbrev printed : ℕ → List ℕ → List ℕ → List ℕ
-printed k c r = wanted 0x41 (set (replicate 8 0) 0 (printCount (viewOf r .waiting))) (words (viewOf r))
-
-abbrev fresh : ℕ → List ℕ → List ℕ → List ℕ
-fresh k c r = wanted 0x40 (replicate 8 0) (words (newOf (getD c 0 0) (getD c 1 0)))
+printed k c r = wanted 0x41 (set (replicate 8 0) 0 (printable (viewOf r .waiting) (getD c 0 0))) r
 '''
 
 
-MADE = {10: 'started', 11: 'answered', 13: 'printed', 14: 'fresh'}
+MADE = {10: 'started', 11: 'answered', 13: 'printed'}
 
 
 def seeded():
@@ -358,7 +357,7 @@ def listed(mods):
     for before, call, code, out, after in traced():
         made = MADE.get(call[0], 'called')
         row = f'equal ({made} {call[0]} ({numerals(call[1:])}) ({numerals(before)})) (wanted {code} ({numerals(out)}) ({numerals(after)}))'
-        if len(rows) >= seeded() and call[0] <= 12:
+        if len(rows) >= seeded():
             more = f'equal (exported {call[0]} ({numerals(call[1:])}) ({numerals(before)})) (told {code} ({numerals(out)}) ({numerals(after)}))'
             row = f'both ({row}) ({more})'
         rows.append(row)
@@ -557,7 +556,7 @@ calls call kind numbers before code out after =
     for before, call, code, out, after in calls:
         numbers = [hex(w) if w > 9 else w for w in call[1:]]
         made = f'{MADE.get(call[0], "called")} {call[0]} ({numerals(numbers)})'
-        rows.append(f'{f"gives ({made})" if call[0] > 12 else "calls " + made} {places(base, before)} {hex(code)} {places([0] * 8, out)} {places(before, after)}')
+        rows.append(f'calls {made} {places(base, before)} {hex(code)} {places([0] * 8, out)} {places(before, after)}')
     return together(text, rows, len(rows))
 
 

@@ -4,6 +4,7 @@
 use crate::SEE;
 use plain::{enums, words};
 use std::hint::black_box;
+use std::mem::MaybeUninit;
 
 pub type Record = [u64; 58];
 
@@ -208,16 +209,17 @@ impl Handler for InPlace {
     }
     #[inline]
     fn trap(&mut self, work: &Work, seen: &mut Vec<Reply>) -> u64 {
-        let mut out = [0; 8];
-        // SAFETY: our own words, which do not overlap.
-        let mut code = unsafe { vcpu_start(&mut self.0, &work.trap, &mut out) };
+        let mut out = MaybeUninit::<[u64; 8]>::uninit();
+        // SAFETY: our own words, which do not overlap; the call sets all eight of `out`.
+        let mut code = unsafe { vcpu_start(&mut self.0, &work.trap, out.as_mut_ptr()) };
+        let out = unsafe { out.assume_init_mut() };
         if SEE {
-            seen.push(reply(code, &out));
+            seen.push(reply(code, out));
         }
         while code > 0x20 && code < 0x40 {
-            code = unsafe { vcpu_answer(&mut self.0, &[code - 0x20, 0, work.given], &mut out) };
+            code = unsafe { vcpu_answer(&mut self.0, &[code - 0x20, 0, work.given], out) };
             if SEE {
-                seen.push(reply(code, &out));
+                seen.push(reply(code, out));
             }
         }
         if code == 9 {

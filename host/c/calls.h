@@ -79,9 +79,37 @@ static struct call made(word kind, int numbers) {
     return c;
 }
 
+/* Numbers that are no ask's. */
+static word no_ask(void) {
+    static const word numbers[3] = {0, 10, UINT64_MAX};
+    return numbers[below(3)];
+}
+
+/* The length of a buffer to print n bytes of. */
+static word length(word n) {
+    switch (below(6)) {
+    case 0: return 0;
+    case 1: return below(64);
+    case 2: return n - 1;
+    case 3: return n;
+    case 4: return n + 1;
+    default: return edgy();
+    }
+}
+
+static word completion(void) {
+    static const word results[3] = {VCPU_IPI_SUCCESS, VCPU_IPI_INVALID_PARAMETER, VCPU_IPI_FAILED};
+    switch (below(8)) {
+    case 0: return below(4);
+    case 1: return edgy();
+    default: return results[below(3)];
+    }
+}
+
 static struct call answer(const word *record, word ask) {
-    struct call c = {11, {ask}};
+    struct call c = {11, {0}};
     word n = record[55];
+    c.n[0] = below(16) == 0 ? no_ask() : ask;
     switch (ask) {
     case 1: {
         word fault = below(2) == 0 ? 0 : below(7), w = instruction();
@@ -184,12 +212,17 @@ static struct call next_call(word *record) {
         record[35] = number();
         break;
     }
+    struct call c = {0};
+    if (record[54] == 6 && below(4) == 0) {
+        c.kind = 13;
+        c.n[0] = length(record[55]);
+        return c;
+    }
     word ask = record[54] < 13 ? asks[record[54]] : 0;
     if (ask != 0 && below(8) != 0)
         return answer(record, ask);
     if (record[54] == 1 && below(4) != 0)
         return made(12, 1);
-    struct call c = {0};
     word way = below(64);
     switch (way) {
     case 0: return made(1, 0);
@@ -216,10 +249,15 @@ static struct call next_call(word *record) {
     }
     case 11: return made(7, 2);
     case 12: return made(8, 1);
-    case 13: c.kind = 9; c.n[0] = below(3); c.n[1] = below(4); return c;
-    case 14: c.kind = 11; c.n[0] = below(12); c.n[1] = edgy(); c.n[2] = edgy(); return c;
+    case 13: c.kind = 9; c.n[0] = below(3); c.n[1] = completion(); return c;
+    case 14:
+        c.kind = 11;
+        c.n[0] = below(2) == 0 ? below(12) : no_ask();
+        c.n[1] = edgy();
+        c.n[2] = edgy();
+        return c;
     case 15: return made(12, 1);
-    case 16: case 17: return made(13, 0);
+    case 16: case 17: c.kind = 13; c.n[0] = length(record[55]); return c;
     case 18: return made(14, 2);
     default: return start(record);
     }
@@ -227,9 +265,13 @@ static struct call next_call(word *record) {
 
 /* ---- a call on the library */
 
+/* Where the call takes an out, each of its words is 99 before: the library sets them all. */
 static struct reply make(word *record, const struct call *c) {
     struct vcpu *v = (struct vcpu *)record;
     struct vcpu_out out = {{0}};
+    if (c->kind == 3 || c->kind == 10 || c->kind == 11)
+        for (int i = 0; i < 8; i++)
+            out.word[i] = 99;
     struct vcpu_trap trap = {c->n[0], c->n[1], c->n[2], c->n[3], c->n[4]};
     struct vcpu_answer_words given = {c->n[0], c->n[1], c->n[2]};
     struct reply r;
@@ -246,8 +288,8 @@ static struct reply make(word *record, const struct call *c) {
     case 10: r.code = vcpu_start(v, &trap, &out); break;
     case 11: r.code = vcpu_answer(v, &given, &out); break;
     case 12: r.code = vcpu_complete_load(v, c->n[0]); break;
-    case 13: out.word[0] = vcpu_to_print(v); r.code = VCPU_VALUE; break;
-    case 14: vcpu_new(v, c->n[0], c->n[1]); r.code = VCPU_DONE; break;
+    case 13: out.word[0] = vcpu_to_print(v, c->n[0]); r.code = VCPU_VALUE; break;
+    case 14: r.code = vcpu_new(v, c->n[0], c->n[1]); break;
     default: fprintf(stderr, "no call of kind %" PRIu64 "\n", c->kind); exit(2);
     }
     memcpy(r.out, out.word, sizeof r.out);
@@ -261,34 +303,16 @@ static word sum_word(word sum, word w) {
     return z ^ (z >> 29);
 }
 
-/* The waiting part as it is meant: an unknown kind is nothing waiting, and words that its kind has no use for are 0. */
-static void meant(const word *record, word w[4]) {
-    word kind = record[54], a = record[55], b = record[56], c = record[57];
-    memset(w, 0, 4 * sizeof *w);
-    if (kind >= 1 && kind <= 12)
-        w[0] = kind;
-    switch (kind) {
-    case 1: w[1] = a; w[2] = b == 1 || b == 2 || b == 4 ? b : 8; w[3] = c != 0; break;
-    case 3: w[1] = a; w[2] = b == 1 || b == 2 ? b : 4; break;
-    case 5: case 6: case 8: w[1] = a; break;
-    case 7: w[1] = a; w[2] = b; break;
-    }
-}
-
-/* The sum of what a record's words stand for. */
-static word sum_record(word sum, const word *record) {
-    word w[4];
-    meant(record, w);
-    for (int i = 0; i < 54; i++)
+/* The sum of what a call gave and of the record after it. */
+static word sum_given(word sum, const word *record, const struct reply *r) {
+    for (int i = 0; i < 8; i++)
+        sum = sum_word(sum, r->out[i]);
+    for (int i = 0; i < 58; i++)
         sum = sum_word(sum, record[i]);
-    for (int i = 0; i < 4; i++)
-        sum = sum_word(sum, w[i]);
     return sum;
 }
 
+/* The same, with the returned number before it. */
 static word sum_call(word sum, const word *record, const struct reply *r) {
-    sum = sum_word(sum, r->code);
-    for (int i = 0; i < 8; i++)
-        sum = sum_word(sum, r->out[i]);
-    return sum_record(sum, record);
+    return sum_given(sum_word(sum, r->code), record, r);
 }

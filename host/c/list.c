@@ -27,10 +27,7 @@ int main(int argc, char **argv) {
             record[c.n[0]] = c.n[1];
         else
             r = make(record, &c);
-        word sum = 0;
-        for (int i = 0; i < 8; i++)
-            sum = sum_word(sum, r.out[i]);
-        sum = sum_record(sum, record);
+        word sum = sum_given(0, record, &r);
         for (int i = 0; i < 6; i++)
             printf("%016" PRIx64 " ", w[i]);
         printf("%016" PRIx64 " %016" PRIx64 "\n", r.code, sum);

@@ -26,7 +26,7 @@ int main(int argc, char **argv) {
         if (strcmp(kinds[k].name, argv[1]) != 0)
             continue;
         struct vcpu v;
-        struct vcpu_out out = {{0}};
+        struct vcpu_out out;
         struct vcpu_trap trap = {kinds[k].scause, kinds[k].stval, 0x4000000, kinds[k].htinst, 4096};
         memset(&v, 0, sizeof v);
         for (uint64_t n = strtoull(argv[2], NULL, 10); n > 0; n--) {

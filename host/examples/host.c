@@ -5,6 +5,9 @@
 #include <inttypes.h>
 #include <stdio.h>
 
+/* What the guest's memory would hold. */
+static const char line[] = "title 7 is on screen 3";
+
 /* One trap to its exit: every ask is answered from here. */
 static uint64_t handle(struct vcpu *v, struct vcpu_trap trap, struct vcpu_out *out) {
     uint64_t given = vcpu_start(v, &trap, out);
@@ -21,7 +24,7 @@ static uint64_t handle(struct vcpu *v, struct vcpu_trap trap, struct vcpu_out *o
             answer.first = out->word[1];
             break;
         case VCPU_ASK_PRINT:
-            printf("  print: %.*s\n", (int)vcpu_to_print(v), "title 7 is on screen 3");
+            printf("  print: %.*s\n", (int)vcpu_to_print(v, sizeof line - 1), line);
             answer.second = out->word[0];
             break;
         default:
@@ -52,7 +55,7 @@ int main(void) {
     load(&v, "its top bit set, by lw", 0x2503, 0x9c3a77e1);
     load(&v, "the same by lwu", 0x6503, 0x9c3a77e1);
 
-    v.x[17] = 0x4442434E, v.x[16] = 0, v.x[10] = 22, v.x[11] = 0x80100000, v.x[12] = 0;
+    v.x[17] = 0x4442434E, v.x[16] = 0, v.x[10] = sizeof line - 1, v.x[11] = 0x80100000, v.x[12] = 0;
     uint64_t given = handle(&v, ecall, &out);
     printf("a line by DBCN: exit %" PRIu64 ", a0 %" PRIu64 ", a1 %" PRIu64 "\n", given, v.x[10], v.x[11]);
 

@@ -29,5 +29,5 @@ extern "C" {
     pub fn vcpu_start(record: *mut Record, trap: *const [u64; 5], out: *mut Out) -> u64;
     pub fn vcpu_answer(record: *mut Record, answer: *const [u64; 3], out: *mut Out) -> u64;
     pub fn vcpu_complete_load(record: *mut Record, number: u64) -> u64;
-    pub fn vcpu_to_print(record: *const Record) -> u64;
+    pub fn vcpu_to_print(record: *const Record, length: u64) -> u64;
 }

@@ -2,6 +2,7 @@
 
 use crate::library::{self, Out, Record, ASK, DONE, ERROR, RECORD, VALUE};
 use crate::types::*;
+use core::mem::MaybeUninit;
 
 /// A guest's hart while it is not running: its registers, the CSRs that the handler keeps for it, nine event counts, and what
 /// a trap waits for.
@@ -137,8 +138,12 @@ impl Vcpu {
     /// ```
     #[inline]
     pub fn get_gpr(&self, index: usize) -> Result<u64, Refusal> {
-        let mut out: Out = [0; 8];
-        let code = unsafe { library::vcpu_get_gpr(self as *const Vcpu as *const Record, index as u64, &mut out) };
+        let mut out = MaybeUninit::<Out>::uninit();
+        // SAFETY: a call that takes an `out` is proved to set all eight words of it, whatever it returns.
+        let (code, out) = unsafe {
+            let record = self as *const Vcpu as *const Record;
+            (library::vcpu_get_gpr(record, index as u64, out.as_mut_ptr()), out.assume_init_ref())
+        };
         match code {
             VALUE => Ok(out[0]),
             _ => Err(refusal(code)),
@@ -266,8 +271,8 @@ impl Vcpu {
         };
         let completion = match completion {
             IpiCompletion::Success => 0,
-            IpiCompletion::InvalidParameter => 1,
-            IpiCompletion::Failed => 2,
+            IpiCompletion::InvalidParameter => -3_i64 as u64,
+            IpiCompletion::Failed => -1_i64 as u64,
         };
         done(unsafe { library::vcpu_complete_ipi(self.words(), abi, completion) })
     }
@@ -286,11 +291,12 @@ impl Vcpu {
     /// ```
     #[inline]
     pub fn start(&mut self, trap: &Trap) -> Result<Step, Error> {
-        let mut out: Out = [0; 8];
+        let mut out = MaybeUninit::<Out>::uninit();
         // the five words in the library's order
         let trap = trap as *const Trap as *const [u64; 5];
-        let code = unsafe { library::vcpu_start(self.words(), trap, &mut out) };
-        step(code, &out)
+        // SAFETY: as in `get_gpr`.
+        let (code, out) = unsafe { (library::vcpu_start(self.words(), trap, out.as_mut_ptr()), out.assume_init_ref()) };
+        step(code, out)
     }
 
     /// Answers the ask that waits. An answer of another kind is refused, and the ask goes on waiting.
@@ -307,10 +313,11 @@ impl Vcpu {
     /// ```
     #[inline]
     pub fn answer(&mut self, answer: &Answer) -> Result<Step, Error> {
-        let mut out: Out = [0; 8];
+        let mut out = MaybeUninit::<Out>::uninit();
         let answer = answer_words(answer);
-        let code = unsafe { library::vcpu_answer(self.words(), &answer, &mut out) };
-        step(code, &out)
+        // SAFETY: as in `get_gpr`.
+        let (code, out) = unsafe { (library::vcpu_answer(self.words(), &answer, out.as_mut_ptr()), out.assume_init_ref()) };
+        step(code, out)
     }
 
     /// Completes the load that waits, after [`Exit::MmioRead`]: the number is cut to the load's width, extended as the
@@ -339,11 +346,9 @@ impl Vcpu {
     /// ```
     #[inline]
     pub fn to_print<'a>(&self, buffer: &'a [u8]) -> &'a [u8] {
-        let count = unsafe { library::vcpu_to_print(self as *const Vcpu as *const Record) };
-        match usize::try_from(count) {
-            Ok(count) => buffer.get(..count).unwrap_or(&[]),
-            Err(_) => &[],
-        }
+        // no more than the buffer has
+        let count = unsafe { library::vcpu_to_print(self as *const Vcpu as *const Record, buffer.len() as u64) };
+        &buffer[..count as usize]
     }
 }
 

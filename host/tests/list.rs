@@ -1,5 +1,5 @@
-//! The fixed list of calls and replies, crates/test_call_list/data/list. The plain Rust program of document 01 makes it; the program `call_list`
-//! (in the gate), host/c/list.c (on any processor) and the test below run it.
+//! The fixed list of calls and replies, crates/test_call_list/data/list. oracle/from01, the plain Rust program of document 01, makes
+//! it; the program `test_call_list` (in the gate), host/c/list.c (on any processor) and the test below run it.
 //!
 //!     WRITE_LIST=1 cargo test --test list
 
@@ -14,7 +14,7 @@ const LIST: &str = concat!(env!("CARGO_MANIFEST_DIR"), "/../crates/test_call_lis
 const WRONG: &str = concat!(env!("CARGO_MANIFEST_DIR"), "/../crates/test_call_list/data/wrong");
 const CALLS: u64 = 700;
 /// Of the first 3,000 seeds the one whose calls reach everything and the most different outcomes (`search` finds it).
-const SEED: u64 = 506;
+const SEED: u64 = 1166;
 
 /// Each row of document 01's lists once, whatever the seed finds: words of the record, and a call. tools/definitions.py says which
 /// wrong definitions no line notices; the rows are what those needed, and their neighbours.
@@ -47,7 +47,7 @@ fn rows() -> Vec<(Vec<(usize, u64)>, Call)> {
     }
     row(&[(42, 0x40)], &[8, 0x404]);
     for abi in 0..3 {
-        for completion in 0..4 {
+        for completion in COMPLETIONS.into_iter().chain([1, 2, -2_i64 as u64]) {
             row(&[], &[9, abi, completion]);
         }
     }
@@ -99,16 +99,21 @@ fn rows() -> Vec<(Vec<(usize, u64)>, Call)> {
         row(&[], &[10, code, 0, 0, 0, 0]);
         row(&[], &[10, TOP + code, 0, 0, 0, 0]);
     }
-    // What waits: every call that asks for it, an answer of its own kind, of the one before and of the one behind.
+    // What waits: every call that asks for it, an answer of its own kind, of the one before, of the one behind and of none.
     for kind in 0..14 {
         let waits = [(54, kind), (55, 5), (56, 4), (57, 1)];
-        row(&waits, &[13]);
+        for length in if kind == 6 { vec![0, 4, 5, 6, u64::MAX] } else { vec![5] } {
+            row(&waits, &[13, length]);
+        }
         row(&waits, &[12, 0x1234_5678_9abc_def0]);
         row(&waits, &[10, 10]);
         row(&waits, &[1]);
         let ask = [0, 0, 1, 1, 2, 3, 4, 5, 6, 7, 7, 8, 9, 0][kind as usize];
-        for number in [ask, (ask + 8) % 9 + 1, ask % 9 + 1, 10] {
+        for number in [ask, (ask + 8) % 9 + 1, ask % 9 + 1, 10, u64::MAX] {
             row(&waits, &[11, number, 5, 2]);
+        }
+        if ask != 0 {
+            row(&waits, &[11, 0, 5, 2]);
         }
     }
     for fault in 0..7 {
@@ -150,16 +155,16 @@ fn rows() -> Vec<(Vec<(usize, u64)>, Call)> {
         row(&waits, &[7, TOP + 1, 1]);
         row(&waits, &[7, 3, 1]);
         row(&waits, &[8, 0x404]);
-        row(&waits, &[9, 0, 1]);
-        row(&waits, &[9, 1, 1]);
+        row(&waits, &[9, 0, COMPLETIONS[1]]);
+        row(&waits, &[9, 1, COMPLETIONS[1]]);
         row(&waits, &[14, 5, 6]);
     }
     rows
 }
 
-/// A record whose words are all different, with nothing waiting.
+/// A record whose words are all different, with nothing waiting: the numbers behind the kind are nobody's.
 fn spread() -> Record {
-    std::array::from_fn(|i| if i < 54 { (i as u64 + 1).wrapping_mul(0x0123_4567_89ab_cdef) } else { 0 })
+    std::array::from_fn(|i| if i == 54 { 0 } else { (i as u64 + 1).wrapping_mul(0x0123_4567_89ab_cdef) })
 }
 
 /// The list of a seed: a line for each word that the run writes into the record and for each call. A line is the call's six
@@ -173,8 +178,7 @@ fn list_of(seed: u64, rows: &[(Vec<(usize, u64)>, Call)]) -> (String, BTreeSet<(
         for word in call {
             write!(text, "{word:016x} ").unwrap();
         }
-        let sum = reply.out.iter().fold(0, |sum, word| sum_word(sum, *word));
-        writeln!(text, "{:016x} {:016x}", reply.code, sum_record(sum, record)).unwrap();
+        writeln!(text, "{:016x} {:016x}", reply.code, sum_given(0, record, reply)).unwrap();
     };
     for i in 0..CALLS + rows.len() as u64 {
         let mut changed = record;
@@ -189,18 +193,15 @@ fn list_of(seed: u64, rows: &[(Vec<(usize, u64)>, Call)]) -> (String, BTreeSet<(
                 *call
             }
         };
-        // The waiting part is written whole, its kind last: a library may leave other words there that stand for the same.
-        let waiting = record[54..] != changed[54..];
-        for i in (0..54).chain(if waiting { vec![55, 56, 57, 54] } else { vec![] }) {
-            if i >= 54 || record[i] != changed[i] {
+        for i in 0..58 {
+            if record[i] != changed[i] {
                 record[i] = changed[i];
                 line(&[0, i as u64, record[i], 0, 0, 0], &Reply { code: 0, out: [0; 8] }, &record);
             }
         }
-        let (reply, after) = by_model(&record, &call, 0);
         let class = if call[0] == 10 && call[1] == 10 { record[17] } else { record[54] };
+        let reply = by_from01(&mut record, &call);
         reached.insert((call[0], if call[0] == 10 { call[1] } else { 0 }, class, reply.code));
-        record = after;
         line(&call, &reply, &record);
     }
     (text, reached)
@@ -215,22 +216,23 @@ fn missing(reached: &BTreeSet<(u64, u64, u64, u64)>) -> (Vec<u64>, Vec<u64>) {
 }
 
 #[test]
-fn the_list_is_the_models() {
+fn the_list_is_document_01s() {
     let (text, reached) = list_of(SEED, &rows());
     let (codes, kinds) = missing(&reached);
     assert!(codes.is_empty() && kinds.is_empty(), "not reached: {codes:x?}, calls {kinds:?}");
     if std::env::var_os("WRITE_LIST").is_some() {
         std::fs::write(LIST, &text).unwrap();
     }
-    assert!(std::fs::read_to_string(LIST).unwrap() == text, "the list is not the model's: WRITE_LIST=1 writes it anew");
+    assert!(std::fs::read_to_string(LIST).unwrap() == text, "the list is not from01's: WRITE_LIST=1 writes it anew");
 }
 
 /// A read of x0 from a record of zeros. A digit of the call stands as a capital with the digit's low four bits, so that the call is the
 /// same; a digit of what it gives is the next one; a space or the LF is another byte.
 fn wrong() -> String {
     let call: Call = [3, 0, 0, 0, 0, 0];
-    let (reply, after) = by_model(&[0; 58], &call, 0);
-    let sum = sum_record(reply.out.iter().fold(0, |sum, word| sum_word(sum, *word)), &after);
+    let mut record: Record = [0; 58];
+    let reply = by_from01(&mut record, &call);
+    let sum = sum_given(0, &record, &reply);
     let mut line = String::new();
     for (i, word) in call.iter().chain(&[reply.code, sum]).enumerate() {
         write!(line, "{word:016x}{}", if i == 7 { '\n' } else { ' ' }).unwrap();
@@ -274,10 +276,9 @@ fn the_library_gives_what_the_list_says() {
             record[call[1] as usize] = call[2];
             Reply { code: 0, out: [0; 8] }
         } else {
-            by_library(&mut record, &call, 0)
+            by_library(&mut record, &call, 99)
         };
-        let given = sum_record(reply.out.iter().fold(0, |sum, word| sum_word(sum, *word)), &record);
-        assert_eq!((reply.code, given), (*code, *sum), "line {}: {call:x?}", i + 1);
+        assert_eq!((reply.code, sum_given(0, &record, &reply)), (*code, *sum), "line {}: {call:x?}", i + 1);
     }
 }
 

@@ -1,5 +1,5 @@
 //! Random calls in random order (out of turn, wrong answers, bad arguments, arbitrary words in the record) on the library and on
-//! the safe interface, each held against the plain Rust program of document 01: the reply and the whole record.
+//! the safe interface, each held against oracle/from01, the plain Rust program of document 01: the reply and all 58 words.
 //!
 //! CALLS and SEED change how many and which; tools/million runs a million.
 
@@ -16,7 +16,7 @@ fn setting(name: &str, otherwise: u64) -> u64 {
 }
 
 #[test]
-fn random_calls_give_what_the_model_gives() {
+fn random_calls_give_what_document_01_says() {
     let (calls, seed) = (setting("CALLS", 20_000), setting("SEED", 1));
     assert!(calls > 0, "CALLS is 0: nothing would be compared");
     let mut r = Random(seed);
@@ -25,29 +25,28 @@ fn random_calls_give_what_the_model_gives() {
     for i in 0..calls {
         let call = next_call(&mut r, &mut record);
         let before = record;
-        let (expected, after) = by_model(&before, &call, 0);
-        let reply = by_library(&mut record, &call, 0);
+        let mut after = before;
+        let expected = by_from01(&mut after, &call);
+        let reply = by_library(&mut record, &call, 99);
         assert_eq!(reply, expected, "call {i}, {call:x?} on {before:x?}");
-        assert_eq!(view(&record), after, "call {i}, {call:x?} on {before:x?}");
+        assert_eq!(record, after, "call {i}, {call:x?} on {before:x?}");
         *reached.entry((call[0], reply.code)).or_insert(0u64) += 1;
 
-        // Words that the reply does not carry keep what they held; and the safe interface gives the same.
+        // What `out` held before makes no difference; and the safe interface gives the same.
         let mut again = before;
-        let filled = by_library(&mut again, &call, 0x5555);
-        assert_eq!(filled, by_model(&before, &call, 0x5555).0, "call {i}, {call:x?}");
+        assert_eq!(by_library(&mut again, &call, 0), expected, "call {i}, {call:x?}");
+        assert_eq!(again, after, "call {i}, {call:x?}");
         let mut vcpu = curbizzolu::Vcpu::from_words(before);
-        if let Some(reply) = by_interface(&mut vcpu, &call, 0) {
+        if let Some(reply) = by_interface(&mut vcpu, &call) {
             assert_eq!(reply, expected, "call {i} of the interface, {call:x?} on {before:x?}");
-            assert_eq!(view(&vcpu.to_words()), after, "call {i} of the interface, {call:x?}");
+            assert_eq!(vcpu.to_words(), after, "call {i} of the interface, {call:x?}");
             alike += 1;
         }
-        // A refusal changes no word, not even one that stands for nothing.
-        if [0x101, 0x102, 0x107].contains(&reply.code) {
+        // A refusal and a read change no word.
+        if [0x41, 0x101, 0x102, 0x107].contains(&reply.code) {
             assert_eq!(record, before, "call {i}, {call:x?}");
         }
         sum = sum_call(sum, &record, &reply);
-        // The next call sees the record as it is meant: the words of what no longer waits are the library's own affair.
-        record = after;
     }
     println!("seed {seed}: {calls} calls, sum {sum:016x}");
     println!("{alike} of them through the interface too");

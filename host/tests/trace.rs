@@ -1,6 +1,6 @@
-//! The fixed list of calls with every word written out: for each line the record before it, the call, what the plain Rust program of
-//! document 01 returns, the words of `out`, and the record after it. tools/definitions.py holds the definitions to it. No call is
-//! made on the library.
+//! The fixed list of calls with every word written out: for each line the record before it, the call, what oracle/from01, the plain
+//! Rust program of document 01, returns, the words of `out`, and the record after it. tools/definitions.py holds the definitions to
+//! it. No call is made on the library.
 //!
 //!     TRACE=FILE cargo test --test trace
 
@@ -23,10 +23,10 @@ fn the_list_written_out() {
             record[call[1] as usize] = call[2];
             continue;
         }
-        let (reply, after) = by_model(&record, &call, 0);
-        let given = sum_record(reply.out.iter().fold(0, |sum, word| sum_word(sum, *word)), &after);
-        assert_eq!((reply.code, given), (*code, *sum), "line {}: {call:x?}", i + 1);
-        for word in record.iter().chain(&call).chain([&reply.code]).chain(&reply.out).chain(&view(&after)) {
+        let mut after = record;
+        let reply = by_from01(&mut after, &call);
+        assert_eq!((reply.code, sum_given(0, &after, &reply)), (*code, *sum), "line {}: {call:x?}", i + 1);
+        for word in record.iter().chain(&call).chain([&reply.code]).chain(&reply.out).chain(&after) {
             write!(text, "{word:x} ").unwrap();
         }
         text.push('\n');

@@ -85,7 +85,7 @@ class Bench:
         self.folder, self.source, self.traps = folder, source, traps
         for part in ["Cargo.toml", "Cargo.lock"]:
             shutil.copy(ORACLE / part, folder)
-        for part in ["model", "published", "diff", "stand-ins"]:
+        for part in ["from01", "model", "published", "diff", "stand-ins"]:
             shutil.copytree(ORACLE / part, folder / part)
         shutil.copytree(source / "src", folder / "text/src")
         self.environment = {

@@ -49,6 +49,7 @@ fn continued(x: [u64; 32], c: Csrs, w: Waiting, a: Answer) -> Effect
         Answer::Emitted => numbers(c, w, 0, 0),
         Answer::Char { number } => numbers(c, w, number, 0),
         Answer::Forwarded { error, value } => numbers(c, w, error, value),
+        Answer::Other => decide_effects::refused(c, w, Error::WrongAnswer),
     }
 }
 

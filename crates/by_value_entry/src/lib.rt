@@ -5,6 +5,7 @@ ghost use Rattle.scope.specs.Calls.{calledOf};
 use scope::Answer;
 use scope::HostCall;
 use scope::Outcome;
+use scope::Reply;
 use scope::Vcpu;
 
 // Makes the call on a record that is handed over by value.
@@ -12,6 +13,7 @@ pub fn call(v: Vcpu, c: HostCall) -> Outcome
     ensures { λ r. ⌜ r ≡ calledOf v c ⌝ }
 {
     match c {
+        HostCall::New { hart_id, dtb_addr } => fresh(v, hart_id, dtb_addr),
         HostCall::Setup => by_value_setup::setup(v),
         HostCall::SetEntry(at) => by_value_setup::set_entry(v, at),
         HostCall::GetGpr { index } => read(v, index),
@@ -30,6 +32,7 @@ pub fn call(v: Vcpu, c: HostCall) -> Outcome
         HostCall::Start(t) => by_value_vcpu::start(v, t),
         HostCall::Answer(a) => by_value_vcpu::answer(v, a),
         HostCall::CompleteLoad { number } => by_value_vcpu::complete_load(v, number),
+        HostCall::ToPrint { length } => printing(v, length),
     }
 }
 
@@ -41,6 +44,29 @@ fn read(v: Vcpu, index: usize) -> Outcome
     Outcome {
         vcpu: v,
         reply,
+        args: [0; 6],
+    }
+}
+
+// A new record as an outcome.
+fn fresh(v: Vcpu, hart_id: u64, dtb_addr: u64) -> Outcome
+    ensures { λ r. ⌜ r ≡ calledOf v (hostCall.New «hart_id» «dtb_addr») ⌝ }
+{
+    Outcome {
+        vcpu: by_value_setup::new(hart_id, dtb_addr),
+        reply: Reply::Done,
+        args: [0; 6],
+    }
+}
+
+// How much is to be printed, as an outcome: the record stays.
+fn printing(v: Vcpu, length: u64) -> Outcome
+    ensures { λ r. ⌜ r ≡ calledOf v (hostCall.ToPrint length) ⌝ }
+{
+    let w = v.waiting;
+    Outcome {
+        vcpu: v,
+        reply: Reply::Value(decide_record::printable(w, length)),
         args: [0; 6],
     }
 }

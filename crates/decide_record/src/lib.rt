@@ -2,6 +2,7 @@
 ghost use mathlib.Core.Path.{_≡_};
 ghost use Prim.Native.Nat.{_+_};
 ghost use Rattle.isa_types.specs.Pick.{wrapped};
+ghost use Rattle.scope.specs.Calls.{askedCount, fitted, printCount, printable};
 ghost use Rattle.scope.specs.Record.{isIdle, moved, pended, timed, valueOf, waitingAsk, ecallAskNumber};
 use scope::Csrs;
 use scope::EcallAsk;
@@ -96,6 +97,55 @@ pub fn is_idle(w: Waiting) -> bool
         Waiting::FetchCsr => false,
         Waiting::FetchFault { at: _, access: _ } => false,
         Waiting::Ecall(_) => false,
+    }
+}
+
+// How many bytes of a lent buffer of this length are printed: n under ask 4, if it has n; else none.
+pub fn printable(w: Waiting, length: u64) -> u64
+    ensures { λ r. ⌜ r ≡ printable w length ⌝ }
+{
+    fit(print_count(w), length)
+}
+
+fn fit(n: u64, length: u64) -> u64
+    ensures { λ r. ⌜ r ≡ fitted n length ⌝ }
+{
+    if n <= length {
+        return n;
+    }
+    0
+}
+
+// The n of ask 4, where it waits.
+pub fn print_count(w: Waiting) -> u64
+    ensures { λ r. ⌜ r ≡ printCount w ⌝ }
+{
+    match w {
+        Waiting::Idle => 0,
+        Waiting::Load {
+            rd: _,
+            width: _,
+            signed: _,
+        } => 0,
+        Waiting::FetchCsr => 0,
+        Waiting::FetchFault { at: _, access: _ } => 0,
+        Waiting::Ecall(a) => asked_count(a),
+    }
+}
+
+fn asked_count(a: EcallAsk) -> u64
+    ensures { λ r. ⌜ r ≡ askedCount a ⌝ }
+{
+    match a {
+        EcallAsk::CopyMask => 0,
+        EcallAsk::CopyIn { count: _ } => 0,
+        EcallAsk::Print { count } => count,
+        EcallAsk::ReadConsole { count: _, at: _ } => 0,
+        EcallAsk::CopyOut { count: _ } => 0,
+        EcallAsk::PutChar => 0,
+        EcallAsk::PutByte => 0,
+        EcallAsk::GetChar => 0,
+        EcallAsk::Forward => 0,
     }
 }
 

@@ -6,7 +6,7 @@ use mathlib.Core.Path.{refl}
 use lib.Dec.{eqb, ltb}
 use Rattle.isa_types.specs.Pick.{pick}
 use Rattle.scope.specs.Decided.{callEffect, answeredEffect}
-use Rattle.scope.specs.OneTrap.{answerNumber}
+use Rattle.scope.specs.OneTrap.{answerNumber, answerValues}
 use Rattle.scope.specs.declared.traps.Access.{Access}
 use Rattle.scope.specs.declared.traps.Answer.{Answer}
 use Rattle.scope.specs.declared.traps.Answer.the-variants as answer
@@ -40,7 +40,7 @@ use Rattle.scope.specs.declared.decided.Answered.{Answered}
 use Rattle.scope.specs.declared.decided.Answered.the-variants as answered
 use Rattle.scope.specs.Host.{pagingBy, pagingEffect, pendingEffect, writeEffect}
 use Rattle.scope.specs.Classes.{startEffect, classOf, classEffect}
-use Rattle.scope.specs.Answers.{answerEffect, fittingEffect, fetchEffect, numbersEffect, wordEffect}
+use Rattle.scope.specs.Answers.{answerEffect, fetchEffect, fittingEffect, numbersEffect, valuesEffect, wordEffect}
 use Rattle.demand1.specs.Leaves.{Sound, Says, ExitLeaves, Failed, copy-in, copy-mask, copy-out, fetch-csr, fetch-fault, get-char, put-byte, put-char, read-console, forward, illegal, print, quiet, load}
 use Rattle.scope.specs.declared.decided.Class.{Class}
 use Rattle.scope.specs.declared.hosts.HostCall.{HostCall}
@@ -172,7 +172,7 @@ fetched-sound x c n (fetch.GuestPage a) = missed-sound c n _
 fetched-sound x c n fetch.Unhandled = missed-sound c n _
 
 continued-sound : (x : List ℕ) (c : Csrs) (n : Waiting) (a : Answer) → Sound c n (fittingEffect x c n a)
-unfolding fittingEffect
+unfolding fittingEffect valuesEffect answerValues
 continued-sound x c n (answer.Fetched f) = fetched-sound x c n f
 continued-sound x c n (answer.MaskCopied k b) = numbers-sound c n k b
 continued-sound x c n (answer.CopiedIn k) = numbers-sound c n k 0
@@ -182,6 +182,7 @@ continued-sound x c n (answer.CopiedOut k) = numbers-sound c n k 0
 continued-sound x c n answer.Emitted = numbers-sound c n 0 0
 continued-sound x c n (answer.Char k) = numbers-sound c n k 0
 continued-sound x c n (answer.Forwarded e v) = numbers-sound c n e v
+continued-sound x c n answer.Other = wrong-sound c n
 
 -- an answer
 pub answer-sound : (x : List ℕ) (c : Csrs) (n : Waiting) (a : Answer) → Sound c n (answerEffect x c n a)
@@ -232,6 +233,10 @@ unfolding leavesOf Says Failed
 read-sound v i true n = record { says = tt }
 read-sound v i false n = record { says = record { csrs = refl; event = refl; writes = refl; waiting = refl } }
 
+value-sound : (v : Vcpu) (n : ℕ) → Sound (v .csrs) (v .waiting) (leavesOf (v .csrs) (v .waiting) (reply.Value n))
+unfolding leavesOf Says
+value-sound v n = record { says = tt }
+
 -- every call
 pub effect-sound : (v : Vcpu) (c : HostCall) → Sound (v .csrs) (v .waiting) (effectOf v c)
 unfolding effectOf gprReply
@@ -248,3 +253,5 @@ effect-sound v (hostCall.CompleteIpi a k) = unless-sound v _ (done-sound (v .csr
 effect-sound v (hostCall.Start t) = start-sound (v .x) (v .csrs) (v .waiting) t
 effect-sound v (hostCall.Answer a) = answer-sound (v .x) (v .csrs) (v .waiting) a
 effect-sound v (hostCall.CompleteLoad n) = completed-sound (v .csrs) (v .waiting) n
+effect-sound v (hostCall.ToPrint n) = value-sound v _
+effect-sound v (hostCall.New hart tree) = done-sound (v .csrs) _ _ (v .waiting) _

@@ -82,7 +82,7 @@ fetchWhen n (fetch.Misaligned a) e = false
 fetchWhen n (fetch.GuestPage a) e = false
 fetchWhen n fetch.Unhandled e = is e error.GuestMemoryFault
 
--- an answer of the right kind: only a fetch can end in an error
+-- an answer of the right kind: only a fetch can end in an error. (Other is of no ask's kind.)
 unfoldable pub fittingWhen : Waiting → Answer → Error → Bool
 fittingWhen n (answer.Fetched f) e = fetchWhen n f e
 fittingWhen n (answer.MaskCopied k b) e = false
@@ -93,6 +93,7 @@ fittingWhen n (answer.CopiedOut k) e = false
 fittingWhen n answer.Emitted e = false
 fittingWhen n (answer.Char k) e = false
 fittingWhen n (answer.Forwarded x v) e = false
+fittingWhen n answer.Other e = is e error.WrongAnswer
 
 -- an answer to no ask, or of another ask's kind: 7
 unfoldable pub answerWhen : Vcpu → Answer → Error → Bool
@@ -143,3 +144,6 @@ callWhen v (hostCall.CompleteIpi a k) e = changingWhen v true e
 callWhen v (hostCall.Start t) e = startWhen v t e
 callWhen v (hostCall.Answer a) e = answerWhen v a e
 callWhen v (hostCall.CompleteLoad n) e = loadWhen v e
+-- neither has a row in 01's table
+callWhen v (hostCall.ToPrint n) e = false
+callWhen v (hostCall.New hart tree) e = false

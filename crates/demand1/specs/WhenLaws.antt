@@ -7,7 +7,7 @@ use lib.Dec.{eqb, ltb}
 use Rattle.isa_types.specs.Pick.{pick, or, and, not}
 use Rattle.scope.specs.declared.hosts.HostCall.the-variants as hostCall
 use Rattle.scope.specs.Decided.{callEffect, answeredEffect}
-use Rattle.scope.specs.OneTrap.{answerNumber}
+use Rattle.scope.specs.OneTrap.{answerNumber, answerValues}
 use Rattle.scope.specs.Refusals.{askingOf, doneOf, failedOf, finishedOf, refusedOf, unlessAsking, leavesOf}
 use Rattle.scope.specs.declared.traps.Access.{Access}
 use Rattle.scope.specs.declared.traps.Access.the-variants as access
@@ -45,7 +45,7 @@ use Rattle.scope.specs.GuestPageFault.{faultEffect, faultOf, loadUnder, storeUn
 use Rattle.scope.specs.declared.decided.Answered.the-variants as answered
 use Rattle.scope.specs.Host.{pagingBy, pagingEffect, pendingEffect, writeEffect}
 use Rattle.scope.specs.Classes.{startEffect, classOf, classEffect}
-use Rattle.scope.specs.Answers.{answerEffect, fittingEffect, fetchEffect, numbersEffect, wordEffect}
+use Rattle.scope.specs.Answers.{answerEffect, fetchEffect, fittingEffect, numbersEffect, valuesEffect, wordEffect}
 use Rattle.scope.specs.Calls.{calledOf, effectOf, gprReply}
 use Rattle.demand3.specs.Kinds.{csrFunct3, onStimecmp}
 use Rattle.scope.specs.declared.decided.Answered.{Answered}
@@ -215,7 +215,7 @@ numbers-gives e c (waiting.Ecall a) word more k h g =
 
 -- an answer
 answer-gives : (e : Error) (v : Vcpu) (a : Answer) → gives e (calledOf v (hostCall.Answer a) .reply) ≡ answerWhen v a e
-unfolding calledOf effectOf applied answerEffect fittingEffect answerWhen fittingWhen answerNumber
+unfolding calledOf effectOf applied answerEffect fittingEffect valuesEffect answerValues answerWhen fittingWhen answerNumber
 answer-gives e v (answer.Fetched f) =
     split (givesIn e) (eqb (waitingAsk (v .waiting)) 1) (fetched-gives e (v .x) (v .csrs) (v .waiting) f) (refused-gives e error.WrongAnswer (v .csrs) (v .waiting))
 answer-gives e v (answer.MaskCopied n b) = numbers-gives e (v .csrs) (v .waiting) n b 2 refl refl
@@ -226,6 +226,8 @@ answer-gives e v (answer.CopiedOut n) = numbers-gives e (v .csrs) (v .waiting) n
 answer-gives e v answer.Emitted = numbers-gives e (v .csrs) (v .waiting) 0 0 7 refl refl
 answer-gives e v (answer.Char n) = numbers-gives e (v .csrs) (v .waiting) n 0 8 refl refl
 answer-gives e v (answer.Forwarded y u) = numbers-gives e (v .csrs) (v .waiting) y u 9 refl refl
+answer-gives e v answer.Other =
+    split (givesIn e) (eqb (waitingAsk (v .waiting)) 10) (refused-gives e error.WrongAnswer (v .csrs) (v .waiting)) (refused-gives e error.WrongAnswer (v .csrs) (v .waiting))
 
 -- a load's completion
 completed-gives : (e : Error) (c : Csrs) (n : Waiting) (k : ℕ) → givesIn e (completedOf c n k) ≡ pick (loadWaits n) false (is e error.BadState)
@@ -290,7 +292,7 @@ read-index e false n = refl
 
 -- every call
 pub call-when : (e : Error) (v : Vcpu) (c : HostCall) → gives e (calledOf v c .reply) ≡ callWhen v c e
-unfolding calledOf effectOf applied leavesOf gprReply writeEffect pagingEffect pagingBy pendingEffect indexAllowed pagingAllowed vectorAllowed callWhen
+unfolding calledOf effectOf applied leavesOf gives gprReply writeEffect pagingEffect pagingBy pendingEffect indexAllowed pagingAllowed vectorAllowed callWhen
 call-when e v hostCall.Setup = changing-gives e v _ true (done-gives e _ _ _)
 call-when e v (hostCall.SetEntry at) = changing-gives e v _ true (done-gives e _ _ _)
 call-when e v (hostCall.GetGpr i) = read-index e (ltb i 32) _
@@ -308,3 +310,5 @@ call-when e v (hostCall.CompleteIpi a k) = changing-gives e v _ true (done-gives
 call-when e v (hostCall.Start t) = start-gives e v t
 call-when e v (hostCall.Answer a) = answer-gives e v a
 call-when e v (hostCall.CompleteLoad n) = load-gives e v n
+call-when e v (hostCall.ToPrint n) = refl
+call-when e v (hostCall.New hart tree) = done-gives e _ _ _

@@ -6,7 +6,6 @@ use mathlib.Core.Path.{_≡_}
 use Rattle.scope.specs.declared.hosts.HostCall.the-variants as hostCall
 use Rattle.scope.specs.declared.traps.Answer.{Answer}
 use Rattle.scope.specs.declared.traps.Error.{Error}
-use Rattle.scope.specs.declared.traps.Error.the-variants as error
 use Rattle.scope.specs.declared.traps.Reply.{Reply}
 use Rattle.scope.specs.declared.traps.Reply.the-variants as reply
 use Rattle.scope.specs.declared.traps.Trap.{Trap}
@@ -16,25 +15,33 @@ use Rattle.scope.specs.declared.machine.Vcpu.{Vcpu}
 use Rattle.scope.specs.declared.machine.Waiting.the-variants as waiting
 use Rattle.scope.specs.Record.{counted}
 use Rattle.scope.specs.Calls.{calledOf}
+use Rattle.scope.specs.Refusals.{refusal, refuses}
+use Rattle.isa_types.specs.Pick.{not}
+use Rattle.scope.specs.declared.hosts.HostCall.{HostCall}
 
--- answers given one after the other, in turn or not
-unfoldable pub carried : Outcome → List Answer → Outcome
+-- calls made one after the other
+unfoldable pub carried : Outcome → List HostCall → Outcome
 carried o [] = o
-carried o (a ∷ l) = carried (calledOf (o .vcpu) (hostCall.Answer a)) l
+carried o (c ∷ l) = carried (calledOf (o .vcpu) c) l
 
--- a start and the answers after it
-unfoldable pub wholeOf : Vcpu → Trap → List Answer → Outcome
+-- a start and the calls after it
+unfoldable pub wholeOf : Vcpu → Trap → List HostCall → Outcome
 wholeOf v t l = carried (calledOf v (hostCall.Start t)) l
+
+-- a call in the middle of a trap: an answer, in turn or not; any call that is refused; a read
+pub data Middle (u : Vcpu) : HostCall → Type 0 where
+  answer : (a : Answer) → Middle u (hostCall.Answer a)
+  refused : {c : HostCall} → refuses (calledOf u c .reply) ≡ true → Middle u c
+  read : (i : ℕ) → Middle u (hostCall.GetGpr i)
+  print : (n : ℕ) → Middle u (hostCall.ToPrint n)
+
+unfoldable pub Middles : Vcpu → List HostCall → Type 0
+Middles u [] = Unit {0}
+Middles u (c ∷ l) = (Middle u c) × (Middles (calledOf u c .vcpu) l)
 
 -- errors 3 to 6 end a trap; 1, 2 and 7 are refusals
 unfoldable pub endsTrap : Error → Bool
-endsTrap error.InvalidInput = false
-endsTrap error.BadState = false
-endsTrap error.Unsupported = true
-endsTrap error.InvalidTrap = true
-endsTrap error.DecodeFailed = true
-endsTrap error.GuestMemoryFault = true
-endsTrap error.WrongAnswer = false
+endsTrap e = not (refusal e)
 
 unfoldable pub inError : Reply → Bool
 inError (reply.Exit x) = false

@@ -4,9 +4,10 @@ use native.Mathlib.Omega.{arith}
 use mathlib.Core.Bool.{Bool, true, false}
 use mathlib.Core.List.{List, [], _∷_}
 use mathlib.Core.Path.{_≡_, refl, ap, subst, sym, _∙_}
-use lib.Dec.{eqb}
+use lib.Dec.{eqb, ltb}
 use Rattle.isa_types.specs.Pick.{pick}
 use Rattle.scope.specs.declared.hosts.HostCall.the-variants as hostCall
+use Rattle.scope.specs.declared.hosts.HostCall.{HostCall}
 use Rattle.scope.specs.Decided.{callEffect, answeredEffect}
 use Rattle.scope.specs.OneTrap.{answerNumber}
 use Rattle.scope.specs.declared.traps.Access.{Access}
@@ -31,8 +32,8 @@ use Rattle.scope.specs.declared.machine.Vcpu.{Vcpu}
 use Rattle.scope.specs.declared.machine.Waiting.{Waiting}
 use Rattle.scope.specs.declared.machine.Waiting.the-variants as waiting
 use Rattle.scope.specs.declared.machine.Writes.the-variants as writes
-use Rattle.scope.specs.Record.{counted, bumped, eventNumber, isIdle, stored, waitingAsk, applied, ecallAskNumber}
-use Rattle.scope.specs.Refusals.{askingOf, failedOf, finishedOf, refusedOf, leavesOf}
+use Rattle.scope.specs.Record.{counted, bumped, eventNumber, isIdle, stored, valueOf, waitingAsk, applied, ecallAskNumber}
+use Rattle.scope.specs.Refusals.{askingOf, failedOf, finishedOf, refusal, refusedOf, refuses, leavesOf}
 use Rattle.scope.specs.declared.decided.SbiCall.{SbiCall}
 use Rattle.scope.specs.declared.decided.SbiCall.the-variants as call
 use Rattle.scope.specs.Ecalls.{asksOf, clearIpiOf, hypercallOf, movesOf, returnsOf, setTimerOf, staysOf, forwardEffect, givesOf}
@@ -47,12 +48,14 @@ use Rattle.scope.specs.GuestPageFault.{faultEffect, mmioOf, pageFaultOf}
 use Rattle.scope.specs.declared.decided.Answered.{Answered}
 use Rattle.scope.specs.declared.decided.Answered.the-variants as answered
 use Rattle.scope.specs.Classes.{startEffect, classOf, classEffect}
-use Rattle.scope.specs.Answers.{answerEffect, fittingEffect, fetchEffect, numbersEffect, wordEffect}
-use Rattle.scope.specs.Calls.{calledOf, effectOf}
+use Rattle.scope.specs.Answers.{answerEffect, fittingEffect, fetchEffect, numbersEffect, valuesEffect, wordEffect}
+use Rattle.scope.specs.Calls.{baseOf, calledOf, effectOf, gprReply}
 use Rattle.demand1.specs.Leaves.{AtMostIllegal, Ended, Failed, Says}
 use Rattle.demand1.specs.Leaves as leaves
 use Rattle.demand1.specs.Sound.{start-sound, answer-sound}
-use Rattle.demand1.specs.Whole.{carried, wholeOf, endsTrap, inError, Tallied, Over, same, illegal}
+use Rattle.demand1.specs.Demand1.{refusal-keeps-the-record}
+use Rattle.demand1.specs.Whole as whole
+use Rattle.demand1.specs.Whole.{Middle, Middles, carried, wholeOf, endsTrap, inError, Tallied, Over, same, illegal}
 use Rattle.scope.specs.declared.decided.Class.{Class}
 use Rattle.scope.specs.declared.machine.EcallAsk.the-variants as asked
 use Rattle.scope.specs.declared.decided.Class.the-variants as class
@@ -179,7 +182,7 @@ fetched-held x c n (fetch.GuestPage a) = missed-held c _
 fetched-held x c n fetch.Unhandled = missed-held c _
 
 continued-held : (x : List ℕ) (c : Csrs) (n : Waiting) (a : Answer) → Held c (fittingEffect x c n a)
-unfolding fittingEffect
+unfolding fittingEffect valuesEffect
 continued-held x c n (answer.Fetched f) = fetched-held x c n f
 continued-held x c n (answer.MaskCopied k b) = numbers-held c n _ _
 continued-held x c n (answer.CopiedIn k) = numbers-held c n _ _
@@ -189,6 +192,7 @@ continued-held x c n (answer.CopiedOut k) = numbers-held c n _ _
 continued-held x c n answer.Emitted = numbers-held c n _ _
 continued-held x c n (answer.Char k) = numbers-held c n _ _
 continued-held x c n (answer.Forwarded e v) = numbers-held c n _ _
+continued-held x c n answer.Other = refused-held c n error.WrongAnswer
 
 answer-held : (x : List ℕ) (c : Csrs) (n : Waiting) (a : Answer) → Held c (answerEffect x c n a)
 unfolding answerEffect
@@ -212,7 +216,7 @@ answered-goes c n (answered.Print k) = record { on = refl; still = λ h. never h
 answered-goes c n (answered.CopyOut at k) = record { on = refl; still = λ h. never h }
 
 refused-goes : (c : Csrs) (n : Waiting) → Goes n (refusedOf c n error.WrongAnswer)
-unfolding refusedOf leavesOf inError endsTrap
+unfolding refusedOf leavesOf inError endsTrap refusal
 refused-goes c n = record { on = refl; still = λ h. h }
 
 numbers-goes : (c : Csrs) (n : Waiting) (word more : ℕ) → Goes n (numbersEffect c n word more)
@@ -233,7 +237,7 @@ contradicts p q = never (sym p ∙ q)
 fetch-ends : (x : List ℕ) (c : Csrs) (n : Waiting) (f : Fetch)
     → inError (answerEffect x c n (answer.Fetched f) .reply) ≡ true
     → fetching n ≡ true
-unfolding answerEffect waitingAsk ecallAskNumber answerNumber refusedOf leavesOf inError endsTrap fetching
+unfolding answerEffect waitingAsk ecallAskNumber answerNumber refusedOf leavesOf inError endsTrap refusal fetching
 fetch-ends x c waiting.Idle f h = h
 fetch-ends x c (waiting.Load rd l s) f h = h
 fetch-ends x c waiting.FetchCsr f h = refl
@@ -251,7 +255,7 @@ fetch-ends x c (waiting.Ecall asked.Forward) f h = h
 answer-ends : (x : List ℕ) (c : Csrs) (n : Waiting) (a : Answer)
     → inError (answerEffect x c n a .reply) ≡ true
     → fetching n ≡ true
-unfolding answerEffect fittingEffect
+unfolding answerEffect fittingEffect valuesEffect
 answer-ends x c n (answer.Fetched f) h = fetch-ends x c n f h
 answer-ends x c n (answer.MaskCopied k b) h = contradicts (matched-goes c n (eqb (waitingAsk n) (answerNumber (answer.MaskCopied k b))) _ _ .on) h
 answer-ends x c n (answer.CopiedIn k) h = contradicts (matched-goes c n (eqb (waitingAsk n) (answerNumber (answer.CopiedIn k))) _ _ .on) h
@@ -260,6 +264,7 @@ answer-ends x c n (answer.ConsoleRead e v) h = contradicts (matched-goes c n (eq
 answer-ends x c n (answer.CopiedOut k) h = contradicts (matched-goes c n (eqb (waitingAsk n) (answerNumber (answer.CopiedOut k))) _ _ .on) h
 answer-ends x c n answer.Emitted h = contradicts (matched-goes c n (eqb (waitingAsk n) (answerNumber answer.Emitted)) _ _ .on) h
 answer-ends x c n (answer.Char k) h = contradicts (matched-goes c n (eqb (waitingAsk n) (answerNumber (answer.Char k))) _ _ .on) h
+answer-ends x c n answer.Other h = contradicts (one-of (Goes n) (eqb (waitingAsk n) (answerNumber answer.Other)) (refused-goes c n) (refused-goes c n) .on) h
 answer-ends x c n (answer.Forwarded e v) h = contradicts (matched-goes c n (eqb (waitingAsk n) (answerNumber (answer.Forwarded e v))) _ _ .on) h
 
 -- a fetch waits after an answer only where one waited before it
@@ -285,7 +290,7 @@ fetch-fetches x c (waiting.Ecall asked.Forward) f h = h
 answer-fetches : (x : List ℕ) (c : Csrs) (n : Waiting) (a : Answer)
     → fetching (answerEffect x c n a .waiting) ≡ true
     → fetching n ≡ true
-unfolding answerEffect fittingEffect
+unfolding answerEffect fittingEffect valuesEffect
 answer-fetches x c n (answer.Fetched f) h = fetch-fetches x c n f h
 answer-fetches x c n (answer.MaskCopied k b) h = matched-goes c n (eqb (waitingAsk n) (answerNumber (answer.MaskCopied k b))) _ _ .still h
 answer-fetches x c n (answer.CopiedIn k) h = matched-goes c n (eqb (waitingAsk n) (answerNumber (answer.CopiedIn k))) _ _ .still h
@@ -294,6 +299,7 @@ answer-fetches x c n (answer.ConsoleRead e v) h = matched-goes c n (eqb (waiting
 answer-fetches x c n (answer.CopiedOut k) h = matched-goes c n (eqb (waitingAsk n) (answerNumber (answer.CopiedOut k))) _ _ .still h
 answer-fetches x c n answer.Emitted h = matched-goes c n (eqb (waitingAsk n) (answerNumber answer.Emitted)) _ _ .still h
 answer-fetches x c n (answer.Char k) h = matched-goes c n (eqb (waitingAsk n) (answerNumber (answer.Char k))) _ _ .still h
+answer-fetches x c n answer.Other h = one-of (Goes n) (eqb (waitingAsk n) (answerNumber answer.Other)) (refused-goes c n) (refused-goes c n) .still h
 answer-fetches x c n (answer.Forwarded e v) h = matched-goes c n (eqb (waitingAsk n) (answerNumber (answer.Forwarded e v))) _ _ .still h
 
 -- what an error leaves of a record
@@ -312,7 +318,7 @@ quietly : (e : Effect) → e .event ≡ event.Quiet → AtMostIllegal (e .event)
 quietly e h = subst (λ (k : Event). AtMostIllegal k) (sym h) leaves.quiet
 
 failed-over : (v : Vcpu) (e : Effect) (y : Error) → endsTrap y ≡ true → Failed (v .csrs) (v .waiting) e y → Over v (applied v e .vcpu)
-unfolding Failed endsTrap
+unfolding Failed endsTrap refusal
 failed-over v e error.InvalidInput h f = never h
 failed-over v e error.BadState h f = never h
 failed-over v e error.Unsupported h f = ended v e (f .0) (f .1)
@@ -340,12 +346,12 @@ still-record u e s =
     (ap (λ w. stored (u .x) w) (s .writes), s .csrs, ap (λ k. counted (u .counts) k) (s .event))
 
 start-carries : (v : Vcpu) (t : Trap) → Carries v (calledOf v (hostCall.Start t) .vcpu)
-unfolding calledOf effectOf applied
+unfolding calledOf baseOf effectOf applied
 start-carries v t =
     record { carries = λ h. still-record v _ (start-held (v .x) (v .csrs) (v .waiting) t .held h) }
 
 answer-carries : (v u : Vcpu) (a : Answer) → Carries v u → Carries v (calledOf u (hostCall.Answer a) .vcpu)
-unfolding calledOf effectOf applied
+unfolding calledOf baseOf effectOf applied
 answer-carries v u a k =
     record {
       carries = λ h.
@@ -364,26 +370,82 @@ over-from v u w s o =
     }
 
 start-over : (v : Vcpu) (t : Trap) → inError (calledOf v (hostCall.Start t) .reply) ≡ true → Over v (calledOf v (hostCall.Start t) .vcpu)
-unfolding calledOf effectOf applied
+unfolding calledOf baseOf effectOf applied
 start-over v t h =
     over-by v (startEffect (v .x) (v .csrs) (v .waiting) t) _ h (start-sound (v .x) (v .csrs) (v .waiting) t .says)
 
 answer-over : (v u : Vcpu) (a : Answer) → Carries v u → inError (calledOf u (hostCall.Answer a) .reply) ≡ true → Over v (calledOf u (hostCall.Answer a) .vcpu)
-unfolding calledOf effectOf applied
+unfolding calledOf baseOf effectOf applied
 answer-over v u a k h =
     over-from v u _ (k .carries (answer-ends (u .x) (u .csrs) (u .waiting) a h))
     (over-by u (answerEffect (u .x) (u .csrs) (u .waiting) a) _ h (answer-sound (u .x) (u .csrs) (u .waiting) a .says))
 
+-- a refused call, and a read, leave the record and end nothing
+
+refused-not : (p : Reply) → refuses p ≡ true → inError p ≡ false
+unfolding refuses refusal inError endsTrap
+refused-not (reply.Exit x) h = never h
+refused-not (reply.Ask a) h = never h
+refused-not reply.Done h = never h
+refused-not (reply.Value n) h = never h
+refused-not (reply.Error error.InvalidInput) h = refl
+refused-not (reply.Error error.BadState) h = refl
+refused-not (reply.Error error.Unsupported) h = never h
+refused-not (reply.Error error.InvalidTrap) h = never h
+refused-not (reply.Error error.DecodeFailed) h = never h
+refused-not (reply.Error error.GuestMemoryFault) h = never h
+refused-not (reply.Error error.WrongAnswer) h = refl
+
+-- the call leaves the record, and its reply ends no trap
+record Idles (u : Vcpu) (c : HostCall) : Type 0 where
+  same : calledOf u c .vcpu ≡ u
+  on : inError (calledOf u c .reply) ≡ false
+
+refused-idles : (u : Vcpu) (c : HostCall) → refuses (calledOf u c .reply) ≡ true → Idles u c
+refused-idles u c h = record { same = refusal-keeps-the-record u c h; on = refused-not _ h }
+
+index-idles : (b : Bool) (n : ℕ) → inError (pick b (reply.Value n) (reply.Error error.InvalidInput)) ≡ false
+unfolding inError endsTrap refusal
+index-idles true n = refl
+index-idles false n = refl
+
+read-idles : (u : Vcpu) (i : ℕ) → Idles u (hostCall.GetGpr i)
+unfolding calledOf baseOf effectOf leavesOf gprReply applied stored counted bumped eventNumber
+read-idles u i = record { same = refl; on = index-idles (ltb i 32) (valueOf (u .x) i) }
+
+print-idles : (u : Vcpu) (n : ℕ) → Idles u (hostCall.ToPrint n)
+unfolding calledOf baseOf effectOf leavesOf applied stored counted bumped eventNumber inError
+print-idles u n = record { same = refl; on = refl }
+
+module _ (v u : Vcpu) (k : Carries v u) where
+  idle-over : (c : HostCall) → Idles u c → inError (calledOf u c .reply) ≡ true → Over v (calledOf u c .vcpu)
+  idle-over c i h = contradicts (i .on) h
+
+  idle-carries : (c : HostCall) → Idles u c → Carries v (calledOf u c .vcpu)
+  idle-carries c i = subst (λ (w : Vcpu). Carries v w) (sym (i .same)) k
+
+  middle-over : (c : HostCall) → Middle u c → inError (calledOf u c .reply) ≡ true → Over v (calledOf u c .vcpu)
+  middle-over c (whole.answer a) h = answer-over v u a k h
+  middle-over c (whole.refused r) h = idle-over c (refused-idles u c r) h
+  middle-over c (whole.read i) h = idle-over c (read-idles u i) h
+  middle-over c (whole.print n) h = idle-over c (print-idles u n) h
+
+  middle-carries : (c : HostCall) → Middle u c → Carries v (calledOf u c .vcpu)
+  middle-carries c (whole.answer a) = answer-carries v u a k
+  middle-carries c (whole.refused r) = idle-carries c (refused-idles u c r)
+  middle-carries c (whole.read i) = idle-carries c (read-idles u i)
+  middle-carries c (whole.print n) = idle-carries c (print-idles u n)
+
 carried-over : (v : Vcpu) (o : Outcome) → (inError (o .reply) ≡ true → Over v (o .vcpu)) → Carries v (o .vcpu)
-    → (l : List Answer) → inError (carried o l .reply) ≡ true → Over v (carried o l .vcpu)
-unfolding carried
-carried-over v o f k [] h = f h
-carried-over v o f k (a ∷ l) h =
-    carried-over v (calledOf (o .vcpu) (hostCall.Answer a)) (answer-over v (o .vcpu) a k) (answer-carries v (o .vcpu) a k) l h
+    → (l : List HostCall) → Middles (o .vcpu) l → inError (carried o l .reply) ≡ true → Over v (carried o l .vcpu)
+unfolding carried Middles
+carried-over v o f k [] m h = f h
+carried-over v o f k (c ∷ l) m h =
+    carried-over v (calledOf (o .vcpu) c) (middle-over v (o .vcpu) k c (m .0)) (middle-carries v (o .vcpu) k c (m .0)) l (m .1) h
 
 -- a trap that ends in an error changes no register and no CSR, counts at most event 2, and nothing waits after it
-pub error-changes-nothing : (v : Vcpu) (t : Trap) (l : List Answer)
+pub error-changes-nothing : (v : Vcpu) (t : Trap) (l : List HostCall) → Middles (calledOf v (hostCall.Start t) .vcpu) l
     → inError (wholeOf v t l .reply) ≡ true
     → Over v (wholeOf v t l .vcpu)
 unfolding wholeOf
-error-changes-nothing v t l h = carried-over v (calledOf v (hostCall.Start t)) (start-over v t) (start-carries v t) l h
+error-changes-nothing v t l m h = carried-over v (calledOf v (hostCall.Start t)) (start-over v t) (start-carries v t) l m h

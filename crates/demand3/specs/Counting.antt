@@ -13,10 +13,11 @@ use Rattle.demand3_table.specs.Turns.{Turn, call, print}
 use Rattle.isa_types.specs.Pick.{pick, wrapped}
 use Rattle.scope.specs.declared.machine.Vcpu.{Vcpu}
 use Rattle.scope.specs.Record.{bumped, counted, applied}
-use Rattle.demand3_table.specs.Runs.{stepOf, runOf}
-use Rattle.demand3.specs.Kinds.{kindOf, traps}
+use Rattle.demand3_table.specs.Runs.{Lasting, runOf, stepOf, turnRenews}
+use Rattle.demand3_table.specs.Bases.{base-kept}
+use Rattle.demand3.specs.Kinds.{callKind, kindOf, traps}
 use Rattle.demand3.specs.Events.{event-kind}
-use Rattle.scope.specs.Calls.{calledOf}
+use Rattle.scope.specs.Calls.{baseOf, calledOf}
 
 -- the counts of a record: nine numbers below 2^64
 pub record Counted (k : List ℕ) : Type 0 where
@@ -62,22 +63,23 @@ module _ (k : List ℕ) (h : Counted k) where
       }
 
 -- one call
-next-counts : (v : Vcpu) (c : Turn) → stepOf v c .counts ≡ bumped (v .counts) (kindOf v c)
-unfolding stepOf kindOf calledOf applied counted bumped
-next-counts v (call c) = ap (bumped (v .counts)) (event-kind v c)
-next-counts v (print buffer) = refl
+next-counts : (v : Vcpu) (c : Turn) → turnRenews c ≡ false → stepOf v c .counts ≡ bumped (v .counts) (kindOf v c)
+unfolding stepOf turnRenews kindOf calledOf applied counted bumped
+next-counts v (call c) h =
+    ap (bumped (baseOf v c .counts)) (event-kind v c) ∙ ap (λ (u : Vcpu). bumped (u .counts) (callKind v c)) (base-kept v c h)
+next-counts v (print buffer) h = refl
 
 folded : (a b n : ℕ) → (wrapped (a + b) + n) % 2 ^ 64 ≡ wrapped (a + (b + n))
 folded a b n = mod-add-mod (a + b) (2 ^ 64) n ∙ ap wrapped (add-assoc a b n)
 
--- count i, from 0 to 8, is of kind i + 1
-pub counts : (v : Vcpu) (cs : List Turn) (i : ℕ) → Counted (v .counts) → i < 9 → getD (runOf v cs .counts) i 0 ≡ wrapped (getD (v .counts) i 0 + traps (suc i) v cs)
-unfolding runOf traps
-counts v [] i h lt = sym (simp add-zero (mod-eq-of-lt (h .below i lt)))
-counts v (c ∷ cs) i h lt =
-    let after : Counted (stepOf v c .counts) = rw (next-counts v c) (bumped-counted (v .counts) h (kindOf v c)) in
+-- count i, from 0 to 8, is of kind i + 1; a new record starts a new count
+pub counts : (v : Vcpu) (cs : List Turn) (i : ℕ) → Lasting cs → Counted (v .counts) → i < 9 → getD (runOf v cs .counts) i 0 ≡ wrapped (getD (v .counts) i 0 + traps (suc i) v cs)
+unfolding runOf traps Lasting
+counts v [] i l h lt = sym (simp add-zero (mod-eq-of-lt (h .below i lt)))
+counts v (c ∷ cs) i l h lt =
+    let after : Counted (stepOf v c .counts) = rw (next-counts v c (l .0)) (bumped-counted (v .counts) h (kindOf v c)) in
     let one : getD (stepOf v c .counts) i 0 ≡ wrapped (getD (v .counts) i 0 + pick (eqb (kindOf v c) (suc i)) 1 0)
-    = rw (next-counts v c) (bumped-at (v .counts) h i (kindOf v c) lt (eqb (kindOf v c) (suc i)) refl) in
-    counts (stepOf v c) cs i after lt
+    = rw (next-counts v c (l .0)) (bumped-at (v .counts) h i (kindOf v c) lt (eqb (kindOf v c) (suc i)) refl) in
+    counts (stepOf v c) cs i (l .1) after lt
     ∙ ap (λ n. wrapped (n + traps (suc i) (stepOf v c) cs)) one
     ∙ folded (getD (v .counts) i 0) (pick (eqb (kindOf v c) (suc i)) 1 0) (traps (suc i) (stepOf v c) cs)

@@ -46,7 +46,7 @@ use Rattle.scope.specs.declared.decided.Class.{Class}
 use Rattle.scope.specs.declared.machine.EcallAsk.{EcallAsk}
 use Rattle.scope.specs.declared.hosts.HostCall.{HostCall}
 use Rattle.scope.specs.declared.decided.LegacyRequest.{LegacyRequest}
-use Rattle.scope.specs.Answers.{answerEffect, fetchEffect, fittingEffect, numbersEffect, wordEffect}
+use Rattle.scope.specs.Answers.{answerEffect, fetchEffect, fittingEffect, numbersEffect, valuesEffect, wordEffect}
 use Rattle.scope.specs.declared.machine.EcallAsk.the-variants as asked
 use Rattle.scope.specs.declared.decided.Class.the-variants as class
 use Rattle.scope.specs.Calls.{effectOf}
@@ -270,7 +270,7 @@ module _ (x : List ℕ) (c : Csrs) where
   fetch-event n fetch.Unhandled = missed-event c _
 
   answer-event : (n : Waiting) (a : Answer) → counts (fittingEffect x c n a) ≡ answerKind n a
-  unfolding fittingEffect answerKind
+  unfolding fittingEffect valuesEffect answerKind refusedOf leavesOf eventNumber
   answer-event n (answers.Fetched f) = fetch-event n f
   answer-event n (answers.MaskCopied count bytes) = numbers-event c n _ _
   answer-event n (answers.CopiedIn count) = numbers-event c n _ _
@@ -280,6 +280,7 @@ module _ (x : List ℕ) (c : Csrs) where
   answer-event n answers.Emitted = numbers-event c n _ _
   answer-event n (answers.Char number) = numbers-event c n _ _
   answer-event n (answers.Forwarded error value) = numbers-event c n _ _
+  answer-event n answers.Other = refl
 
 guarded-event : (v : Vcpu) (e : Effect) → counts e ≡ 0 → counts (unlessAsking v e) ≡ 0
 unfolding unlessAsking refusedOf leavesOf eventNumber
@@ -303,3 +304,5 @@ event-kind v (hostCall.Start t) =
 event-kind v (hostCall.Answer a) =
     each (eqb (waitingAsk (v .waiting)) (answerNumber a)) counts (answer-event (v .x) (v .csrs) (v .waiting) a) refl
 event-kind v (hostCall.CompleteLoad n) = completed-event (v .csrs) (v .waiting) n
+event-kind v (hostCall.ToPrint length) = refl
+event-kind v (hostCall.New hart tree) = refl

@@ -93,6 +93,7 @@ answerKind n (answers.CopiedOut count) = 0
 answerKind n answers.Emitted = 0
 answerKind n (answers.Char number) = 0
 answerKind n (answers.Forwarded error value) = 0
+answerKind n answers.Other = 0
 
 -- the kind of trap that a call starts or carries on; a refused call is of none
 unfoldable pub callKind : Vcpu → HostCall → ℕ
@@ -108,6 +109,8 @@ callKind v (hostCall.SetPending vector level) = 0
 callKind v (hostCall.LatchHvip bits) = 0
 callKind v (hostCall.CompleteIpi abi completion) = 0
 callKind v (hostCall.CompleteLoad n) = 0
+callKind v (hostCall.ToPrint length) = 0
+callKind v (hostCall.New hart tree) = 0
 
 unfoldable pub kindOf : Vcpu → Turn → ℕ
 kindOf v (call c) = callKind v c

@@ -6,14 +6,16 @@ use mathlib.Core.Path.{_≡_, refl, ap, ap₂, sym, _∙_, subst}
 use lib.ListN.{getD}
 use Rattle.demand3_table.specs.Turns.{Turn, call, print}
 use Rattle.isa_types.specs.Pick.{or}
+use Rattle.scope.specs.declared.hosts.HostCall.{HostCall}
 use Rattle.scope.specs.declared.machine.Effect.{Effect}
 use Rattle.scope.specs.declared.machine.Vcpu.{Vcpu}
 use Rattle.scope.specs.Record.{counted, applied}
-use Rattle.scope.specs.Calls.{printedOf, calledOf, effectOf}
-use Rattle.demand3_table.specs.Table.{namesOf, readsOf}
-use Rattle.demand3_table.specs.Runs.{sightOf, stepOf, runOf, seenOf, Apart, Untouched, wrote, written, writesOf}
+use Rattle.scope.specs.Calls.{baseOf, printedOf, calledOf, effectOf}
+use Rattle.demand3_table.specs.Table.{callNames, callReads, namesOf, readsOf}
+use Rattle.demand3_table.specs.Runs.{sightOf, stepOf, runOf, seenOf, Apart, Untouched, renews, wrote, wroteBy, written}
 use Rattle.demand3_table.specs.Alike.{Alike}
 use Rattle.demand3_table.specs.Agree.{effect-alike}
+use Rattle.demand3_table.specs.Bases.{base-alike, base-kept, base-new}
 use Rattle.demand3_table.specs.Stored.{neither, same-files, stored-files, stored-kept, stored-joined}
 
 -- a sequence that leaves r untouched does so in each of its beginnings
@@ -50,37 +52,47 @@ module _ (r : ℕ) (v w : Vcpu) (a : Alike r v w) where
   pub next-alike : (c : Turn) → Apart r (namesOf v c) → Apart r (readsOf c) → Alike r (stepOf v c) (stepOf w c)
   unfolding stepOf namesOf readsOf calledOf
   next-alike (call c) named read =
-      subst (λ (e : Effect). Alike r (applied v (effectOf v c) .vcpu) (applied w e .vcpu)) (effect-alike r v w c a named read)
-      (applied-alike r v w a (effectOf v c))
+      subst (λ (e : Effect). Alike r (applied (baseOf v c) (effectOf v c) .vcpu) (applied (baseOf w c) e .vcpu)) (effect-alike r v w c a named read)
+      (applied-alike r (baseOf v c) (baseOf w c) (base-alike r v w c a) (effectOf v c))
   next-alike (print buffer) named read = a
 
-  sight-alike : (c : Turn) → Apart r (namesOf v c) → Apart r (readsOf c) → sightOf v c ≡ sightOf w c
+  pub sight-alike : (c : Turn) → Apart r (namesOf v c) → Apart r (readsOf c) → sightOf v c ≡ sightOf w c
   unfolding sightOf namesOf readsOf calledOf applied printedOf
   sight-alike (call c) named read = rw (effect-alike r v w c a named read)
   sight-alike (print buffer) named read = rw (a .waiting)
 
-  writes-alike : (c : Turn) → Apart r (namesOf v c) → Apart r (readsOf c) → writesOf v c ≡ writesOf w c
-  unfolding writesOf namesOf readsOf
-  writes-alike (call c) named read = ap (λ (e : Effect). e .writes) (effect-alike r v w c a named read)
-  writes-alike (print buffer) named read = refl
+  pub wrote-alike : (c : Turn) → Apart r (namesOf v c) → Apart r (readsOf c) → wroteBy r v c ≡ wroteBy r w c
+  unfolding wroteBy namesOf readsOf
+  wrote-alike (call c) named read = ap (λ (e : Effect). or (renews c) (wrote r (e .writes))) (effect-alike r v w c a named read)
+  wrote-alike (print buffer) named read = refl
 
-  wrote-alike : (c : Turn) → Apart r (namesOf v c) → Apart r (readsOf c) → wrote r (writesOf v c) ≡ wrote r (writesOf w c)
-  wrote-alike c named read = ap (wrote r) (writes-alike c named read)
+  -- a call that writes r leaves it the same on both
+  stepped-joined : (c : HostCall) → Apart r (callNames v c) → Apart r (callReads c) → wrote r (effectOf v c .writes) ≡ true → getD (calledOf v c .vcpu .x) r 0 ≡ getD (calledOf w c .vcpu .x) r 0
+  unfolding calledOf
+  stepped-joined c named read t =
+      subst (λ (e : Effect). getD (applied (baseOf v c) (effectOf v c) .vcpu .x) r 0 ≡ getD (applied (baseOf w c) e .vcpu .x) r 0) (effect-alike r v w c a named read)
+      (applied-joined r (baseOf v c) (baseOf w c) (base-alike r v w c a) (effectOf v c) t)
 
-  stepped-joined : (c : Turn) → Apart r (namesOf v c) → Apart r (readsOf c) → wrote r (writesOf v c) ≡ true → getD (stepOf v c .x) r 0 ≡ getD (stepOf w c .x) r 0
-  unfolding stepOf writesOf namesOf readsOf calledOf wrote
-  stepped-joined (call c) named read t =
-      subst (λ (e : Effect). getD (applied v (effectOf v c) .vcpu .x) r 0 ≡ getD (applied w e .vcpu .x) r 0) (effect-alike r v w c a named read)
-      (applied-joined r v w a (effectOf v c) t)
-  stepped-joined (print buffer) named read t = cc
+  -- a new record is one on both
+  renewed : (c : HostCall) → Apart r (callNames v c) → Apart r (callReads c) → renews c ≡ true → calledOf v c .vcpu ≡ calledOf w c .vcpu
+  unfolding calledOf
+  renewed c named read h = rw (base-new v w c h, effect-alike r v w c a named read)
 
-  next-joined : (c : Turn) → Apart r (namesOf v c) → Apart r (readsOf c) → wrote r (writesOf v c) ≡ true → stepOf v c ≡ stepOf w c
-  next-joined c named read t =
-      same-record r (stepOf v c) (stepOf w c) (next-alike c named read) (stepped-joined c named read t)
+  called-joined : (c : HostCall) → Apart r (callNames v c) → Apart r (callReads c) → (b : Bool) → renews c ≡ b → or b (wrote r (effectOf v c .writes)) ≡ true → Alike r (calledOf v c .vcpu) (calledOf w c .vcpu) → calledOf v c .vcpu ≡ calledOf w c .vcpu
+  called-joined c named read true h t k = renewed c named read h
+  called-joined c named read false h t k =
+      same-record r (calledOf v c .vcpu) (calledOf w c .vcpu) k (stepped-joined c named read t)
 
-next-kept : (r : ℕ) (v : Vcpu) (c : Turn) → wrote r (writesOf v c) ≡ false → getD (stepOf v c .x) r 0 ≡ getD (v .x) r 0
-unfolding stepOf writesOf calledOf applied
-next-kept r v (call c) t = stored-kept r (v .x) (effectOf v c .writes) t
+  pub next-joined : (c : Turn) → Apart r (namesOf v c) → Apart r (readsOf c) → wroteBy r v c ≡ true → stepOf v c ≡ stepOf w c
+  unfolding stepOf wroteBy namesOf readsOf
+  next-joined (call c) named read t = called-joined c named read (renews c) refl t (next-alike (call c) named read)
+  next-joined (print buffer) named read t = cc
+
+next-kept : (r : ℕ) (v : Vcpu) (c : Turn) → wroteBy r v c ≡ false → getD (stepOf v c .x) r 0 ≡ getD (v .x) r 0
+unfolding stepOf wroteBy calledOf applied
+next-kept r v (call c) t =
+    let n = neither (renews c) (wrote r (effectOf v c .writes)) t in
+    stored-kept r (baseOf v c .x) (effectOf v c .writes) (n .1) ∙ ap (λ (u : Vcpu). getD (u .x) r 0) (base-kept v c (n .0))
 next-kept r v (print buffer) t = refl
 
 -- a sequence of turns
@@ -107,7 +119,7 @@ kept : (r : ℕ) (v : Vcpu) (cs : List Turn) → written r v cs ≡ false → ge
 unfolding runOf written
 kept r v [] h = refl
 kept r v (c ∷ cs) h =
-    let n = neither (wrote r (writesOf v c)) (written r (stepOf v c) cs) h in
+    let n = neither (wroteBy r v c) (written r (stepOf v c) cs) h in
     kept r (stepOf v c) cs (n .1) ∙ next-kept r v c (n .0)
 
 pub keeps : (r : ℕ) (v w : Vcpu) (cs : List Turn) → Alike r v w → Untouched r v cs → written r v cs ≡ false → (getD (runOf v cs .x) r 0 ≡ getD (v .x) r 0) × (getD (runOf w cs .x) r 0 ≡ getD (w .x) r 0)
@@ -122,6 +134,6 @@ pub joins : (r : ℕ) (v w : Vcpu) (cs : List Turn) → Alike r v w → Untouche
 unfolding runOf written Untouched
 joins r v w [] a u h = cc
 joins r v w (c ∷ cs) a u h =
-    from-then (stepOf v c) (stepOf w c) cs (wrote r (writesOf v c)) (written r (stepOf v c) cs) h
+    from-then (stepOf v c) (stepOf w c) cs (wroteBy r v c) (written r (stepOf v c) cs) h
     (next-joined r v w a c (u .0) (u .1))
     (joins r (stepOf v c) (stepOf w c) cs (next-alike r v w a c (u .0) (u .1)) (u .2))

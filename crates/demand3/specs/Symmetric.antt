@@ -76,6 +76,8 @@ call-names r v w (hostCall.SetPending vector level) a h = refl
 call-names r v w (hostCall.LatchHvip bits) a h = refl
 call-names r v w (hostCall.CompleteIpi abi completion) a h = refl
 call-names r v w (hostCall.CompleteLoad n) a h = refl
+call-names r v w (hostCall.ToPrint length) a h = refl
+call-names r v w (hostCall.New hart tree) a h = refl
 
 names-alike : (r : ℕ) (v w : Vcpu) (c : Turn) → Alike r v w → Apart r (namesOf v c) → namesOf v c ≡ namesOf w c
 unfolding namesOf

@@ -9,7 +9,7 @@ use lib.ListN.{set, length, replicate, length-set}
 use lib.Seq.{getD-set-other}
 use Rattle.demand3_table.specs.Turns.{Turn, call, print}
 use Rattle.scope.specs.Ecalls.{ecallEffect, timeEffect, spiEffect, hsmEffect, srstEffect, spanEffect, consoleEffect, dbcnEffect, rfncEffect, forwardEffect, notSupportedEffect, standardRequest, lesserOf, returnsOf, movesOf, staysOf, asksOf, setTimerOf, hypercallOf, consoleReadEffect, copiedEffect, copiedOutEffect, ecallAnswer, givesOf}
-use Rattle.scope.specs.OneTrap.{answerNumber, exitNumber, askNumber}
+use Rattle.scope.specs.OneTrap.{answerNumber, answerValues, exitNumber, askNumber}
 use Rattle.scope.specs.Refusals.{errorNumber, finishedOf, askingOf, failedOf, refusedOf, doneOf, leavesOf, unlessAsking}
 use Rattle.scope.specs.declared.traps.Answer.the-variants as answers
 use Rattle.scope.specs.declared.traps.Ask.the-variants as ask
@@ -28,12 +28,12 @@ use Rattle.scope.specs.Record.{valueOf, stored, moved, timed, pended, eventNumb
 use Rattle.scope.specs.VirtualInstruction.{askFetchOf, missedOf, trapStatusOf, injectedOf, missedEffect, virtualEffect, clearBits, setBits, stimecmpBy, stimecmpEffect, stimecmpStval, stimecmpWord}
 use Rattle.scope.specs.GuestPageFault.{loadUnder, storeUnder, faultOf, faultEffect, completedOf, mmioOf, pageFaultOf}
 use Rattle.scope.specs.Classes.{argumentsOf, startEffect, classOf, classEffect}
-use Rattle.scope.specs.Calls.{printCount, firstOf, printedOf, calledOf, effectOf, askedCount, gprReply}
+use Rattle.scope.specs.Calls.{printCount, baseOf, fitted, printable, printedOf, calledOf, effectOf, askedCount, gprReply}
 use Rattle.demand3_table.specs.Table.{a0, a1, a2, a3, a4, a5, a7, sourceNames, forwardNames, timeNames, srstNames, spiNames, hsmNames, consoleNames, byteNames, dbcnNames, eidNames, ecallNames, funct3Names, stimecmpNames, storeNames, accessNames, wordNames, fetchNames, answerNames, namesOf, readsOf, callNames, callReads, classNames}
-use Rattle.demand3_table.specs.Runs.{sightOf, stepOf, runOf, seenOf, Apart, Untouched, writesOf, written, wrote}
+use Rattle.demand3_table.specs.Runs.{sightOf, stepOf, runOf, seenOf, Apart, Untouched, renews, wroteBy, written, wrote}
 use Rattle.demand3_table.specs.Alike.{Alike}
 use Rattle.demand3.specs.Shown.{exampleRecord, other, Met, exitNumbers, askNumbers, replyNumbers, sightNumbers, toldOf, sameList, Row, matters, allMatter, Joined, waits}
-use Rattle.scope.specs.Answers.{answerEffect, fetchEffect, fittingEffect, numbersEffect, wordEffect}
+use Rattle.scope.specs.Answers.{answerEffect, fetchEffect, fittingEffect, numbersEffect, valuesEffect, wordEffect}
 use Rattle.scope.specs.declared.hosts.HostCall.the-variants as hostCall
 use Rattle.scope.specs.declared.machine.EcallAsk.the-variants as asked
 use Rattle.scope.specs.declared.traps.Error.the-variants as error
@@ -50,7 +50,7 @@ other-alike r n v h =
 
 -- one name that opens what a call goes through; the decoder stays shut
 opened : ℕ
-unfolding answerNumber exitNumber askNumber errorNumber spvpOf sieOf withBits guestPageFaultAddr standardRequest valueOf stored moved timed pended eventNumber bumped counted waitingAsk isIdle listed applied noArgs finishedOf askingOf failedOf refusedOf doneOf lesserOf returnsOf movesOf staysOf asksOf setTimerOf hypercallOf askFetchOf missedOf trapStatusOf injectedOf missedEffect setBits clearBits stimecmpBy stimecmpWord stimecmpStval calledOf effectOf stimecmpEffect loadUnder storeUnder faultOf faultEffect copiedEffect ecallAnswer ecallAskNumber completedOf argumentsOf ecallEffect virtualEffect mmioOf pageFaultOf classOf classEffect startEffect wordEffect fetchEffect numbersEffect fittingEffect answerEffect printCount firstOf printedOf sourceNames forwardNames timeNames srstNames spiNames hsmNames consoleNames byteNames dbcnNames eidNames ecallNames funct3Names stimecmpNames storeNames classNames accessNames wordNames fetchNames answerNames namesOf readsOf sightOf stepOf runOf seenOf Untouched exitNumbers askNumbers replyNumbers sightNumbers toldOf sameList matters allMatter timeEffect spiEffect hsmEffect srstEffect spanEffect consoleEffect dbcnEffect rfncEffect forwardEffect notSupportedEffect leavesOf unlessAsking callNames callReads askedCount givesOf consoleReadEffect copiedOutEffect gprReply written writesOf wrote
+unfolding answerNumber exitNumber askNumber errorNumber spvpOf sieOf withBits guestPageFaultAddr standardRequest valueOf stored moved timed pended eventNumber bumped counted waitingAsk isIdle listed applied noArgs finishedOf askingOf failedOf refusedOf doneOf lesserOf returnsOf movesOf staysOf asksOf setTimerOf hypercallOf askFetchOf missedOf trapStatusOf injectedOf missedEffect setBits clearBits stimecmpBy stimecmpWord stimecmpStval calledOf baseOf effectOf stimecmpEffect loadUnder storeUnder faultOf faultEffect copiedEffect ecallAnswer ecallAskNumber completedOf argumentsOf ecallEffect virtualEffect mmioOf pageFaultOf classOf classEffect startEffect wordEffect fetchEffect numbersEffect valuesEffect answerValues fittingEffect answerEffect printCount fitted printable printedOf sourceNames forwardNames timeNames srstNames spiNames hsmNames consoleNames byteNames dbcnNames eidNames ecallNames funct3Names stimecmpNames storeNames classNames accessNames wordNames fetchNames answerNames namesOf readsOf sightOf stepOf runOf seenOf Untouched exitNumbers askNumbers replyNumbers sightNumbers toldOf sameList matters allMatter timeEffect spiEffect hsmEffect srstEffect spanEffect consoleEffect dbcnEffect rfncEffect forwardEffect notSupportedEffect leavesOf unlessAsking callNames callReads askedCount givesOf consoleReadEffect copiedOutEffect gprReply written renews wroteBy wrote
 opened = 0
 
 abbrev zeros : List ℕ

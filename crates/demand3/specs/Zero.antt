@@ -26,7 +26,8 @@ use Rattle.scope.specs.declared.machine.Writes.{Writes}
 use Rattle.scope.specs.declared.machine.Writes.the-variants as writes
 use Rattle.scope.specs.Record.{isIdle}
 use Rattle.demand3_table.specs.Table.{a0, a1, a2, a6, a7, sourceNames, forwardNames, timeNames, srstNames, spiNames, hsmNames, consoleNames, byteNames, dbcnNames, eidNames, ecallNames, funct3Names, stimecmpNames, storeNames, accessNames, wordNames, fetchNames, answerNames, namesOf, readsOf, callNames, callReads, classNames}
-use Rattle.demand3_table.specs.Runs.{stepOf, Apart, Untouched, wrote, written, writesOf}
+use Rattle.scope.specs.Calls.{effectOf}
+use Rattle.demand3_table.specs.Runs.{Apart, Lasting, Untouched, stepOf, turnRenews, written, wrote, wroteBy}
 use Rattle.demand3_table.specs.Alike.{Alike}
 use Rattle.demand3.specs.Third.{Third, third}
 use Rattle.scope.specs.declared.decided.Class.{Class}
@@ -156,6 +157,7 @@ zero-answer n (answers.CopiedOut count) = none
 zero-answer n answers.Emitted = none
 zero-answer n (answers.Char number) = none
 zero-answer n (answers.Forwarded error value) = none
+zero-answer n answers.Other = none
 
 zero-call-names : (v : Vcpu) (c : HostCall) → Apart 0 (callNames v c)
 unfolding callNames
@@ -171,6 +173,8 @@ zero-call-names v (hostCall.SetPending vector on) = none
 zero-call-names v (hostCall.LatchHvip bits) = none
 zero-call-names v (hostCall.CompleteIpi abi completion) = none
 zero-call-names v (hostCall.CompleteLoad n) = none
+zero-call-names v (hostCall.ToPrint length) = none
+zero-call-names v (hostCall.New hart tree) = none
 
 zero-call-reads : (c : HostCall) → Apart 0 (callReads c)
 unfolding callReads
@@ -186,6 +190,8 @@ zero-call-reads (hostCall.CompleteIpi abi completion) = none
 zero-call-reads (hostCall.Start t) = none
 zero-call-reads (hostCall.Answer a) = none
 zero-call-reads (hostCall.CompleteLoad n) = none
+zero-call-reads (hostCall.ToPrint length) = none
+zero-call-reads (hostCall.New hart tree) = none
 
 zero-named : (v : Vcpu) (c : Turn) → Apart 0 (namesOf v c)
 unfolding namesOf
@@ -213,10 +219,16 @@ zero-wrote (writes.One i n) = by (eqb i 0) (ltb i 32) refl
     by false false e = refl
 zero-wrote (writes.Pair e v) = refl
 
-pub zero-unwritten : (v : Vcpu) (cs : List Turn) → written 0 v cs ≡ false
-unfolding written
-zero-unwritten v [] = refl
-zero-unwritten v (c ∷ cs) = rw (zero-wrote (writesOf v c), zero-unwritten (stepOf v c) cs)
+zero-turn : (v : Vcpu) (c : Turn) → turnRenews c ≡ false → wroteBy 0 v c ≡ false
+unfolding wroteBy turnRenews
+zero-turn v (call c) h = rw (h, zero-wrote (effectOf v c .writes))
+zero-turn v (print buffer) h = refl
+
+-- but where a new record is made
+pub zero-unwritten : (v : Vcpu) (cs : List Turn) → Lasting cs → written 0 v cs ≡ false
+unfolding written Lasting
+zero-unwritten v [] l = refl
+zero-unwritten v (c ∷ cs) l = rw (zero-turn v c (l .0), zero-unwritten (stepOf v c) cs (l .1))
 
 -- demand 3 with r = 0 has no premise but that the records are alike
 pub third-zero : (v w : Vcpu) (cs : List Turn) → Alike 0 v w → Third 0 v w cs

@@ -272,6 +272,7 @@ module _ {r : ℕ} {x y : List ℕ} (f : Files r x y) where
   answer-alike n c answers.Emitted h = refl
   answer-alike n c (answers.Char number) h = refl
   answer-alike n c (answers.Forwarded error value) h = refl
+  answer-alike n c answers.Other h = refl
 
 -- one call, on two records that are alike
 pub effect-alike : (r : ℕ) (v w : Vcpu) (c : HostCall) → Alike r v w → Apart r (callNames v c) → Apart r (callReads c) → effectOf v c ≡ effectOf w c
@@ -291,3 +292,5 @@ effect-alike r v w (hostCall.Start t) a h k =
 effect-alike r v w (hostCall.Answer n) a h k =
     rw (← (a .csrs), ← (a .waiting), answer-alike (a .files) (v .waiting) (v .csrs) n h)
 effect-alike r v w (hostCall.CompleteLoad n) a h k = rw (a .csrs, a .waiting)
+effect-alike r v w (hostCall.ToPrint length) a h k = rw (a .csrs, a .waiting)
+effect-alike r v w (hostCall.New hart tree) a h k = refl

@@ -4,3 +4,4 @@ pub mod Runs
 pub mod Alike
 pub mod Stored
 pub mod Agree
+pub mod Bases

@@ -1,11 +1,13 @@
 -- Sequences of turns on a record: the later record, what the host sees, and which registers are touched.
 use Prim.Native.Nat.{ℕ}
-use mathlib.Core.Bool.{Bool, false}
+use mathlib.Core.Bool.{Bool, true, false}
 use mathlib.Core.List.{List, [], _∷_}
 use mathlib.Core.Path.{_≡_}
 use lib.Dec.{eqb, ltb}
 use Rattle.demand3_table.specs.Turns.{Turn, call, print}
 use Rattle.isa_types.specs.Pick.{pick, or}
+use Rattle.scope.specs.declared.hosts.HostCall.the-variants as hostCall
+use Rattle.scope.specs.declared.hosts.HostCall.{HostCall}
 use Rattle.scope.specs.declared.traps.Reply.{Reply}
 use Rattle.scope.specs.declared.traps.Reply.the-variants as reply
 use Rattle.scope.specs.declared.machine.Vcpu.{Vcpu}
@@ -55,10 +57,22 @@ unfoldable pub Untouched : ℕ → Vcpu → List Turn → Type 0
 Untouched r v [] = Unit {0}
 Untouched r v (c ∷ cs) = (Apart r (namesOf v c)) × (Apart r (readsOf c)) × (Untouched r (stepOf v c) cs)
 
--- the registers that a turn writes
-unfoldable pub writesOf : Vcpu → Turn → Writes
-writesOf v (call c) = effectOf v c .writes
-writesOf v (print buffer) = writes.Keep
+-- the call makes a new record
+unfoldable pub renews : HostCall → Bool
+renews (hostCall.New hart tree) = true
+renews hostCall.Setup = false
+renews (hostCall.SetEntry at) = false
+renews (hostCall.GetGpr index) = false
+renews (hostCall.SetGpr index value) = false
+renews (hostCall.SetReturnValue value) = false
+renews (hostCall.SetNestedPageTable levels mode root) = false
+renews (hostCall.SetPending vector level) = false
+renews (hostCall.LatchHvip bits) = false
+renews (hostCall.CompleteIpi abi completion) = false
+renews (hostCall.Start t) = false
+renews (hostCall.Answer a) = false
+renews (hostCall.CompleteLoad n) = false
+renews (hostCall.ToPrint length) = false
 
 -- the writes reach r; x0 is never written
 unfoldable pub wrote : ℕ → Writes → Bool
@@ -66,7 +80,21 @@ wrote r writes.Keep = false
 wrote r (writes.One i n) = pick (eqb i 0) false (pick (ltb i 32) (eqb r i) false)
 wrote r (writes.Pair e v) = or (eqb r 10) (eqb r 11)
 
+-- the turn writes r; a new record is written whole
+unfoldable pub wroteBy : ℕ → Vcpu → Turn → Bool
+wroteBy r v (call c) = or (renews c) (wrote r (effectOf v c .writes))
+wroteBy r v (print buffer) = false
+
 -- some turn of the sequence writes r
 unfoldable pub written : ℕ → Vcpu → List Turn → Bool
 written r v [] = false
-written r v (c ∷ cs) = or (wrote r (writesOf v c)) (written r (stepOf v c) cs)
+written r v (c ∷ cs) = or (wroteBy r v c) (written r (stepOf v c) cs)
+
+-- no turn of the sequence makes a new record
+unfoldable pub turnRenews : Turn → Bool
+turnRenews (call c) = renews c
+turnRenews (print buffer) = false
+
+unfoldable pub Lasting : List Turn → Type 0
+Lasting [] = Unit {0}
+Lasting (c ∷ cs) = (turnRenews c ≡ false) × (Lasting cs)

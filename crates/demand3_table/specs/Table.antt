@@ -180,6 +180,7 @@ answerNames n (answers.CopiedOut count) = []
 answerNames n answers.Emitted = []
 answerNames n (answers.Char number) = []
 answerNames n (answers.Forwarded error value) = []
+answerNames n answers.Other = []
 
 -- the registers that a call's trap names; a refused start names none
 unfoldable pub callNames : Vcpu → HostCall → List ℕ
@@ -195,6 +196,8 @@ callNames v (hostCall.SetPending vector level) = []
 callNames v (hostCall.LatchHvip bits) = []
 callNames v (hostCall.CompleteIpi abi completion) = []
 callNames v (hostCall.CompleteLoad n) = []
+callNames v (hostCall.ToPrint length) = []
+callNames v (hostCall.New hart tree) = []
 
 unfoldable pub namesOf : Vcpu → Turn → List ℕ
 namesOf v (call c) = callNames v c
@@ -214,6 +217,8 @@ callReads (hostCall.CompleteIpi abi completion) = []
 callReads (hostCall.Start t) = []
 callReads (hostCall.Answer a) = []
 callReads (hostCall.CompleteLoad n) = []
+callReads (hostCall.ToPrint length) = []
+callReads (hostCall.New hart tree) = []
 
 unfoldable pub readsOf : Turn → List ℕ
 readsOf (call c) = callReads c

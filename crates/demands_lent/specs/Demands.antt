@@ -11,11 +11,12 @@ use Rattle.by_value_lent.specs.declared.Given.{Given}
 use Rattle.scope.specs.declared.hosts.HostCall.{HostCall}
 use Rattle.by_value_lent.specs.Lent.{Stored}
 use Rattle.demand3_table.specs.Alike.{Alike}
-use Rattle.demand3_table.specs.Runs.{runOf, seenOf, sightOf, stepOf, Untouched, written}
+use Rattle.demand3_table.specs.Runs.{Lasting, runOf, seenOf, sightOf, stepOf, Untouched, written}
 use Rattle.demand3.specs.Sequences as sequences
 use Rattle.demand3.specs.Kinds.{traps}
 use Rattle.demand3.specs.Counting.{Counted, counts}
-use Rattle.demand1.specs.Demand1.{refuses, refusal-keeps-the-record}
+use Rattle.demand1.specs.Demand1.{refusal-keeps-the-record}
+use Rattle.scope.specs.Refusals.{refuses}
 use Rattle.demands_lent.specs.Entries.{none, next, Entries, turnsOf, givenFor, next}
 
 -- a sequence through the entry leaves the record of that sequence, and gives back what it shows
@@ -58,7 +59,7 @@ entry-third r {v} {w} {u} {t} {cs} {gs} {hs} a n e f =
       joins = λ h. ran e ∙ sequences.joins r v w (turnsOf cs) a n h ∙ sym (ran f);
     }
 
--- the counts
-pub entry-counts : {v u : Vcpu} {cs : List HostCall} {gs : List Given} → Entries v cs gs u → (i : ℕ) → Counted (v .counts) → i < 9
+-- the counts, where no new record is made
+pub entry-counts : {v u : Vcpu} {cs : List HostCall} {gs : List Given} → Entries v cs gs u → (i : ℕ) → Lasting (turnsOf cs) → Counted (v .counts) → i < 9
     → getD (u .counts) i 0 ≡ wrapped (getD (v .counts) i 0 + traps (suc i) v (turnsOf cs))
-entry-counts {v} {u} {cs} e i k h = ap (λ (z : Vcpu). getD (z .counts) i 0) (ran e) ∙ counts v (turnsOf cs) i k h
+entry-counts {v} {u} {cs} e i l k h = ap (λ (z : Vcpu). getD (z .counts) i 0) (ran e) ∙ counts v (turnsOf cs) i l k h

@@ -1,5 +1,5 @@
 // An answer on the lent words, and a load's completion: how the host carries a trap on. The decisions are those of the
-// by-value step, and so is what is promised: Made says it of the whole outcome.
+// by-value step, and so is what is promised: Laid says it of the whole outcome.
 ghost use mathlib.Core.Path.{_≡_};
 ghost use Rattle.isa_fields.specs.Fields.{rs1Field};
 ghost use Rattle.isa_decoder.specs.Length.{fetchedOf};
@@ -9,9 +9,9 @@ ghost use Rattle.scope.specs.VirtualInstruction.{stimecmpEffect, stimecmpWord};
 ghost use Rattle.scope.specs.GuestPageFault.{mmioOf};
 ghost use Rattle.scope.specs.Answers.{fetchEffect, wordEffect, numbersEffect};
 ghost use Rattle.scope.specs.Calls.{calledOf};
-ghost use Rattle.scope.specs.Words.{answerBy};
-ghost use Rattle.scope.specs.OneTrap.{fetchOf};
-ghost use Rattle.in_place_record.specs.View.{Done, Made, trapLeaves, viewOf};
+ghost use Rattle.scope.specs.OneTrap.{answerFor, fetchOf};
+ghost use Rattle.in_place_record.specs.Steps.{Laid, Settled, trapLeaves};
+ghost use Rattle.in_place_record.specs.View.{viewOf};
 ghost use Rattle.in_place_answer.specs.Words.{answerWords};
 use isa_types::GuestPhysAddr;
 use scope::Access;
@@ -37,7 +37,7 @@ pub fn answer_words(a: &[u64; 3]) -> AnswerWords
 
 // Answers the ask that waits.
 pub fn answer(r: &mut [u64; 58], out: &mut [u64; 8], a: AnswerWords) -> u64
-    ensures { λ w. ⌜ Made (trapLeaves (now (r .entry))) (now (out .entry)) (calledOf (viewOf (now (r .entry))) (answerBy (a .ask) (a .word) (a .more))) (now (r .exit)) (now (out .exit)) w ⌝ }
+    ensures { λ w. ⌜ Laid (trapLeaves (now (r .entry))) (now (out .entry)) (calledOf (viewOf (now (r .entry))) (hostCall.Answer (answerFor (a .ask) (a .word) (a .more)))) (now (r .exit)) (now (out .exit)) w ⌝ }
 {
     let w = in_place_read::waiting(r);
     matched(decide_record::ask_of(w), r, out, w, a.ask, a.word, a.more)
@@ -45,14 +45,14 @@ pub fn answer(r: &mut [u64; 58], out: &mut [u64; 8], a: AnswerWords) -> u64
 
 // Completes the load that waits.
 pub fn complete_load(r: &mut [u64; 58], n: u64) -> u64
-    ensures { λ w. ⌜ Done (trapLeaves (now (r .entry))) (calledOf (viewOf (now (r .entry))) (hostCall.CompleteLoad n)) (now (r .exit)) w ⌝ }
+    ensures { λ w. ⌜ Settled (trapLeaves (now (r .entry))) (calledOf (viewOf (now (r .entry))) (hostCall.CompleteLoad n)) (now (r .exit)) w ⌝ }
 {
     in_place_record::sized(r);
     let w = in_place_read::waiting(r);
     in_place_record::complete(r, w, n)
 }
 
-// An answer of another ask's kind, or to no ask, is refused; so is one whose number is no ask's.
+// An answer of another ask's kind, or to no ask, is refused. (0 is what waits where no ask does, and no ask's number.)
 fn matched(
     waits: u64,
     r: &mut [u64; 58],
@@ -62,27 +62,24 @@ fn matched(
     word: u64,
     more: u64,
 ) -> u64
-    ensures { λ c. ⌜ (w ≡ viewOf (now (r .entry)) .waiting → waits ≡ waitingAsk w → Made (trapLeaves (now (r .entry))) (now (out .entry)) (calledOf (viewOf (now (r .entry))) (answerBy ask word more)) (now (r .exit)) (now (out .exit)) c) ⌝ }
+    ensures { λ c. ⌜ (w ≡ viewOf (now (r .entry)) .waiting → waits ≡ waitingAsk w → Laid (trapLeaves (now (r .entry))) (now (out .entry)) (calledOf (viewOf (now (r .entry))) (hostCall.Answer (answerFor ask word more))) (now (r .exit)) (now (out .exit)) c) ⌝ }
 {
     in_place_record::sized(r);
     if ask == 0 {
-        return 0x101;
-    }
-    if ask <= 9 {
-        if waits == ask {
-            if ask == 1 {
-                return fetched(r, out, w, word, more);
-            }
-            return numbers(r, out, w, word, more);
-        }
         return 0x107;
     }
-    0x101
+    if waits == ask {
+        if ask == 1 {
+            return fetched(r, out, w, word, more);
+        }
+        return numbers(r, out, w, word, more);
+    }
+    0x107
 }
 
 // The numbers of an answer go to the ecall that waits.
 fn numbers(r: &mut [u64; 58], out: &mut [u64; 8], w: Waiting, word: u64, more: u64) -> u64
-    ensures { λ c. ⌜ (w ≡ viewOf (now (r .entry)) .waiting → Made (trapLeaves (now (r .entry))) (now (out .entry)) (applied (viewOf (now (r .entry))) (numbersEffect (viewOf (now (r .entry)) .csrs) w word more)) (now (r .exit)) (now (out .exit)) c) ⌝ }
+    ensures { λ c. ⌜ (w ≡ viewOf (now (r .entry)) .waiting → Laid (trapLeaves (now (r .entry))) (now (out .entry)) (applied (viewOf (now (r .entry))) (numbersEffect (viewOf (now (r .entry)) .csrs) w word more)) (now (r .exit)) (now (out .exit)) c) ⌝ }
 {
     in_place_record::sized(r);
     match w {
@@ -104,7 +101,7 @@ fn numbers(r: &mut [u64; 58], out: &mut [u64; 8], w: Waiting, word: u64, more: u
 
 // A fetch gave a word, or its fault is handled.
 fn fetched(r: &mut [u64; 58], out: &mut [u64; 8], w: Waiting, word: u64, more: u64) -> u64
-    ensures { λ c. ⌜ (w ≡ viewOf (now (r .entry)) .waiting → Made (trapLeaves (now (r .entry))) (now (out .entry)) (applied (viewOf (now (r .entry))) (fetchEffect (viewOf (now (r .entry)) .x) (viewOf (now (r .entry)) .csrs) w (fetchOf word more))) (now (r .exit)) (now (out .exit)) c) ⌝ }
+    ensures { λ c. ⌜ (w ≡ viewOf (now (r .entry)) .waiting → Laid (trapLeaves (now (r .entry))) (now (out .entry)) (applied (viewOf (now (r .entry))) (fetchEffect (viewOf (now (r .entry)) .x) (viewOf (now (r .entry)) .csrs) w (fetchOf word more))) (now (r .exit)) (now (out .exit)) c) ⌝ }
 {
     in_place_record::sized(r);
     if more == 0 {
@@ -119,7 +116,7 @@ fn fetched(r: &mut [u64; 58], out: &mut [u64; 8], w: Waiting, word: u64, more: u
 
 // The trap goes on with the word that was fetched.
 fn resumed(r: &mut [u64; 58], out: &mut [u64; 8], w: Waiting, word: u32) -> u64
-    ensures { λ c. ⌜ (w ≡ viewOf (now (r .entry)) .waiting → Made (trapLeaves (now (r .entry))) (now (out .entry)) (applied (viewOf (now (r .entry))) (wordEffect (viewOf (now (r .entry)) .x) (viewOf (now (r .entry)) .csrs) w word)) (now (r .exit)) (now (out .exit)) c) ⌝ }
+    ensures { λ c. ⌜ (w ≡ viewOf (now (r .entry)) .waiting → Laid (trapLeaves (now (r .entry))) (now (out .entry)) (applied (viewOf (now (r .entry))) (wordEffect (viewOf (now (r .entry)) .x) (viewOf (now (r .entry)) .csrs) w word)) (now (r .exit)) (now (out .exit)) c) ⌝ }
 {
     match w {
         Waiting::Idle => 0x107,
@@ -142,7 +139,7 @@ fn mmio_word(
     access: Access,
     word: u32,
 ) -> u64
-    ensures { λ w. ⌜ Made (trapLeaves (now (r .entry))) (now (out .entry)) (applied (viewOf (now (r .entry))) (mmioOf (viewOf (now (r .entry)) .x) (viewOf (now (r .entry)) .csrs) at access (fetchedOf word))) (now (r .exit)) (now (out .exit)) w ⌝ }
+    ensures { λ w. ⌜ Laid (trapLeaves (now (r .entry))) (now (out .entry)) (applied (viewOf (now (r .entry))) (mmioOf (viewOf (now (r .entry)) .x) (viewOf (now (r .entry)) .csrs) at access (fetchedOf word))) (now (r .exit)) (now (out .exit)) w ⌝ }
 {
     in_place_record::sized(r);
     let i = isa_decoder::from_fetched(word);
@@ -158,7 +155,7 @@ fn mmio_word(
 
 // A CSR instruction that was fetched.
 fn stimecmp_word(r: &mut [u64; 58], out: &mut [u64; 8], word: u64) -> u64
-    ensures { λ w. ⌜ Made (trapLeaves (now (r .entry))) (now (out .entry)) (applied (viewOf (now (r .entry))) (stimecmpEffect (viewOf (now (r .entry)) .csrs) (stimecmpWord word (viewOf (now (r .entry)) .csrs .vs .vstimecmp) (valueOf (viewOf (now (r .entry)) .x) (rs1Field word))))) (now (r .exit)) (now (out .exit)) w ⌝ }
+    ensures { λ w. ⌜ Laid (trapLeaves (now (r .entry))) (now (out .entry)) (applied (viewOf (now (r .entry))) (stimecmpEffect (viewOf (now (r .entry)) .csrs) (stimecmpWord word (viewOf (now (r .entry)) .csrs .vs .vstimecmp) (valueOf (viewOf (now (r .entry)) .x) (rs1Field word))))) (now (r .exit)) (now (out .exit)) w ⌝ }
 {
     in_place_record::sized(r);
     let rs1 = in_place_read::read(r, isa_fields::rs1(word));

@@ -3,7 +3,7 @@ use Prim.Native.Nat.{ℕ}
 use mathlib.Core.List.{List}
 use Rattle.scope.specs.declared.hosts.HostCall.{HostCall}
 use Rattle.scope.specs.declared.hosts.HostCall.the-variants as hostCall
-use Rattle.scope.specs.Words.{answerBy}
+use Rattle.scope.specs.OneTrap.{answerFor}
 use Rattle.in_place_start.specs.Words.{trapWords}
 use Rattle.in_place_answer.specs.Words.{answerWords}
 
@@ -11,4 +11,4 @@ unfoldable pub startCall : List ℕ → HostCall
 startCall t = hostCall.Start (trapWords t)
 
 unfoldable pub answerCall : List ℕ → HostCall
-answerCall a = answerBy (answerWords a .ask) (answerWords a .word) (answerWords a .more)
+answerCall a = hostCall.Answer (answerFor (answerWords a .ask) (answerWords a .word) (answerWords a .more))

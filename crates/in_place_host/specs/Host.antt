@@ -4,8 +4,6 @@ use mathlib.Core.List.{List}
 use mathlib.Core.Path.{_≡_}
 use lib.ListN.{set}
 use lib.Seq.{sets}
-use lib.Dec.{eqb}
-use Rattle.isa_types.specs.Pick.{pick}
 use Rattle.scope.specs.declared.machine.Effect.{Effect}
 use Rattle.scope.specs.declared.machine.Event.the-variants as event
 use Rattle.scope.specs.declared.machine.Waiting.{Waiting}
@@ -23,10 +21,6 @@ writeWords r (writes.Pair a0 a1) = set (set r 10 a0) 11 a1
 -- the 13 CSRs, then the registers
 unfoldable pub hostWords : List ℕ → Effect → List ℕ
 hostWords r e = writeWords (sets r 32 (csrsWords (e .csrs))) (e .writes)
-
--- kind 6 is ask 4, with its n first
-unfoldable pub printedBy : ℕ → ℕ → ℕ
-printedBy kind n = pick (eqb kind 6) n 0
 
 -- an effect that counts nothing and leaves what waits: so are those of all the host's calls
 pub record Keeps (e : Effect) (w : Waiting) : Type 0 where

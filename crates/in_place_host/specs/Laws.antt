@@ -20,12 +20,13 @@ use Rattle.scope.specs.declared.machine.Waiting.the-variants as waiting
 use Rattle.scope.specs.declared.machine.Writes.{Writes}
 use Rattle.scope.specs.declared.machine.Writes.the-variants as writes
 use Rattle.scope.specs.Record.{bumped, counted, eventNumber, listed, stored, waitingAsk, applied, noArgs}
-use Rattle.scope.specs.Calls.{printCount, askedCount}
 use Rattle.scope.specs.Words.{csrsOf, csrsWords, unpackOf, waitingBy, waitingOf}
-use Rattle.in_place_record.specs.View.{Done, hostLeaves, recordOf, replyWord, viewOf}
+use Rattle.in_place_record.specs.Steps.{Settled, hostLeaves}
+use Rattle.in_place_record.specs.View.{recordOf, viewOf}
+use Rattle.scope.specs.ReplyWords.{replyWord}
 use Rattle.in_place_record.specs.Laws.{over, put-keeps, put-shows, same, waiting-words}
 use Rattle.in_place_record.specs.Spelled.{spelled}
-use Rattle.in_place_host.specs.Host.{Keeps, hostWords, printedBy, writeWords}
+use Rattle.in_place_host.specs.Host.{Keeps, hostWords, writeWords}
 use Rattle.scope.specs.declared.machine.EcallAsk.the-variants as asked
 
 -- the CSRs written show as written
@@ -85,7 +86,7 @@ unfolding counted bumped eventNumber
 quiet-counts k = refl
 
 -- an effect that counts nothing and leaves what waits, written to the words, shows as applied
-pub host-done : (r : List ℕ) → length r ≡ 58 → (e : Effect) → Keeps e (viewOf r .waiting) → Done (hostLeaves r) (applied (viewOf r) e) (hostWords r e) (replyWord (e .reply))
+pub host-done : (r : List ℕ) → length r ≡ 58 → (e : Effect) → Keeps e (viewOf r .waiting) → Settled (hostLeaves r) (applied (viewOf r) e) (hostWords r e) (replyWord (e .reply))
 unfolding hostWords applied hostLeaves
 host-done r n e k =
     record {
@@ -116,45 +117,15 @@ waits-so : (r : List ℕ) (w : Waiting) (ask : ℕ) (b : Bool) → w ≡ viewOf 
 waits-so r w ask b q a z = ap (λ (u : Waiting). eqb (waitingAsk u) 0) (sym q) ∙ ap (λ (n : ℕ). eqb n 0) (sym a) ∙ z
 
 pub free-made : (r s : List ℕ) (n : ℕ) → length r ≡ 58 → (w : Waiting) (e : Effect) (ask : ℕ) → w ≡ viewOf r .waiting → ask ≡ waitingAsk w → eqb ask 0 ≡ true → Keeps e w
-    → (s ≡ hostWords r e) × (n ≡ replyWord (e .reply)) → Done (hostLeaves r) (applied (viewOf r) (unlessAsking (viewOf r) e)) s n
+    → (s ≡ hostWords r e) × (n ≡ replyWord (e .reply)) → Settled (hostLeaves r) (applied (viewOf r) (unlessAsking (viewOf r) e)) s n
 unfolding unlessAsking
 free-made r s n l w e ask q a z k h =
-    let d : Done (hostLeaves r) (applied (viewOf r) e) (hostWords r e) (replyWord (e .reply)) = host-done r l e (subst (λ (u : Waiting). Keeps e u) q k) in
+    let d : Settled (hostLeaves r) (applied (viewOf r) e) (hostWords r e) (replyWord (e .reply)) = host-done r l e (subst (λ (u : Waiting). Keeps e u) q k) in
     rw (waits-so r w ask true q a z)
     (record { shows = ap viewOf (h .0) ∙ d .shows; waits = ap (λ (k : List ℕ). drop 54 k) (h .0) ∙ d .waits; says = h .1 ∙ d .says })
 
-pub asking-made : (r : List ℕ) (w : Waiting) (e : Effect) (ask : ℕ) → w ≡ viewOf r .waiting → ask ≡ waitingAsk w → eqb ask 0 ≡ false → Done (hostLeaves r) (applied (viewOf r) (unlessAsking (viewOf r) e)) r 0x102
+pub asking-made : (r : List ℕ) (w : Waiting) (e : Effect) (ask : ℕ) → w ≡ viewOf r .waiting → ask ≡ waitingAsk w → eqb ask 0 ≡ false → Settled (hostLeaves r) (applied (viewOf r) (unlessAsking (viewOf r) e)) r 0x102
 unfolding unlessAsking refusedOf leavesOf applied noArgs stored counted bumped eventNumber listed replyWord errorNumber hostLeaves
 asking-made r w e ask q a z = rw (waits-so r w ask false q a z) (record { shows = refl; waits = refl; says = refl })
 
 -- the n of ask 4, where it waits
-
-rest-by : (n : ℕ) (b₂ b₃ b₄ b₅ b₇ b₈ b₉ b₁₀ b₁₁ b₁₂ : Bool) (f m x : Waiting) → printCount f ≡ 0 → printCount m ≡ 0 → printCount x ≡ 0
-    → printCount (pick b₂ waiting.FetchCsr (pick b₃ f (pick b₄ (waiting.Ecall asked.CopyMask) (pick b₅ m (pick b₇ x (pick b₈ (waiting.Ecall (asked.CopyOut n)) (pick b₉ (waiting.Ecall asked.PutChar) (pick b₁₀ (waiting.Ecall asked.PutByte) (pick b₁₁ (waiting.Ecall asked.GetChar) (pick b₁₂ (waiting.Ecall asked.Forward) waiting.Idle)))))))))) ≡ 0
-unfolding printCount askedCount
-rest-by n true b₃ b₄ b₅ b₇ b₈ b₉ b₁₀ b₁₁ b₁₂ f m x p q s = refl
-rest-by n false true b₄ b₅ b₇ b₈ b₉ b₁₀ b₁₁ b₁₂ f m x p q s = p
-rest-by n false false true b₅ b₇ b₈ b₉ b₁₀ b₁₁ b₁₂ f m x p q s = refl
-rest-by n false false false true b₇ b₈ b₉ b₁₀ b₁₁ b₁₂ f m x p q s = q
-rest-by n false false false false true b₈ b₉ b₁₀ b₁₁ b₁₂ f m x p q s = s
-rest-by n false false false false false true b₉ b₁₀ b₁₁ b₁₂ f m x p q s = refl
-rest-by n false false false false false false true b₁₀ b₁₁ b₁₂ f m x p q s = refl
-rest-by n false false false false false false false true b₁₁ b₁₂ f m x p q s = refl
-rest-by n false false false false false false false false true b₁₂ f m x p q s = refl
-rest-by n false false false false false false false false false true f m x p q s = refl
-rest-by n false false false false false false false false false false f m x p q s = refl
-
-first-by : (b : Bool) (l w : Waiting) → printCount l ≡ 0 → printCount w ≡ 0 → printCount (pick b l w) ≡ 0
-first-by true l w p q = p
-first-by false l w p q = q
-
-print-by : (k a b c : ℕ) (t : Bool) → eqb k 6 ≡ t → pick t a 0 ≡ printCount (waitingBy k a b c)
-unfolding waitingBy printCount askedCount
-print-by k a b c true e = rw (eqb-true k 6 e)
-print-by k a b c false e =
-    sym (rw e (first-by (eqb k 1) _ _ refl (rest-by a (eqb k 2) (eqb k 3) (eqb k 4) (eqb k 5) (eqb k 7) (eqb k 8) (eqb k 9) (eqb k 10) (eqb k 11) (eqb k 12) _ _ _ refl refl refl)))
-
-pub print-words : (r : List ℕ) → length r ≡ 58 → printedBy (getD r 54 0) (getD r 55 0) ≡ printCount (viewOf r .waiting)
-unfolding printedBy
-print-words r e =
-    print-by (getD r 54 0) (getD r 55 0) (getD r 56 0) (getD r 57 0) (eqb (getD r 54 0) 6) refl ∙ ap printCount (waiting-words r e)

@@ -1,22 +1,18 @@
 // The host's own calls on the lent words, what they share: an effect written where the record lies, and the word of its reply.
-// Beside them the part of the lent buffer to print.
 ghost use mathlib.Core.Path.{_≡_};
 ghost use Prim.Native.Nat.{_+_};
 ghost use Rattle.scope.specs.OneTrap.{askNumber};
-ghost use Rattle.scope.specs.Refusals.{errorNumber, unlessAsking};
-ghost use Rattle.scope.specs.Calls.{printCount};
-ghost use Rattle.in_place_record.specs.View.{Done, hostLeaves, replyWord, viewOf};
-ghost use Rattle.in_place_host.specs.Host.{Keeps, hostWords, printedBy, writeWords};
-ghost use Rattle.scope.specs.Record.{applied};
+ghost use Rattle.scope.specs.Refusals.{errorNumber};
+ghost use Rattle.scope.specs.ReplyWords.{replyWord};
+ghost use Rattle.in_place_host.specs.Host.{hostWords, writeWords};
 use scope::Ask;
 use scope::Effect;
 use scope::Error;
 use scope::Reply;
-use scope::Waiting;
 use scope::Writes;
 
 // Writes an effect that counts nothing and leaves what waits.
-fn host(r: &mut [u64; 58], e: Effect) -> u64
+pub fn host(r: &mut [u64; 58], e: Effect) -> u64
     ensures { λ n. ⌜ (now (r .exit) ≡ hostWords (now (r .entry)) e) × (n ≡ replyWord (e .reply)) ⌝ }
 {
     let writes = e.writes;
@@ -36,34 +32,6 @@ fn host(r: &mut [u64; 58], e: Effect) -> u64
     r[in_place_record::HGATP] = e.csrs.hs.hgatp;
     write(r, writes);
     reply_word(reply)
-}
-
-// Writes the effect of a host's own call; while an ask waits the call is refused.
-pub fn unless_asking(r: &mut [u64; 58], w: Waiting, e: Effect) -> u64
-    ensures { λ n. ⌜ (w ≡ viewOf (now (r .entry)) .waiting → Keeps e w → Done (hostLeaves (now (r .entry))) (applied (viewOf (now (r .entry))) (unlessAsking (viewOf (now (r .entry))) e)) (now (r .exit)) n) ⌝ }
-{
-    in_place_record::sized(r);
-    if decide_record::ask_of(w) == 0 {
-        return host(r, e);
-    }
-    0x102
-}
-
-// How many bytes of the lent buffer ask 4 prints, where it waits.
-pub fn to_print(r: &[u64; 58]) -> u64
-    ensures { λ n. ⌜ n ≡ printCount (viewOf (now (r .entry)) .waiting) ⌝ }
-{
-    in_place_record::sized(r);
-    printed(r[in_place_record::KIND], r[in_place_record::FIRST])
-}
-
-fn printed(kind: u64, count: u64) -> u64
-    ensures { λ n. ⌜ n ≡ printedBy kind count ⌝ }
-{
-    if kind == 6 {
-        return count;
-    }
-    0
 }
 
 fn write(r: &mut [u64; 58], w: Writes)

@@ -36,20 +36,24 @@ use Rattle.scope.specs.declared.decided.Fault.{Fault}
 use Rattle.scope.specs.declared.decided.Fault.the-variants as fault
 use Rattle.scope.specs.declared.decided.Answered.{Answered}
 use Rattle.scope.specs.declared.decided.Answered.the-variants as answered
-use Rattle.scope.specs.Words.{csrsOf, unpackOf, waitingBy, waitingOf, waitingWords, askedWords}
+use Rattle.scope.specs.Words.{csrsOf, kindWord, unpackOf, waitingBy, waitingOf, waitingWords, askedWords}
 use Rattle.scope.specs.WordsLaws.{access-back, flag-back, width-back}
-use Rattle.in_place_record.specs.View.{Done, Made, askCount, besideOf, exitCount, outOf, recordOf, refusalWord, replyWord, trapLeaves, viewOf, waitingCount, askedWordCount}
+use Rattle.in_place_record.specs.Steps.{Laid, Settled, askCount, besideOf, exitCount, outOver, trapLeaves}
+use Rattle.in_place_record.specs.View.{recordOf, viewOf}
+use Rattle.scope.specs.ReplyWords.{replyWord}
+use Rattle.scope.specs.Words.{trapLeft, waitingCount, askedWordCount}
+use Rattle.scope.specs.Refusals.{refusal, refuses}
 use Rattle.in_place_record.specs.Rows.{Leaves, Left, answeredLeft, argsWords, bumpWords, callLeft, completeWord, completeWords, csrLeft, faultLeft, fetchOut, giveWords, injectWords, missedLeft, putWord, readWord, movedWords, pairWords, sixWords, stepWords, timerWords}
 use Rattle.in_place_record.specs.Spelled.{spelled, spelled-out}
 
 -- a function that leaves words which show an outcome shows it
-pub made-by : {leaves : Outcome → List ℕ} {o : List ℕ} {outcome : Outcome} {l : Left} {r out : List ℕ} {word : ℕ} → Made leaves o outcome (l .rec) (l .out) (l .word) → Leaves l r out word → Made leaves o outcome r out word
+pub made-by : {leaves : Outcome → List ℕ} {o : List ℕ} {outcome : Outcome} {l : Left} {r out : List ℕ} {word : ℕ} → Laid leaves o outcome (l .rec) (l .out) (l .word) → Leaves l r out word → Laid leaves o outcome r out word
 made-by m l =
     record { shows = ap viewOf (l .rec) ∙ m .shows; waits = ap (λ (k : List ℕ). drop 54 k) (l .rec) ∙ m .waits; says = l .word ∙ m .says; gives = l .out ∙ m .gives }
 
 -- an effect of a trap on a record of words
 abbrev pub On : List ℕ → List ℕ → Effect → Left → Type 0
-On r o e l = Made (trapLeaves r) o (applied (viewOf r) e) (l .rec) (l .out) (l .word)
+On r o e l = Laid (trapLeaves r) o (applied (viewOf r) e) (l .rec) (l .out) (l .word)
 
 -- what holds of every record that is written out holds of all 58 words
 pub over : (P : List ℕ → Type 0) → ((k : List ℕ) → P (spelled 58 0 k)) → (r : List ℕ) → length r ≡ 58 → P r
@@ -95,7 +99,7 @@ unfolding putWord
 put-keeps s i n = keep-by s i n (eqb i 0) (ltb i 32) refl
 
 call-spelled : (k o : List ℕ) (d : SbiCall) → let r : List ℕ = spelled 58 0 k in On r o (callEffect (viewOf r .csrs) (getD r 17 0) (getD r 16 0) (argsWords r) d) (callLeft r o d)
-unfolding viewOf recordOf unpackOf csrsOf waitingOf waitingBy applied callEffect returnsOf movesOf setTimerOf finishedOf askingOf noArgs stored counted bumped eventNumber listed moved timed pended replyWord outOf exitCount askCount besideOf exitNumber askNumber exitValues askValues callLeft pairWords giveWords stepWords movedWords timerWords bumpWords argsWords sixWords clearIpiOf asksOf staysOf hypercallOf abiNumber trapLeaves refusalWord waitingCount askedWordCount askedWords waitingWords givesOf forwardEffect
+unfolding viewOf recordOf unpackOf csrsOf waitingOf waitingBy kindWord applied callEffect returnsOf movesOf setTimerOf finishedOf askingOf noArgs stored counted bumped eventNumber listed moved timed pended replyWord outOver exitCount askCount besideOf exitNumber askNumber exitValues askValues callLeft pairWords giveWords stepWords movedWords timerWords bumpWords argsWords sixWords clearIpiOf asksOf staysOf hypercallOf abiNumber trapLeaves trapLeft refuses refusal waitingCount askedWordCount askedWords waitingWords givesOf forwardEffect
 call-spelled k o (call.Returns e v) = record { shows = refl; waits = refl; says = refl; gives = refl }
 call-spelled k o call.Moves = record { shows = refl; waits = refl; says = refl; gives = refl }
 call-spelled k o (call.LegacyTimer d) = record { shows = refl; waits = refl; says = refl; gives = refl }
@@ -130,7 +134,7 @@ call-made r o e d =
     over (λ r. On r o (callEffect (viewOf r .csrs) (getD r 17 0) (getD r 16 0) (argsWords r) d) (callLeft r o d)) (λ k. call-spelled k o d) r e
 
 csr-spelled : (k o : List ℕ) (d : Stimecmp) → let r : List ℕ = spelled 58 0 k in On r o (stimecmpEffect (viewOf r .csrs) d) (csrLeft r o d)
-unfolding viewOf recordOf unpackOf csrsOf waitingOf waitingBy applied stimecmpEffect askFetchOf finishedOf askingOf failedOf noArgs stored counted bumped eventNumber listed moved timed replyWord outOf exitCount askCount besideOf exitNumber askNumber errorNumber exitValues askValues csrLeft stepWords movedWords bumpWords fetchOut trapLeaves refusalWord waitingCount askedWordCount askedWords waitingWords
+unfolding viewOf recordOf unpackOf csrsOf waitingOf waitingBy kindWord applied stimecmpEffect askFetchOf finishedOf askingOf failedOf noArgs stored counted bumped eventNumber listed moved timed replyWord outOver exitCount askCount besideOf exitNumber askNumber errorNumber exitValues askValues csrLeft stepWords movedWords bumpWords fetchOut trapLeaves trapLeft refuses refusal waitingCount askedWordCount askedWords waitingWords
 csr-spelled k o csr.Illegal = record { shows = refl; waits = refl; says = refl; gives = refl }
 csr-spelled k o csr.Fetch = record { shows = refl; waits = refl; says = refl; gives = refl }
 csr-spelled k o (csr.Write rd timer) =
@@ -141,7 +145,7 @@ pub csr-made : (r o : List ℕ) → length r ≡ 58 → (d : Stimecmp) → On r 
 csr-made r o e d = over (λ r. On r o (stimecmpEffect (viewOf r .csrs) d) (csrLeft r o d)) (λ k. csr-spelled k o d) r e
 
 fault-spelled : (k o : List ℕ) (at : GuestPhysAddr) (a : Access) (d : Fault) → let r : List ℕ = spelled 58 0 k in On r o (faultEffect (viewOf r .csrs) at a d) (faultLeft r o at a d)
-unfolding viewOf recordOf unpackOf csrsOf waitingOf waitingBy applied faultEffect askFetchOf finishedOf askingOf failedOf noArgs stored counted bumped eventNumber listed moved replyWord outOf exitCount askCount besideOf exitNumber askNumber errorNumber exitValues askValues faultLeft stepWords movedWords fetchOut trapLeaves refusalWord waitingCount askedWordCount askedWords waitingWords
+unfolding viewOf recordOf unpackOf csrsOf waitingOf waitingBy kindWord applied faultEffect askFetchOf finishedOf askingOf failedOf noArgs stored counted bumped eventNumber listed moved replyWord outOver exitCount askCount besideOf exitNumber askNumber errorNumber exitValues askValues faultLeft stepWords movedWords fetchOut trapLeaves trapLeft refuses refusal waitingCount askedWordCount askedWords waitingWords
 fault-spelled k o at a fault.Fetch =
     record { shows = same refl refl refl (λ i. waiting.FetchFault at (access-back a i)); waits = refl; says = refl; gives = refl }
 fault-spelled k o at a fault.Walk = record { shows = refl; waits = refl; says = refl; gives = refl }
@@ -156,7 +160,7 @@ pub fault-made : (r o : List ℕ) → length r ≡ 58 → (at : GuestPhysAddr) (
 fault-made r o e at a d = over (λ r. On r o (faultEffect (viewOf r .csrs) at a d) (faultLeft r o at a d)) (λ k. fault-spelled k o at a d) r e
 
 missed-spelled : (k o : List ℕ) (d : Missed) → let r : List ℕ = spelled 58 0 k in On r o (missedEffect (viewOf r .csrs) d) (missedLeft r o d)
-unfolding viewOf recordOf unpackOf csrsOf waitingOf waitingBy applied missedEffect injectedOf finishedOf failedOf noArgs stored counted bumped eventNumber listed replyWord outOf exitCount besideOf exitNumber errorNumber exitValues accessNumber missedLeft injectWords trapLeaves refusalWord waitingCount askedWordCount askedWords waitingWords
+unfolding viewOf recordOf unpackOf csrsOf waitingOf waitingBy kindWord applied missedEffect injectedOf finishedOf failedOf noArgs stored counted bumped eventNumber listed replyWord outOver exitCount besideOf exitNumber errorNumber exitValues accessNumber missedLeft injectWords trapLeaves trapLeft refuses refusal waitingCount askedWordCount askedWords waitingWords
 missed-spelled k o (missed.Inject cause addr) = record { shows = refl; waits = refl; says = refl; gives = refl }
 missed-spelled k o (missed.Nested addr) = record { shows = refl; waits = refl; says = refl; gives = refl }
 missed-spelled k o missed.Unhandled = record { shows = refl; waits = refl; says = refl; gives = refl }
@@ -166,7 +170,7 @@ pub missed-made : (r o : List ℕ) → length r ≡ 58 → (d : Missed) → On r
 missed-made r o e d = over (λ r. On r o (missedEffect (viewOf r .csrs) d) (missedLeft r o d)) (λ k. missed-spelled k o d) r e
 
 answered-spelled : (k o : List ℕ) (d : Answered) → let r : List ℕ = spelled 58 0 k in On r o (answeredEffect (viewOf r .csrs) d) (answeredLeft r o d)
-unfolding viewOf recordOf unpackOf csrsOf waitingOf waitingBy applied answeredEffect finishedOf askingOf refusedOf leavesOf noArgs stored counted bumped eventNumber listed moved replyWord outOf exitCount askCount besideOf exitNumber askNumber errorNumber exitValues askValues answeredLeft pairWords giveWords stepWords movedWords trapLeaves refusalWord waitingCount askedWordCount askedWords waitingWords movesOf givesOf returnsOf asksOf
+unfolding viewOf recordOf unpackOf csrsOf waitingOf waitingBy kindWord applied answeredEffect finishedOf askingOf refusedOf leavesOf noArgs stored counted bumped eventNumber listed moved replyWord outOver exitCount askCount besideOf exitNumber askNumber errorNumber exitValues askValues answeredLeft pairWords giveWords stepWords movedWords trapLeaves trapLeft refuses refusal waitingCount askedWordCount askedWords waitingWords movesOf givesOf returnsOf asksOf
 answered-spelled k o answered.Moves = record { shows = refl; waits = refl; says = refl; gives = refl }
 answered-spelled k o (answered.Gives v) = record { shows = refl; waits = refl; says = refl; gives = refl }
 answered-spelled k o (answered.Returns e v) = record { shows = refl; waits = refl; says = refl; gives = refl }
@@ -180,17 +184,17 @@ answered-made r o e d = over (λ r. On r o (answeredEffect (viewOf r .csrs) d) (
 
 -- a load's completion
 
-complete-spelled : (k : List ℕ) (w : Waiting) (n : ℕ) → let r : List ℕ = spelled 58 0 k in viewOf r .waiting ≡ w → Done (trapLeaves r) (applied (viewOf r) (completedOf (viewOf r .csrs) w n)) (completeWords r w n) (completeWord w)
-unfolding viewOf recordOf unpackOf csrsOf waitingOf waitingBy applied completedOf refusedOf leavesOf doneOf noArgs stored counted bumped eventNumber listed replyWord errorNumber completeWords completeWord trapLeaves refusalWord waitingCount askedWordCount askedWords waitingWords
+complete-spelled : (k : List ℕ) (w : Waiting) (n : ℕ) → let r : List ℕ = spelled 58 0 k in viewOf r .waiting ≡ w → Settled (trapLeaves r) (applied (viewOf r) (completedOf (viewOf r .csrs) w n)) (completeWords r w n) (completeWord w)
+unfolding viewOf recordOf unpackOf csrsOf waitingOf waitingBy kindWord applied completedOf refusedOf leavesOf doneOf noArgs stored counted bumped eventNumber listed replyWord errorNumber completeWords completeWord trapLeaves trapLeft refuses refusal waitingCount askedWordCount askedWords waitingWords
 complete-spelled k waiting.Idle n e = record { shows = same refl refl refl e; waits = refl; says = refl }
 complete-spelled k (waiting.Load rd w s) n e = record { shows = put-shows (set (spelled 58 0 k) 54 0) rd _; waits = put-keeps (set (spelled 58 0 k) 54 0) rd _; says = refl }
 complete-spelled k waiting.FetchCsr n e = record { shows = same refl refl refl e; waits = refl; says = refl }
 complete-spelled k (waiting.FetchFault at a) n e = record { shows = same refl refl refl e; waits = refl; says = refl }
 complete-spelled k (waiting.Ecall a) n e = record { shows = same refl refl refl e; waits = refl; says = refl }
 
-pub complete-done : (r : List ℕ) → length r ≡ 58 → (w : Waiting) (n : ℕ) → viewOf r .waiting ≡ w → Done (trapLeaves r) (applied (viewOf r) (completedOf (viewOf r .csrs) w n)) (completeWords r w n) (completeWord w)
+pub complete-done : (r : List ℕ) → length r ≡ 58 → (w : Waiting) (n : ℕ) → viewOf r .waiting ≡ w → Settled (trapLeaves r) (applied (viewOf r) (completedOf (viewOf r .csrs) w n)) (completeWords r w n) (completeWord w)
 complete-done r e w n =
-    over (λ r. viewOf r .waiting ≡ w → Done (trapLeaves r) (applied (viewOf r) (completedOf (viewOf r .csrs) w n)) (completeWords r w n) (completeWord w)) (λ k. complete-spelled k w n) r e
+    over (λ r. viewOf r .waiting ≡ w → Settled (trapLeaves r) (applied (viewOf r) (completedOf (viewOf r .csrs) w n)) (completeWords r w n) (completeWord w)) (λ k. complete-spelled k w n) r e
 
 -- what waits and the CSRs, word by word
 

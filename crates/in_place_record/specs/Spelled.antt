@@ -12,7 +12,7 @@ abbrev pub spelled : ℕ → ℕ → List ℕ → List ℕ
 spelled zero i l = []
 spelled (suc n) i l = getD l i 0 ∷ spelled n (suc i) l
 
-spelled-drop : (n i : ℕ) (l : List ℕ) → i + n ≡ length l → spelled n i l ≡ drop i l
+pub spelled-drop : (n i : ℕ) (l : List ℕ) → i + n ≡ length l → spelled n i l ≡ drop i l
 spelled-drop zero i l e = sym (ap (λ (k : ℕ). drop k l) (sym (add-zero i) ∙ e) ∙ drop-length l)
 spelled-drop (suc n) i l e =
     ap (λ (m : List ℕ). getD l i 0 ∷ m) (spelled-drop n (suc i) l (omega arith))

@@ -7,10 +7,17 @@ use mathlib.Core.Path.{_≡_, refl, ap, ap₂, sym, _∙_}
 use lib.ListN.{drop, length, length-drop, length-set, set, take}
 use lib.Seq.{sets}
 use Rattle.isa_types.specs.Pick.{pick}
-use Rattle.scope.specs.declared.machine.Outcome.{Outcome}
 use Rattle.scope.specs.declared.machine.Vcpu.{Vcpu}
-use Rattle.scope.specs.Words.{csrsOf, csrsWords, unpackOf, waitingWords}
-use Rattle.in_place_record.specs.View.{hostLeaves, recordOf, refusalWord, replyWord, trapLeaves, viewOf, waitingCount}
+use Rattle.scope.specs.declared.hosts.HostCall.the-variants as hostCall
+use Rattle.scope.specs.declared.hosts.HostCall.{HostCall}
+use Rattle.scope.specs.declared.machine.EcallAsk.the-variants as asked
+use Rattle.scope.specs.declared.machine.EcallAsk.{EcallAsk}
+use Rattle.scope.specs.declared.machine.Waiting.the-variants as waiting
+use Rattle.scope.specs.declared.machine.Waiting.{Waiting}
+use Rattle.scope.specs.declared.traps.Reply.{Reply}
+use Rattle.scope.specs.Refusals.{refuses}
+use Rattle.scope.specs.Words.{askedWords, csrsOf, csrsWords, trapLeft, unpackOf, waitingCount, waitingLeft, waitingWords}
+use Rattle.in_place_record.specs.View.{recordOf, viewOf}
 use Rattle.in_place_record.specs.Laws.{over}
 use Rattle.in_place_record.specs.Spelled.{spelled}
 
@@ -35,22 +42,54 @@ sets-length : (l : List ℕ) (i : ℕ) (vs : List ℕ) → length (sets l i vs) 
 sets-length l i [] = refl
 sets-length l i (v ∷ vs) = sets-length (set l i v) (suc i) vs ∙ length-set l i v
 
-last-four : (r : List ℕ) → length r ≡ 58 → length (drop 54 r) ≡ 4
+pub last-four : (r : List ℕ) → length r ≡ 58 → length (drop 54 r) ≡ 4
 last-four r e = length-drop 54 r ∙ ap (λ (n : ℕ). n - 54) e
 
 pick-four : (b : Bool) (l m : List ℕ) → length l ≡ 4 → length m ≡ 4 → length (pick b l m) ≡ 4
 pick-four true l m e f = e
 pick-four false l m e f = f
 
-pub trap-four : (entry : List ℕ) (outcome : Outcome) → length entry ≡ 58 → length (trapLeaves entry outcome) ≡ 4
-unfolding trapLeaves
-trap-four entry outcome e =
-    pick-four (refusalWord (replyWord (outcome .reply))) _ _ (last-four entry e)
-    (sets-length (drop 54 entry) 0 (take (waitingCount (outcome .vcpu .waiting)) (waitingWords (outcome .vcpu .waiting))) ∙ last-four entry e)
+asked-four : (a : EcallAsk) → length (askedWords a) ≡ 4
+unfolding askedWords
+asked-four asked.CopyMask = refl
+asked-four (asked.CopyIn n) = refl
+asked-four (asked.Print n) = refl
+asked-four (asked.ReadConsole n a) = refl
+asked-four (asked.CopyOut n) = refl
+asked-four asked.PutChar = refl
+asked-four asked.PutByte = refl
+asked-four asked.GetChar = refl
+asked-four asked.Forward = refl
 
-pub host-four : (entry : List ℕ) (outcome : Outcome) → length entry ≡ 58 → length (hostLeaves entry outcome) ≡ 4
-unfolding hostLeaves
-host-four entry outcome e = last-four entry e
+waiting-four : (n : Waiting) → length (waitingWords n) ≡ 4
+unfolding waitingWords
+waiting-four waiting.Idle = refl
+waiting-four (waiting.Load r w s) = refl
+waiting-four waiting.FetchCsr = refl
+waiting-four (waiting.FetchFault a k) = refl
+waiting-four (waiting.Ecall a) = asked-four a
+
+trap-four : (w : List ℕ) (p : Reply) (n : Waiting) → length w ≡ 4 → length (trapLeft w p n) ≡ 4
+unfolding trapLeft
+trap-four w p n e = pick-four (refuses p) _ _ e (sets-length w 0 (take (waitingCount n) (waitingWords n)) ∙ e)
+
+-- every call leaves four waiting words of four
+pub left-four : (c : HostCall) (w : List ℕ) (p : Reply) (n : Waiting) → length w ≡ 4 → length (waitingLeft c w p n) ≡ 4
+unfolding waitingLeft
+left-four (hostCall.New hart tree) w p n e = waiting-four n
+left-four hostCall.Setup w p n e = e
+left-four (hostCall.SetEntry at) w p n e = e
+left-four (hostCall.GetGpr index) w p n e = e
+left-four (hostCall.SetGpr index value) w p n e = e
+left-four (hostCall.SetReturnValue value) w p n e = e
+left-four (hostCall.SetNestedPageTable levels mode root) w p n e = e
+left-four (hostCall.SetPending vector level) w p n e = e
+left-four (hostCall.LatchHvip bits) w p n e = e
+left-four (hostCall.CompleteIpi abi completion) w p n e = e
+left-four (hostCall.Start t) w p n e = trap-four w p n e
+left-four (hostCall.Answer a) w p n e = trap-four w p n e
+left-four (hostCall.CompleteLoad number) w p n e = trap-four w p n e
+left-four (hostCall.ToPrint n′) w p n e = e
 
 pub all-there : (r w : List ℕ) → length w ≡ 4 → drop 54 r ≡ w → length r ≡ 58
 all-there r w e f =

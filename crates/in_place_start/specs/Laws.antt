@@ -14,8 +14,12 @@ use Rattle.isa_fields.specs.Fields.{rs1Field}
 use Rattle.scope.specs.Record.{bumped, counted, eventNumber, listed, stored, valueOf, applied, noArgs}
 use Rattle.scope.specs.VirtualInstruction.{stimecmpStval, virtualEffect}
 use Rattle.scope.specs.Classes.{argumentsOf}
-use Rattle.scope.specs.Words.{csrsOf, unpackOf, waitingBy, waitingOf, waitingWords}
-use Rattle.in_place_record.specs.View.{Made, besideOf, exitCount, outOf, recordOf, refusalWord, replyWord, trapLeaves, viewOf, waitingCount}
+use Rattle.scope.specs.Words.{askedWords, csrsOf, kindWord, unpackOf, waitingBy, waitingOf, waitingWords}
+use Rattle.in_place_record.specs.Steps.{Laid, besideOf, exitCount, outOver, trapLeaves}
+use Rattle.in_place_record.specs.View.{recordOf, viewOf}
+use Rattle.scope.specs.ReplyWords.{replyWord}
+use Rattle.scope.specs.Words.{trapLeft, waitingCount}
+use Rattle.scope.specs.Refusals.{refusal, refuses}
 use Rattle.in_place_record.specs.Rows.{argsWords, callLeft, csrLeft, left, readWord}
 use Rattle.in_place_record.specs.Laws.{On, call-made, over}
 use Rattle.in_place_record.specs.Spelled.{spelled}
@@ -48,26 +52,26 @@ virtual-made r o e stval = csr-by r o e (λ old rs1. stimecmpStval stval old rs1
 -- the classes that are handled at once
 
 interrupt-spelled : (k o : List ℕ) (v : ℕ) → let r : List ℕ = spelled 58 0 k in On r o (finishedOf (viewOf r .csrs) event.Quiet writes.Keep (exit.ExternalInterrupt v)) (left (set r 54 0) (set o 0 v) 1)
-unfolding viewOf recordOf unpackOf csrsOf waitingOf waitingBy applied finishedOf noArgs stored counted bumped eventNumber listed replyWord outOf exitCount besideOf exitNumber exitValues trapLeaves refusalWord waitingCount waitingWords
+unfolding viewOf recordOf unpackOf csrsOf waitingOf waitingBy kindWord askedWords applied finishedOf noArgs stored counted bumped eventNumber listed replyWord outOver exitCount besideOf exitNumber exitValues trapLeaves trapLeft refuses refusal waitingCount waitingWords
 interrupt-spelled k o v = record { shows = refl; waits = refl; says = refl; gives = refl }
 
 pub interrupt-made : (r o : List ℕ) → length r ≡ 58 → (v : ℕ) → On r o (finishedOf (viewOf r .csrs) event.Quiet writes.Keep (exit.ExternalInterrupt v)) (left (set r 54 0) (set o 0 v) 1)
 interrupt-made r o e v = over (λ r. On r o (finishedOf (viewOf r .csrs) event.Quiet writes.Keep (exit.ExternalInterrupt v)) (left (set r 54 0) (set o 0 v) 1)) (λ k. interrupt-spelled k o v) r e
 
 not-handled-spelled : (k o : List ℕ) → let r : List ℕ = spelled 58 0 k in On r o (failedOf (viewOf r .csrs) event.Quiet error.Unsupported) (left (set r 54 0) o 0x103)
-unfolding viewOf recordOf unpackOf csrsOf waitingOf waitingBy applied failedOf noArgs stored counted bumped eventNumber listed replyWord outOf errorNumber trapLeaves refusalWord waitingCount waitingWords
+unfolding viewOf recordOf unpackOf csrsOf waitingOf waitingBy kindWord askedWords applied failedOf noArgs stored counted bumped eventNumber listed replyWord outOver errorNumber trapLeaves trapLeft refuses refusal waitingCount waitingWords
 not-handled-spelled k o = record { shows = refl; waits = refl; says = refl; gives = refl }
 
 pub not-handled-made : (r o : List ℕ) → length r ≡ 58 → On r o (failedOf (viewOf r .csrs) event.Quiet error.Unsupported) (left (set r 54 0) o 0x103)
 not-handled-made r o e = over (λ r. On r o (failedOf (viewOf r .csrs) event.Quiet error.Unsupported) (left (set r 54 0) o 0x103)) (λ k. not-handled-spelled k o) r e
 
 unknown-spelled : (k o : List ℕ) → let r : List ℕ = spelled 58 0 k in On r o (failedOf (viewOf r .csrs) event.Quiet error.InvalidTrap) (left (set r 54 0) o 0x104)
-unfolding viewOf recordOf unpackOf csrsOf waitingOf waitingBy applied failedOf noArgs stored counted bumped eventNumber listed replyWord outOf errorNumber trapLeaves refusalWord waitingCount waitingWords
+unfolding viewOf recordOf unpackOf csrsOf waitingOf waitingBy kindWord askedWords applied failedOf noArgs stored counted bumped eventNumber listed replyWord outOver errorNumber trapLeaves trapLeft refuses refusal waitingCount waitingWords
 unknown-spelled k o = record { shows = refl; waits = refl; says = refl; gives = refl }
 
 pub unknown-made : (r o : List ℕ) → length r ≡ 58 → On r o (failedOf (viewOf r .csrs) event.Quiet error.InvalidTrap) (left (set r 54 0) o 0x104)
 unknown-made r o e = over (λ r. On r o (failedOf (viewOf r .csrs) event.Quiet error.InvalidTrap) (left (set r 54 0) o 0x104)) (λ k. unknown-spelled k o) r e
 
-pub busy-made : (r o : List ℕ) → Made (trapLeaves r) o (applied (viewOf r) (refusedOf (viewOf r .csrs) (viewOf r .waiting) error.BadState)) r o 0x102
-unfolding applied refusedOf leavesOf noArgs stored counted bumped eventNumber listed replyWord outOf errorNumber trapLeaves refusalWord
+pub busy-made : (r o : List ℕ) → Laid (trapLeaves r) o (applied (viewOf r) (refusedOf (viewOf r .csrs) (viewOf r .waiting) error.BadState)) r o 0x102
+unfolding applied refusedOf leavesOf noArgs stored counted bumped eventNumber listed replyWord outOver errorNumber trapLeaves trapLeft refuses refusal
 busy-made r o = record { shows = refl; waits = refl; says = refl; gives = refl }

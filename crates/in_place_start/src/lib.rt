@@ -1,5 +1,5 @@
 // A trap on the lent words: its class by scause, and each class's decision done. The decisions are those of the by-value
-// step, and so is what is promised: Made says it of the whole outcome.
+// step, and so is what is promised: Laid says it of the whole outcome.
 ghost use mathlib.Core.Path.{_≡_};
 ghost use Prim.Native.Nat.{_%_, _^_};
 ghost use lib.ListN.{getD};
@@ -14,7 +14,8 @@ ghost use Rattle.scope.specs.GuestPageFault.{mmioOf, pageFaultOf};
 ghost use Rattle.scope.specs.Ecalls.{ecallEffect};
 ghost use Rattle.scope.specs.VirtualInstruction.{virtualEffect};
 ghost use Rattle.scope.specs.Calls.{calledOf};
-ghost use Rattle.in_place_record.specs.View.{Made, trapLeaves, viewOf};
+ghost use Rattle.in_place_record.specs.Steps.{Laid, trapLeaves};
+ghost use Rattle.in_place_record.specs.View.{viewOf};
 ghost use Rattle.in_place_start.specs.Words.{trapWords};
 use isa_decoder::Trapped;
 use isa_types::GuestPhysAddr;
@@ -37,14 +38,14 @@ pub fn trap_of(t: &[u64; 5]) -> Trap
 
 // Starts a trap.
 pub fn start(r: &mut [u64; 58], out: &mut [u64; 8], t: Trap) -> u64
-    ensures { λ w. ⌜ Made (trapLeaves (now (r .entry))) (now (out .entry)) (calledOf (viewOf (now (r .entry))) (hostCall.Start t)) (now (r .exit)) (now (out .exit)) w ⌝ }
+    ensures { λ w. ⌜ Laid (trapLeaves (now (r .entry))) (now (out .entry)) (calledOf (viewOf (now (r .entry))) (hostCall.Start t)) (now (r .exit)) (now (out .exit)) w ⌝ }
 {
     let idle = decide_record::is_idle(in_place_read::waiting(r));
     started(idle, r, out, t)
 }
 
 fn started(idle: bool, r: &mut [u64; 58], out: &mut [u64; 8], t: Trap) -> u64
-    ensures { λ w. ⌜ Made (trapLeaves (now (r .entry))) (now (out .entry)) (applied (viewOf (now (r .entry))) (pick idle (classEffect (classOf (t .scause)) (viewOf (now (r .entry)) .x) (viewOf (now (r .entry)) .csrs) t) (refusedOf (viewOf (now (r .entry)) .csrs) (viewOf (now (r .entry)) .waiting) error.BadState))) (now (r .exit)) (now (out .exit)) w ⌝ }
+    ensures { λ w. ⌜ Laid (trapLeaves (now (r .entry))) (now (out .entry)) (applied (viewOf (now (r .entry))) (pick idle (classEffect (classOf (t .scause)) (viewOf (now (r .entry)) .x) (viewOf (now (r .entry)) .csrs) t) (refusedOf (viewOf (now (r .entry)) .csrs) (viewOf (now (r .entry)) .waiting) error.BadState))) (now (r .exit)) (now (out .exit)) w ⌝ }
 {
     if idle {
         return trapped(decide_class::class_of(t.scause), r, out, t);
@@ -54,7 +55,7 @@ fn started(idle: bool, r: &mut [u64; 58], out: &mut [u64; 8], t: Trap) -> u64
 
 // Each class at one place.
 fn trapped(class: Class, r: &mut [u64; 58], out: &mut [u64; 8], t: Trap) -> u64
-    ensures { λ w. ⌜ Made (trapLeaves (now (r .entry))) (now (out .entry)) (applied (viewOf (now (r .entry))) (classEffect class (viewOf (now (r .entry)) .x) (viewOf (now (r .entry)) .csrs) t)) (now (r .exit)) (now (out .exit)) w ⌝ }
+    ensures { λ w. ⌜ Laid (trapLeaves (now (r .entry))) (now (out .entry)) (applied (viewOf (now (r .entry))) (classEffect class (viewOf (now (r .entry)) .x) (viewOf (now (r .entry)) .csrs) t)) (now (r .exit)) (now (out .exit)) w ⌝ }
 {
     in_place_record::sized(r);
     match class {
@@ -78,7 +79,7 @@ fn trapped(class: Class, r: &mut [u64; 58], out: &mut [u64; 8], t: Trap) -> u64
 }
 
 fn ecall(r: &mut [u64; 58], out: &mut [u64; 8], room: u64) -> u64
-    ensures { λ w. ⌜ Made (trapLeaves (now (r .entry))) (now (out .entry)) (applied (viewOf (now (r .entry))) (ecallEffect (viewOf (now (r .entry)) .csrs) (getD (viewOf (now (r .entry)) .x) 17 0) (getD (viewOf (now (r .entry)) .x) 16 0) (argumentsOf (viewOf (now (r .entry)) .x)) room)) (now (r .exit)) (now (out .exit)) w ⌝ }
+    ensures { λ w. ⌜ Laid (trapLeaves (now (r .entry))) (now (out .entry)) (applied (viewOf (now (r .entry))) (ecallEffect (viewOf (now (r .entry)) .csrs) (getD (viewOf (now (r .entry)) .x) 17 0) (getD (viewOf (now (r .entry)) .x) 16 0) (argumentsOf (viewOf (now (r .entry)) .x)) room)) (now (r .exit)) (now (out .exit)) w ⌝ }
 {
     in_place_record::sized(r);
     let a = in_place_read::args(r);
@@ -87,7 +88,7 @@ fn ecall(r: &mut [u64; 58], out: &mut [u64; 8], room: u64) -> u64
 }
 
 fn virtual_inst(r: &mut [u64; 58], out: &mut [u64; 8], stval: u64) -> u64
-    ensures { λ w. ⌜ Made (trapLeaves (now (r .entry))) (now (out .entry)) (applied (viewOf (now (r .entry))) (virtualEffect (viewOf (now (r .entry)) .csrs) stval (valueOf (viewOf (now (r .entry)) .x) (rs1Field (stval % 2 ^ 32))))) (now (r .exit)) (now (out .exit)) w ⌝ }
+    ensures { λ w. ⌜ Laid (trapLeaves (now (r .entry))) (now (out .entry)) (applied (viewOf (now (r .entry))) (virtualEffect (viewOf (now (r .entry)) .csrs) stval (valueOf (viewOf (now (r .entry)) .x) (rs1Field (stval % 2 ^ 32))))) (now (r .exit)) (now (out .exit)) w ⌝ }
 {
     in_place_record::sized(r);
     let rs1 = in_place_read::read(r, isa_fields::rs1(stval % 0x1_0000_0000));
@@ -96,7 +97,7 @@ fn virtual_inst(r: &mut [u64; 58], out: &mut [u64; 8], stval: u64) -> u64
 }
 
 fn page_fault(r: &mut [u64; 58], out: &mut [u64; 8], t: Trap, access: Access) -> u64
-    ensures { λ w. ⌜ Made (trapLeaves (now (r .entry))) (now (out .entry)) (applied (viewOf (now (r .entry))) (pageFaultOf (viewOf (now (r .entry)) .x) (viewOf (now (r .entry)) .csrs) t access)) (now (r .exit)) (now (out .exit)) w ⌝ }
+    ensures { λ w. ⌜ Laid (trapLeaves (now (r .entry))) (now (out .entry)) (applied (viewOf (now (r .entry))) (pageFaultOf (viewOf (now (r .entry)) .x) (viewOf (now (r .entry)) .csrs) t access)) (now (r .exit)) (now (out .exit)) w ⌝ }
 {
     let at = isa_registers::guest_page_fault_addr(t.htval, t.stval);
     mmio(r, out, at, access, isa_decoder::from_htinst(t.htinst))
@@ -106,7 +107,7 @@ fn page_fault(r: &mut [u64; 58], out: &mut [u64; 8], t: Trap, access: Access) ->
 // same for the word of a fetch: a function with one caller is always put in its place, so that the instruction passes in
 // registers.
 fn mmio(r: &mut [u64; 58], out: &mut [u64; 8], at: GuestPhysAddr, access: Access, i: Trapped) -> u64
-    ensures { λ w. ⌜ Made (trapLeaves (now (r .entry))) (now (out .entry)) (applied (viewOf (now (r .entry))) (mmioOf (viewOf (now (r .entry)) .x) (viewOf (now (r .entry)) .csrs) at access i)) (now (r .exit)) (now (out .exit)) w ⌝ }
+    ensures { λ w. ⌜ Laid (trapLeaves (now (r .entry))) (now (out .entry)) (applied (viewOf (now (r .entry))) (mmioOf (viewOf (now (r .entry)) .x) (viewOf (now (r .entry)) .csrs) at access i)) (now (r .exit)) (now (out .exit)) w ⌝ }
 {
     in_place_record::sized(r);
     let source = in_place_read::read(r, isa_decoder::store_source(i));

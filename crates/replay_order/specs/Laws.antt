@@ -12,7 +12,8 @@ use Rattle.scope.specs.Record.{timed}
 use Rattle.scope.specs.Words.{csrsOf, unpackOf}
 use Rattle.in_place_record.specs.Laws.{over}
 use Rattle.in_place_record.specs.Spelled.{spelled}
-use Rattle.in_place_record.specs.View.{Done, recordOf, viewOf}
+use Rattle.in_place_record.specs.Steps.{Settled}
+use Rattle.in_place_record.specs.View.{recordOf, viewOf}
 use Rattle.replay_scope.specs.Output.{headedOf}
 
 -- the record with vstimecmp
@@ -28,7 +29,7 @@ timer-shows : (r : List ℕ) (n : ℕ) → length r ≡ 58 → viewOf (set r 40 
 timer-shows r n e = over (λ r. viewOf (set r 40 n) ≡ timedRecord (viewOf r) n) (timer-spelled n) r e
 
 -- the first line is sepc
-pub sepc-headed : (r later : List ℕ) (i n word : ℕ) (leaves : Outcome → List ℕ) → i ≡ 0 → Done leaves (calledOf (viewOf r) (hostCall.SetEntry (record { 0 = n }))) later word → viewOf later ≡ headedOf (viewOf r) i n
+pub sepc-headed : (r later : List ℕ) (i n word : ℕ) (leaves : Outcome → List ℕ) → i ≡ 0 → Settled leaves (calledOf (viewOf r) (hostCall.SetEntry (record { 0 = n }))) later word → viewOf later ≡ headedOf (viewOf r) i n
 unfolding headedOf
 sepc-headed r later i n word leaves e d = d .shows ∙ simp (eq-eqb _ _ e)
 
@@ -38,6 +39,6 @@ unfolding headedOf
 timer-headed r i n s e = timer-shows r n s ∙ simp e
 
 -- the others are the general registers
-pub register-headed : (r later : List ℕ) (i n word : ℕ) (leaves : Outcome → List ℕ) → (i ≡ 0 → ⊥) → (i ≡ 1 → ⊥) → Done leaves (calledOf (viewOf r) (hostCall.SetGpr (i - 1) n)) later word → viewOf later ≡ headedOf (viewOf r) i n
+pub register-headed : (r later : List ℕ) (i n word : ℕ) (leaves : Outcome → List ℕ) → (i ≡ 0 → ⊥) → (i ≡ 1 → ⊥) → Settled leaves (calledOf (viewOf r) (hostCall.SetGpr (i - 1) n)) later word → viewOf later ≡ headedOf (viewOf r) i n
 unfolding headedOf
 register-headed r later i n word leaves a b d = d .shows ∙ simp (ne-eqb _ _ a, ne-eqb _ _ b)

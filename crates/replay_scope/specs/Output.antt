@@ -14,8 +14,7 @@ use Rattle.scope.specs.declared.traps.Reply.the-variants as reply
 use Rattle.scope.specs.Calls.{calledOf, newOf}
 use Rattle.scope.specs.Record.{isIdle, timed, waitingAsk}
 use Rattle.scope.specs.Refusals.{errorNumber}
-use Rattle.scope.specs.OneTrap.{exitNumber}
-use Rattle.scope.specs.Words.{answerBy}
+use Rattle.scope.specs.OneTrap.{answerFor, exitNumber}
 use Rattle.replay_scope.specs.declared.Gives.{Gives}
 use Rattle.replay_scope.specs.declared.Gives.the-variants as gives
 use Rattle.replay_scope.specs.declared.Got.{Got}
@@ -144,7 +143,7 @@ pairTaken s more =
     (settledOf (s .progress) (calledOf (s .vcpu) (hostCall.CompleteLoad (s .progress .kept .word))))
     (pick (and (eqb (waitingAsk (s .vcpu .waiting)) 1) (ltb 5 more)) (unfitOf s)
     (settledOf (s .progress)
-    (calledOf (s .vcpu) (answerBy (waitingAsk (s .vcpu .waiting)) (s .progress .kept .word) more))))
+    (calledOf (s .vcpu) (hostCall.Answer (answerFor (waitingAsk (s .vcpu .waiting)) (s .progress .kept .word) more)))))
 
 -- the numbers kept, with one of them new
 abbrev pub withScause : Kept → ℕ → Kept

@@ -13,7 +13,8 @@ use Rattle.scope.specs.Calls.{calledOf}
 use Rattle.scope.specs.Refusals.{errorNumber}
 use Rattle.scope.specs.Record.{isIdle, waitingAsk}
 use Rattle.scope.specs.OneTrap.{askNumber, exitNumber}
-use Rattle.scope.specs.Words.{answerBy, unpackOf}
+use Rattle.scope.specs.OneTrap.{answerFor}
+use Rattle.scope.specs.Words.{unpackOf}
 use Rattle.scope.specs.declared.machine.Csrs.{Csrs}
 use Rattle.scope.specs.declared.machine.Outcome.{Outcome}
 use Rattle.scope.specs.declared.machine.Vcpu.{Vcpu}
@@ -26,7 +27,9 @@ use Rattle.scope.specs.declared.traps.Exit.the-variants as exit
 use Rattle.scope.specs.declared.traps.Reply.{Reply}
 use Rattle.scope.specs.declared.traps.Reply.the-variants as reply
 use Rattle.in_place_record.specs.Laws.{csrs-words}
-use Rattle.in_place_record.specs.View.{Done, Made, recordOf, replyWord, viewOf}
+use Rattle.in_place_record.specs.Steps.{Laid, Settled}
+use Rattle.in_place_record.specs.View.{recordOf, viewOf}
+use Rattle.scope.specs.ReplyWords.{replyWord}
 use Rattle.replay_scope.specs.declared.Gives.the-variants as gives
 use Rattle.replay_scope.specs.declared.Place.the-variants as place
 use Rattle.replay_scope.specs.declared.Progress.{Progress}
@@ -121,14 +124,14 @@ word-follows p r t idle e g i j =
 -- a trap's start, an answer and a load's completion, by what the call promises and the step after it
 module _ (p : Progress) (r : List ℕ) (later : List ℕ) (t : Next) where
   pub start-stepped : (htinst : ℕ) (leaves : Outcome → List ℕ) (o out : List ℕ) (word : ℕ)
-      → Made leaves o (calledOf (viewOf r) (hostCall.Start (record { scause = p .kept .scause; stval = p .kept .stval; htval = p .kept .htval; htinst = htinst; room = 4096 }))) later out word
+      → Laid leaves o (calledOf (viewOf r) (hostCall.Start (record { scause = p .kept .scause; stval = p .kept .stval; htval = p .kept .htval; htinst = htinst; room = 4096 }))) later out word
       → ((q : Outcome) → viewOf later ≡ q .vcpu → word ≡ replyWord (q .reply) → stepIn later t ≡ settledOf p q)
       → stepIn later t ≡ trapStarted (stateIn r p) htinst
   unfolding trapStarted stateIn
   start-stepped htinst leaves o out word m on = on _ (m .shows) (m .says)
 
   pub load-stepped : (more ask : ℕ) (leaves : Outcome → List ℕ) (word : ℕ) → ask ≡ waitingAsk (viewOf r .waiting) → ask ≡ 0
-      → Done leaves (calledOf (viewOf r) (hostCall.CompleteLoad (p .kept .word))) later word
+      → Settled leaves (calledOf (viewOf r) (hostCall.CompleteLoad (p .kept .word))) later word
       → ((q : Outcome) → viewOf later ≡ q .vcpu → word ≡ replyWord (q .reply) → stepIn later t ≡ settledOf p q)
       → stepIn later t ≡ pairTaken (stateIn r p) more
   unfolding pairTaken stateIn
@@ -139,12 +142,12 @@ module _ (p : Progress) (r : List ℕ) (later : List ℕ) (t : Next) where
   -- for a fetch, more is at most 5
   pub answer-stepped : (more ask : ℕ) (leaves : Outcome → List ℕ) (o out : List ℕ) (word : ℕ) → ask ≡ waitingAsk (viewOf r .waiting) → (ask ≡ 0 → ⊥)
       → and (eqb ask 1) (ltb 5 more) ≡ false
-      → Made leaves o (calledOf (viewOf r) (answerBy ask (p .kept .word) more)) later out word
+      → Laid leaves o (calledOf (viewOf r) (hostCall.Answer (answerFor ask (p .kept .word) more))) later out word
       → ((q : Outcome) → viewOf later ≡ q .vcpu → word ≡ replyWord (q .reply) → stepIn later t ≡ settledOf p q)
       → stepIn later t ≡ pairTaken (stateIn r p) more
   unfolding pairTaken stateIn
   answer-stepped more ask leaves o out word a z n m on =
-      on (calledOf (viewOf r) (answerBy ask (p .kept .word) more)) (m .shows) (m .says) ∙ simp (sym a, ne-eqb _ _ z, n)
+      on (calledOf (viewOf r) (hostCall.Answer (answerFor ask (p .kept .word) more))) (m .shows) (m .says) ∙ simp (sym a, ne-eqb _ _ z, n)
 
   -- and above 5 the line is unfit
   pub unfit-stepped : (more ask : ℕ) → ask ≡ waitingAsk (viewOf r .waiting) → ask ≡ 1 → 5 < more

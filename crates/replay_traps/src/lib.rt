@@ -3,7 +3,8 @@
 ghost use mathlib.Core.Path.{_≡_};
 ghost use Rattle.scope.specs.declared.machine.Outcome.{Outcome};
 ghost use Rattle.scope.specs.Record.{isIdle, waitingAsk};
-ghost use Rattle.in_place_record.specs.View.{replyWord, viewOf};
+ghost use Rattle.in_place_record.specs.View.{viewOf};
+ghost use Rattle.scope.specs.ReplyWords.{replyWord};
 ghost use Rattle.replay_scope.specs.Output.{followedBy, overAt, pairTaken, saying, settledBy, settledOf, trapStarted, unfitOf};
 ghost use Rattle.replay_traps.specs.InPlace.{stateIn, stepIn};
 ghost use Rattle.replay_traps.specs.Laws.{exitBy};

@@ -2,6 +2,7 @@
 use Prim.Native.Nat.{ℕ}
 use mathlib.Core.List.{List}
 use lib.Dec.{eqb}
+use lib.ListN.{getD}
 use Rattle.isa_decoder.specs.Length.{fetchedOf}
 use Rattle.isa_fields.specs.Fields.{rs1Field}
 use Rattle.isa_types.specs.Pick.{pick}
@@ -16,7 +17,7 @@ use Rattle.scope.specs.declared.traps.Fetch.the-variants as fetch
 use Rattle.scope.specs.declared.traps.Fetch.{Fetch}
 use Rattle.scope.specs.Ecalls.{ecallAnswer}
 use Rattle.scope.specs.GuestPageFault.{mmioOf}
-use Rattle.scope.specs.OneTrap.{answerNumber}
+use Rattle.scope.specs.OneTrap.{answerNumber, answerValues}
 use Rattle.scope.specs.Record.{valueOf, waitingAsk}
 use Rattle.scope.specs.Refusals.{refusedOf}
 use Rattle.scope.specs.VirtualInstruction.{missedEffect, missedOf, stimecmpEffect, stimecmpWord}
@@ -49,17 +50,22 @@ numbersEffect c (waiting.Load rd width s) word more = refusedOf c (waiting.Load 
 numbersEffect c waiting.FetchCsr word more = refusedOf c waiting.FetchCsr error.WrongAnswer
 numbersEffect c (waiting.FetchFault at k) word more = refusedOf c (waiting.FetchFault at k) error.WrongAnswer
 
--- an answer of the right kind; a number that it doesn't have is 0
+-- the two values of any answer but a fetch's
+unfoldable pub valuesEffect : Csrs → Waiting → Answer → Effect
+valuesEffect c n a = numbersEffect c n (getD (answerValues a) 0 0) (getD (answerValues a) 1 0)
+
+-- an answer of the right kind. (Other is of no ask's kind, so it is not met by answerEffect.)
 unfoldable pub fittingEffect : List ℕ → Csrs → Waiting → Answer → Effect
 fittingEffect x c n (answer.Fetched f) = fetchEffect x c n f
-fittingEffect x c n (answer.MaskCopied count bytes) = numbersEffect c n count bytes
-fittingEffect x c n (answer.CopiedIn count) = numbersEffect c n count 0
-fittingEffect x c n (answer.Printed error value) = numbersEffect c n error value
-fittingEffect x c n (answer.ConsoleRead error value) = numbersEffect c n error value
-fittingEffect x c n (answer.CopiedOut count) = numbersEffect c n count 0
-fittingEffect x c n answer.Emitted = numbersEffect c n 0 0
-fittingEffect x c n (answer.Char number) = numbersEffect c n number 0
-fittingEffect x c n (answer.Forwarded error value) = numbersEffect c n error value
+fittingEffect x c n (answer.MaskCopied count bytes) = valuesEffect c n (answer.MaskCopied count bytes)
+fittingEffect x c n (answer.CopiedIn count) = valuesEffect c n (answer.CopiedIn count)
+fittingEffect x c n (answer.Printed error value) = valuesEffect c n (answer.Printed error value)
+fittingEffect x c n (answer.ConsoleRead error value) = valuesEffect c n (answer.ConsoleRead error value)
+fittingEffect x c n (answer.CopiedOut count) = valuesEffect c n (answer.CopiedOut count)
+fittingEffect x c n answer.Emitted = valuesEffect c n answer.Emitted
+fittingEffect x c n (answer.Char number) = valuesEffect c n (answer.Char number)
+fittingEffect x c n (answer.Forwarded error value) = valuesEffect c n (answer.Forwarded error value)
+fittingEffect x c n answer.Other = refusedOf c n error.WrongAnswer
 
 -- no ask waits (0, which is no answer's number), or the answer is of another ask's kind: refusal 7
 unfoldable pub answerEffect : List ℕ → Csrs → Waiting → Answer → Effect

@@ -47,31 +47,6 @@ newOf hart tree =
 unfoldable pub gprReply : Vcpu → ℕ → Reply
 gprReply v index = pick (ltb index 32) (reply.Value (valueOf (v .x) index)) (reply.Error error.InvalidInput)
 
--- what each call does
-unfoldable pub effectOf : Vcpu → HostCall → Effect
-effectOf v hostCall.Setup = unlessAsking v (doneOf (setupCsrs (v .csrs)) writes.Keep (v .waiting))
-effectOf v (hostCall.SetEntry at) = unlessAsking v (doneOf (entryCsrs (v .csrs) at) writes.Keep (v .waiting))
-effectOf v (hostCall.GetGpr index) = leavesOf (v .csrs) (v .waiting) (gprReply v index)
-effectOf v (hostCall.SetGpr index value) = unlessAsking v (writeEffect (v .csrs) (v .waiting) index value)
--- a0 is the value
-effectOf v (hostCall.SetReturnValue value) = unlessAsking v (doneOf (v .csrs) (writes.One 10 value) (v .waiting))
-effectOf v (hostCall.SetNestedPageTable levels mode root) =
-    unlessAsking v (pagingEffect (v .csrs) (v .waiting) levels mode root)
-effectOf v (hostCall.SetPending vector level) = unlessAsking v (pendingEffect (v .csrs) (v .waiting) vector level)
--- latching ORs a number into hvip
-effectOf v (hostCall.LatchHvip bits) =
-    unlessAsking v (doneOf (pended (v .csrs) (bitOr (v .csrs .hs .hvip) bits)) writes.Keep (v .waiting))
--- IPI completion; sepc stays
-effectOf v (hostCall.CompleteIpi abi completion) =
-    unlessAsking v (doneOf (v .csrs) (ipiWrites abi (completionNumber completion)) (v .waiting))
-effectOf v (hostCall.Start t) = startEffect (v .x) (v .csrs) (v .waiting) t
-effectOf v (hostCall.Answer a) = answerEffect (v .x) (v .csrs) (v .waiting) a
-effectOf v (hostCall.CompleteLoad n) = completedOf (v .csrs) (v .waiting) n
-
--- the whole outcome of each call: the later record, the reply, and the array beside it
-unfoldable pub calledOf : Vcpu → HostCall → Outcome
-calledOf v c = applied v (effectOf v c)
-
 -- the n of ask 4
 unfoldable pub askedCount : EcallAsk → ℕ
 askedCount (asked.Print n) = n
@@ -92,10 +67,59 @@ printCount waiting.FetchCsr = 0
 printCount (waiting.FetchFault a k) = 0
 printCount (waiting.Ecall a) = askedCount a
 
--- the first n, or none where there are fewer
-unfoldable pub firstOf : List ℕ → ℕ → List ℕ
-firstOf l n = pick (leb n (length l)) (take n l) []
+-- n, where there are n; else 0
+unfoldable pub fitted : ℕ → ℕ → ℕ
+fitted n length = pick (leb n length) n 0
 
--- the bytes to print: the first n of the lent buffer under ask 4, if it has n; else none
+-- how many bytes of a lent buffer of this length are printed: n under ask 4, if it has n; else none
+unfoldable pub printable : Waiting → ℕ → ℕ
+printable w length = fitted (printCount w) length
+
+-- the bytes to print are the buffer's first
 unfoldable pub printedOf : Vcpu → List ℕ → List ℕ
-printedOf v buffer = firstOf buffer (printCount (v .waiting))
+printedOf v buffer = take (printable (v .waiting) (length buffer)) buffer
+
+-- what each call does
+unfoldable pub effectOf : Vcpu → HostCall → Effect
+effectOf v (hostCall.New hart tree) = doneOf (newOf hart tree .csrs) writes.Keep (newOf hart tree .waiting)
+effectOf v hostCall.Setup = unlessAsking v (doneOf (setupCsrs (v .csrs)) writes.Keep (v .waiting))
+effectOf v (hostCall.SetEntry at) = unlessAsking v (doneOf (entryCsrs (v .csrs) at) writes.Keep (v .waiting))
+effectOf v (hostCall.GetGpr index) = leavesOf (v .csrs) (v .waiting) (gprReply v index)
+effectOf v (hostCall.SetGpr index value) = unlessAsking v (writeEffect (v .csrs) (v .waiting) index value)
+-- a0 is the value
+effectOf v (hostCall.SetReturnValue value) = unlessAsking v (doneOf (v .csrs) (writes.One 10 value) (v .waiting))
+effectOf v (hostCall.SetNestedPageTable levels mode root) =
+    unlessAsking v (pagingEffect (v .csrs) (v .waiting) levels mode root)
+effectOf v (hostCall.SetPending vector level) = unlessAsking v (pendingEffect (v .csrs) (v .waiting) vector level)
+-- latching ORs a number into hvip
+effectOf v (hostCall.LatchHvip bits) =
+    unlessAsking v (doneOf (pended (v .csrs) (bitOr (v .csrs .hs .hvip) bits)) writes.Keep (v .waiting))
+-- IPI completion; sepc stays
+effectOf v (hostCall.CompleteIpi abi completion) =
+    unlessAsking v (doneOf (v .csrs) (ipiWrites abi (completionNumber completion)) (v .waiting))
+effectOf v (hostCall.Start t) = startEffect (v .x) (v .csrs) (v .waiting) t
+effectOf v (hostCall.Answer a) = answerEffect (v .x) (v .csrs) (v .waiting) a
+effectOf v (hostCall.CompleteLoad n) = completedOf (v .csrs) (v .waiting) n
+-- like a register read it changes nothing
+effectOf v (hostCall.ToPrint length) = leavesOf (v .csrs) (v .waiting) (reply.Value (printable (v .waiting) length))
+
+-- the record that a call works on: a new one, or the one that is there
+unfoldable pub baseOf : Vcpu → HostCall → Vcpu
+baseOf v (hostCall.New hart tree) = newOf hart tree
+baseOf v hostCall.Setup = v
+baseOf v (hostCall.SetEntry at) = v
+baseOf v (hostCall.GetGpr index) = v
+baseOf v (hostCall.SetGpr index value) = v
+baseOf v (hostCall.SetReturnValue value) = v
+baseOf v (hostCall.SetNestedPageTable levels mode root) = v
+baseOf v (hostCall.SetPending vector level) = v
+baseOf v (hostCall.LatchHvip bits) = v
+baseOf v (hostCall.CompleteIpi abi completion) = v
+baseOf v (hostCall.Start t) = v
+baseOf v (hostCall.Answer a) = v
+baseOf v (hostCall.CompleteLoad n) = v
+baseOf v (hostCall.ToPrint length) = v
+
+-- the whole outcome of each call: the later record, the reply, and the array beside it
+unfoldable pub calledOf : Vcpu → HostCall → Outcome
+calledOf v c = applied (baseOf v c) (effectOf v c)

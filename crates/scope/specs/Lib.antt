@@ -9,5 +9,6 @@ pub mod Decided
 pub mod VirtualInstruction
 pub mod GuestPageFault
 pub mod Calls
+pub mod ReplyWords
 pub mod Words
 pub mod WordsLaws

@@ -59,7 +59,7 @@ askNumber (ask.Emit n) = 7
 askNumber ask.GetChar = 8
 askNumber (ask.Forward e f a) = 9
 
--- 01, One trap: an answer carries its ask's number
+-- 01, One trap: an answer carries its ask's number; one that is no ask's has the first number beyond them
 unfoldable pub answerNumber : Answer → ℕ
 answerNumber (answer.Fetched f) = 1
 answerNumber (answer.MaskCopied n b) = 2
@@ -70,6 +70,7 @@ answerNumber (answer.CopiedOut n) = 6
 answerNumber answer.Emitted = 7
 answerNumber (answer.Char n) = 8
 answerNumber (answer.Forwarded e v) = 9
+answerNumber answer.Other = 10
 
 -- 01, Replay program: 0 for a word, 1 to 5 for the faults in order
 unfoldable pub fetchNumber : Fetch → ℕ
@@ -136,26 +137,31 @@ answerValues (answer.CopiedOut n) = n ∷ 0 ∷ []
 answerValues answer.Emitted = 0 ∷ 0 ∷ []
 answerValues (answer.Char n) = n ∷ 0 ∷ []
 answerValues (answer.Forwarded e v) = e ∷ v ∷ []
+answerValues answer.Other = 0 ∷ 0 ∷ []
 
--- the same back: 0 for a word (its low 32 bits), 1 to 4 for the faults with an address; any other number is unhandled (replay
--- takes 5 alone for that: pairTaken)
+-- a case by its number: this one, if it has it; else the next
+abbrev pub numbered : {A : Type 0} → (A → ℕ) → ℕ → A → A → A
+numbered number n a next = pick (eqb n (number a)) a next
+
+-- a fetch's result from its value and its number (a word's low 32 bits); any other number is unhandled. (Replay takes 5 alone
+-- for that: pairTaken.)
 unfoldable pub fetchOf : ℕ → ℕ → Fetch
 fetchOf word more =
-    pick (eqb more 0) (fetch.Word (word % 2 ^ 32))
-    (pick (eqb more 1) (fetch.Page (record { 0 = word }))
-    (pick (eqb more 2) (fetch.Access (record { 0 = word }))
-    (pick (eqb more 3) (fetch.Misaligned (record { 0 = word }))
-    (pick (eqb more 4) (fetch.GuestPage (record { 0 = word })) fetch.Unhandled))))
+    numbered fetchNumber more (fetch.Word (word % 2 ^ 32))
+    (numbered fetchNumber more (fetch.Page (record { 0 = word }))
+    (numbered fetchNumber more (fetch.Access (record { 0 = word }))
+    (numbered fetchNumber more (fetch.Misaligned (record { 0 = word }))
+    (numbered fetchNumber more (fetch.GuestPage (record { 0 = word })) fetch.Unhandled))))
 
--- the answer to the ask of this number, 1 to 9 (any other is taken for 9): a pair is error, value; ask 2 is count, bytes;
--- any single number is word
+-- an answer from its number and its values
 unfoldable pub answerFor : ℕ → ℕ → ℕ → Answer
 answerFor ask word more =
-    pick (eqb ask 1) (answer.Fetched (fetchOf word more))
-    (pick (eqb ask 2) (answer.MaskCopied word more)
-    (pick (eqb ask 3) (answer.CopiedIn word)
-    (pick (eqb ask 4) (answer.Printed word more)
-    (pick (eqb ask 5) (answer.ConsoleRead word more)
-    (pick (eqb ask 6) (answer.CopiedOut word)
-    (pick (eqb ask 7) answer.Emitted
-    (pick (eqb ask 8) (answer.Char word) (answer.Forwarded word more))))))))
+    numbered answerNumber ask (answer.Fetched (fetchOf word more))
+    (numbered answerNumber ask (answer.MaskCopied word more)
+    (numbered answerNumber ask (answer.CopiedIn word)
+    (numbered answerNumber ask (answer.Printed word more)
+    (numbered answerNumber ask (answer.ConsoleRead word more)
+    (numbered answerNumber ask (answer.CopiedOut word)
+    (numbered answerNumber ask answer.Emitted
+    (numbered answerNumber ask (answer.Char word)
+    (numbered answerNumber ask (answer.Forwarded word more) answer.Other))))))))

@@ -1,5 +1,6 @@
 -- How a call ends: an exit, an ask, an error, a refusal. 01, Refusals and errors by number.
 use Prim.Native.Nat.{ℕ}
+use mathlib.Core.Bool.{Bool, true, false}
 use lib.Dec.{eqb}
 use Rattle.isa_types.specs.Pick.{pick}
 use Rattle.scope.specs.declared.machine.Csrs.{Csrs}
@@ -28,6 +29,24 @@ errorNumber error.InvalidTrap = 4
 errorNumber error.DecodeFailed = 5
 errorNumber error.GuestMemoryFault = 6
 errorNumber error.WrongAnswer = 7
+
+-- 1, 2 and 7 are refusals; 3 to 6 end a trap
+unfoldable pub refusal : Error → Bool
+refusal error.InvalidInput = true
+refusal error.BadState = true
+refusal error.Unsupported = false
+refusal error.InvalidTrap = false
+refusal error.DecodeFailed = false
+refusal error.GuestMemoryFault = false
+refusal error.WrongAnswer = true
+
+-- the call was refused
+unfoldable pub refuses : Reply → Bool
+refuses (reply.Exit x) = false
+refuses (reply.Ask a) = false
+refuses reply.Done = false
+refuses (reply.Value n) = false
+refuses (reply.Error e) = refusal e
 
 -- a trap finished with an exit: nothing waits
 unfoldable pub finishedOf : Csrs → Event → Writes → Exit → Effect

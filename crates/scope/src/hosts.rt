@@ -5,8 +5,13 @@ use crate::traps::IpiAbi;
 use crate::traps::Trap;
 use isa_types::GuestPhysAddr;
 
-// A call on a vCPU record, with what it is given.
+// A call on a vCPU record, with what it is given. A new record is made where an old one may lie; the bytes to print are
+// told by the length of the buffer that is lent.
 pub enum HostCall {
+    New {
+        hart_id: u64,
+        dtb_addr: u64,
+    },
     Setup,
     SetEntry(GuestPhysAddr),
     GetGpr {
@@ -39,5 +44,8 @@ pub enum HostCall {
     Answer(Answer),
     CompleteLoad {
         number: u64,
+    },
+    ToPrint {
+        length: u64,
     },
 }

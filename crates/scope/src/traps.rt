@@ -103,6 +103,8 @@ pub enum Answer {
     Emitted,
     Char { number: u64 },
     Forwarded { error: u64, value: u64 },
+    // An answer whose number is no ask's: it fits none.
+    Other,
 }
 
 // Why a call was refused (InvalidInput, BadState, WrongAnswer), or a trap ended with no exit (the others).

@@ -25,17 +25,6 @@ pub fn spelled(line: &[u8; 136], w: [u64; 8]) -> bool {
     true
 }
 
-// The sum with every word in it that stands for itself: all but the waiting part.
-pub fn kept(start: u64, r: &[u64; 58]) -> u64 {
-    let mut s = start;
-    let mut i: usize = 0;
-    while i < 54 {
-        s = one(s, r[i]);
-        i += 1;
-    }
-    s
-}
-
 // The sum with every word of a part in it.
 pub fn all(start: u64, part: &[u64]) -> u64 {
     let mut s = start;

@@ -50,13 +50,23 @@ fn run(fd: i32) {
 // Makes a line's call. The line must be spelled as its own six words and what the call gave are.
 fn line_on(r: &mut [u64; 58], line: &[u8; 136]) -> bool {
     let mut w = test_call_lines::words(line);
-    let mut out = [0u64; 8];
+    let mut out = lent(w[0]);
     w[6] = made(r, &mut out, w);
     w[7] = sum(r, &out);
     test_call_lines::spelled(line, w)
 }
 
-// The call: words_call's kinds 1 to 12, and three more. 0 writes a word of the record, 13 is to_print, 14 is new.
+// The words that a call is lent for its reply: what they hold is nobody's number. A call that takes none gives zeros.
+fn lent(kind: u64) -> [u64; 8] {
+    match kind {
+        3 => [99; 8],
+        10 => [99; 8],
+        11 => [99; 8],
+        _ => [0; 8],
+    }
+}
+
+// The call: words_call's kinds; 0 writes a word of the record.
 fn made(r: &mut [u64; 58], out: &mut [u64; 8], c: [u64; 8]) -> u64 {
     let kind = c[0];
     let a = c[1];
@@ -66,7 +76,7 @@ fn made(r: &mut [u64; 58], out: &mut [u64; 8], c: [u64; 8]) -> u64 {
         3 => in_place_entry_gprs::vcpu_get_gpr(r, a, out),
         10 => started(r, out, trap_of(c)),
         11 => answered(r, out, [a, b, d]),
-        13 => printed(r, out),
+        13 => printed(r, out, a),
         _ => silent(r, kind, a, b, d),
     }
 }
@@ -84,8 +94,8 @@ fn answered(r: &mut [u64; 58], out: &mut [u64; 8], a: [u64; 3]) -> u64 {
     in_place_entry_trap::vcpu_answer(r, &a, out)
 }
 
-fn printed(r: &[u64; 58], out: &mut [u64; 8]) -> u64 {
-    out[0] = in_place_entry_load::vcpu_to_print(r);
+fn printed(r: &[u64; 58], out: &mut [u64; 8], length: u64) -> u64 {
+    out[0] = in_place_entry_load::vcpu_to_print(r, length);
     0x41
 }
 
@@ -115,10 +125,9 @@ fn written(r: &mut [u64; 58], i: u64, n: u64) -> u64 {
     0
 }
 
-// The sum of what was given and of the record. What waits goes in by its meaning.
+// The sum of what was given and of the record.
 fn sum(r: &[u64; 58], out: &[u64; 8]) -> u64 {
-    let w = words_record::waiting_words(words_record::waiting_of([r[54], r[55], r[56], r[57]]));
-    test_call_lines::all(test_call_lines::kept(test_call_lines::all(0, out), r), &w)
+    test_call_lines::all(test_call_lines::all(0, out), r)
 }
 
 fn print(what: &[u8], n: u64) {

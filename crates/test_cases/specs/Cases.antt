@@ -28,8 +28,8 @@ use Rattle.scope.specs.VirtualInstruction.{askFetchOf, injectedOf, missedEffect
 use Rattle.scope.specs.GuestPageFault.{faultEffect, faultOf, loadUnder, storeUnder, completedOf, mmioOf, pageFaultOf}
 use Rattle.scope.specs.Host.{pagingBy, pagingEffect, setupCsrs, tableCsrs}
 use Rattle.scope.specs.Classes.{argumentsOf, startEffect, classOf, classEffect}
-use Rattle.scope.specs.Answers.{answerEffect, fittingEffect, fetchEffect, wordEffect}
-use Rattle.scope.specs.Calls.{newOf, calledOf, effectOf}
+use Rattle.scope.specs.Answers.{valuesEffect, answerEffect, fittingEffect, fetchEffect, wordEffect}
+use Rattle.scope.specs.Calls.{baseOf, newOf, calledOf, effectOf}
 
 -- a record as new and setup leave it, but for sepc, the timer and the registers given
 unfoldable base : ℕ → ℕ → List ℕ → Vcpu
@@ -157,5 +157,5 @@ all (r ∷ rs) = and (equal (r .got) (r .wanted)) (all rs)
 
 -- the whole table
 cases : T (all marked)
-unfolding all equal marked row shown code base twelve calledOf effectOf newOf unlessAsking startEffect classOf classEffect ecallEffect virtualEffect mmioOf pageFaultOf argumentsOf answerEffect fittingEffect fetchEffect wordEffect pagingBy pagingEffect setupCsrs tableCsrs completedOf faultEffect faultOf loadUnder storeUnder askFetchOf injectedOf missedEffect missedOf trapStatusOf movesOf setTimerOf staysOf applied askingOf doneOf failedOf finishedOf noArgs refusedOf bumped counted eventNumber isIdle listed moved pended stored timed valueOf waitingAsk cutOf extendBy extendOf signedBy widthBits decode.decodeOf decode.decodeBy decode.loadOf decode.storeOf length.htinstOf length.transformedOf length.storeSource length.opSource csrField funct3Field opcodeField rdField rs1Field rs2Field sieOf spvpOf withBits guestPageFaultAddr hgatpOf knownCause knownException knownInterrupt exitValues exitNumber askNumber errorNumber answerNumber accessNumber widthBytes abiNumber timeEffect spiEffect hsmEffect srstEffect spanEffect consoleEffect dbcnEffect rfncEffect forwardEffect notSupportedEffect stimecmpStval stimecmpWord stimecmpBy setBits clearBits stimecmpEffect leavesOf ecallAskNumber
+unfolding all equal marked row shown code base twelve calledOf baseOf effectOf newOf unlessAsking startEffect classOf classEffect ecallEffect virtualEffect mmioOf pageFaultOf argumentsOf answerEffect fittingEffect valuesEffect fetchEffect wordEffect pagingBy pagingEffect setupCsrs tableCsrs completedOf faultEffect faultOf loadUnder storeUnder askFetchOf injectedOf missedEffect missedOf trapStatusOf movesOf setTimerOf staysOf applied askingOf doneOf failedOf finishedOf noArgs refusedOf bumped counted eventNumber isIdle listed moved pended stored timed valueOf waitingAsk cutOf extendBy extendOf signedBy widthBits decode.decodeOf decode.decodeBy decode.loadOf decode.storeOf length.htinstOf length.transformedOf length.storeSource length.opSource csrField funct3Field opcodeField rdField rs1Field rs2Field sieOf spvpOf withBits guestPageFaultAddr hgatpOf knownCause knownException knownInterrupt exitValues exitNumber askNumber errorNumber answerNumber accessNumber widthBytes abiNumber timeEffect spiEffect hsmEffect srstEffect spanEffect consoleEffect dbcnEffect rfncEffect forwardEffect notSupportedEffect stimecmpStval stimecmpWord stimecmpBy setBits clearBits stimecmpEffect leavesOf ecallAskNumber
 cases = tt

@@ -5,8 +5,8 @@ use mathlib.Core.List.{List, [], _∷_, _++_}
 use lib.Dec.{eqb, T}
 use lib.ListN.{replicate}
 use Rattle.isa_types.specs.Pick.{and}
-use Rattle.scope.specs.OneTrap.{abiNumber, accessNumber, answerNumber, exitNumber, fetchNumber, flagOf, widthBytes, answerValues, askValues, exitValues, fetchValue}
-use Rattle.scope.specs.Refusals.{errorNumber}
+use Rattle.scope.specs.OneTrap.{abiNumber, accessNumber, answerNumber, askNumber, exitNumber, fetchNumber, flagOf, widthBytes, answerValues, askValues, exitValues, fetchValue}
+use Rattle.scope.specs.Refusals.{errorNumber, refusal, refuses}
 use Rattle.scope.specs.declared.traps.Access.the-variants as access
 use Rattle.scope.specs.declared.traps.Answer.{Answer}
 use Rattle.scope.specs.declared.traps.Answer.the-variants as answer
@@ -27,9 +27,9 @@ use Rattle.scope.specs.declared.machine.Outcome.{Outcome}
 use Rattle.scope.specs.declared.machine.Vcpu.{Vcpu}
 use Rattle.scope.specs.declared.machine.Waiting.{Waiting}
 use Rattle.scope.specs.declared.machine.Waiting.the-variants as waiting
-use Rattle.scope.specs.Calls.{askedCount, firstOf, newOf, printCount, printedOf}
-use Rattle.scope.specs.Words.{askedWords, callBy, waitingWords}
-use Rattle.in_place_record.specs.View.{askCount, askedWordCount, besideOf, exitCount, hostLeaves, outOf, refusalWord, replyWord, trapLeaves, waitingCount}
+use Rattle.scope.specs.Calls.{askedCount, fitted, newOf, printCount, printable, printedOf}
+use Rattle.scope.specs.ReplyWords.{outOf, replyValues, replyWord}
+use Rattle.scope.specs.Words.{askedWordCount, askedWords, callBy, trapLeft, waitingCount, waitingLeft, waitingWords}
 use Rattle.replay_scope.specs.Lines.{bytes, lineOf, nibbleOf, pushOf}
 use Rattle.replay_digits.specs.Hex.{digitOf, hexOf}
 use Rattle.replay_lines.specs.Read.{Taken, begins, takenOf}
@@ -47,20 +47,20 @@ pair a = answerNumber a ∷ answerValues a
 unfoldable holding : Waiting → Vcpu
 holding w = record { x = newOf 0 0 .x; csrs = newOf 0 0 .csrs; counts = newOf 0 0 .counts; waiting = w }
 
--- what a reply writes over eight words of 99, with 1 to 6 in the array beside it
+-- the eight words of a reply, with 1 to 6 in the array beside it
 abbrev over : Reply → List ℕ
-over r = outOf (replicate 8 99) r (1 ∷ 2 ∷ 3 ∷ 4 ∷ 5 ∷ 6 ∷ [])
+over r = outOf r (1 ∷ 2 ∷ 3 ∷ 4 ∷ 5 ∷ 6 ∷ [])
 
--- the words behind the first n, of eight
-abbrev kept : ℕ → List ℕ
-kept n = replicate n 99
+-- the words that a reply has no number for
+abbrev blanks : ℕ → List ℕ
+blanks n = replicate n 0
 
--- a record whose waiting words are 21 to 24, and a trap on it that leaves this waiting and replies so
+-- waiting words, and a trap on them that leaves this waiting and replies so
 abbrev marked : List ℕ
-marked = replicate 54 0 ++ (21 ∷ 22 ∷ 23 ∷ 24 ∷ [])
+marked = 21 ∷ 22 ∷ 23 ∷ 24 ∷ []
 
 abbrev left : Waiting → Reply → List ℕ
-left w r = trapLeaves marked (record { vcpu = holding w; reply = r; args = [] })
+left w r = trapLeft marked r w
 
 abbrev stays : Waiting → List ℕ
 stays w = left w (reply.Exit exit.Nothing)
@@ -79,6 +79,8 @@ registerRead (hostCall.CompleteIpi k c) = []
 registerRead (hostCall.Start t) = []
 registerRead (hostCall.Answer a) = []
 registerRead (hostCall.CompleteLoad n) = []
+registerRead (hostCall.ToPrint n) = []
+registerRead (hostCall.New a b) = []
 
 -- how a line was read: its number, where it stands and the bytes that are left
 unfoldable gotNumbers : Got → List ℕ
@@ -125,30 +127,30 @@ further =
     ∷ row (printedOf (holding (waiting.Ecall (asked.Print 4))) (7 ∷ 8 ∷ 9 ∷ [])) []
     ∷ row (printedOf (holding (waiting.Ecall (asked.CopyIn 2))) (7 ∷ 8 ∷ 9 ∷ [])) []
     ∷ row (printedOf (holding waiting.Idle) (7 ∷ 8 ∷ 9 ∷ [])) []
-    -- 01, One trap, Ecalls and Guest page fault: what each exit and ask carries; every other word of `out` stays
-    ∷ row (over (reply.Exit exit.Nothing)) (kept 8)
-    ∷ row (over (reply.Exit (exit.ExternalInterrupt 7))) (7 ∷ kept 7)
-    ∷ row (over (reply.Exit (exit.SendIpi (record { mask = 7; base = 8; abi = abi.SbiV02 })))) (7 ∷ 8 ∷ 1 ∷ kept 5)
-    ∷ row (over (reply.Exit (exit.CpuUp 7 (record { 0 = 8 }) 9))) (7 ∷ 8 ∷ 9 ∷ kept 5)
-    ∷ row (over (reply.Exit (exit.CpuDown 0))) (0 ∷ kept 7)
-    ∷ row (over (reply.Exit exit.Halt)) (kept 8)
-    ∷ row (over (reply.Exit (exit.Hypercall 7))) (7 ∷ 99 ∷ 1 ∷ 2 ∷ 3 ∷ 4 ∷ 5 ∷ 6 ∷ [])
-    ∷ row (over (reply.Exit exit.SystemDown)) (kept 8)
-    ∷ row (over (reply.Exit (exit.NestedPageFault (record { 0 = 7 }) access.Write))) (7 ∷ 2 ∷ kept 6)
-    ∷ row (over (reply.Exit (exit.MmioRead (record { 0 = 7 }) width.Word))) (7 ∷ 4 ∷ kept 6)
-    ∷ row (over (reply.Exit (exit.MmioWrite (record { 0 = 7 }) width.Half 9))) (7 ∷ 2 ∷ 9 ∷ kept 5)
-    ∷ row (over (reply.Ask (ask.Fetch (record { 0 = 7 }) true))) (7 ∷ 1 ∷ kept 6)
-    ∷ row (over (reply.Ask (ask.CopyMask (record { 0 = 7 })))) (7 ∷ kept 7)
-    ∷ row (over (reply.Ask (ask.CopyIn (record { 0 = 7 }) 8))) (7 ∷ 8 ∷ kept 6)
-    ∷ row (over (reply.Ask (ask.Print 7))) (7 ∷ kept 7)
-    ∷ row (over (reply.Ask (ask.ReadConsole 7))) (7 ∷ kept 7)
-    ∷ row (over (reply.Ask (ask.CopyOut (record { 0 = 7 }) 8))) (7 ∷ 8 ∷ kept 6)
-    ∷ row (over (reply.Ask (ask.Emit 7))) (7 ∷ kept 7)
-    ∷ row (over (reply.Ask ask.GetChar)) (kept 8)
+    -- 01, One trap, Ecalls and Guest page fault: what each exit and ask carries; every other word of `out` is 0
+    ∷ row (over (reply.Exit exit.Nothing)) (blanks 8)
+    ∷ row (over (reply.Exit (exit.ExternalInterrupt 7))) (7 ∷ blanks 7)
+    ∷ row (over (reply.Exit (exit.SendIpi (record { mask = 7; base = 8; abi = abi.SbiV02 })))) (7 ∷ 8 ∷ 1 ∷ blanks 5)
+    ∷ row (over (reply.Exit (exit.CpuUp 7 (record { 0 = 8 }) 9))) (7 ∷ 8 ∷ 9 ∷ blanks 5)
+    ∷ row (over (reply.Exit (exit.CpuDown 0))) (0 ∷ blanks 7)
+    ∷ row (over (reply.Exit exit.Halt)) (blanks 8)
+    ∷ row (over (reply.Exit (exit.Hypercall 7))) (7 ∷ 0 ∷ 1 ∷ 2 ∷ 3 ∷ 4 ∷ 5 ∷ 6 ∷ [])
+    ∷ row (over (reply.Exit exit.SystemDown)) (blanks 8)
+    ∷ row (over (reply.Exit (exit.NestedPageFault (record { 0 = 7 }) access.Write))) (7 ∷ 2 ∷ blanks 6)
+    ∷ row (over (reply.Exit (exit.MmioRead (record { 0 = 7 }) width.Word))) (7 ∷ 4 ∷ blanks 6)
+    ∷ row (over (reply.Exit (exit.MmioWrite (record { 0 = 7 }) width.Half 9))) (7 ∷ 2 ∷ 9 ∷ blanks 5)
+    ∷ row (over (reply.Ask (ask.Fetch (record { 0 = 7 }) true))) (7 ∷ 1 ∷ blanks 6)
+    ∷ row (over (reply.Ask (ask.CopyMask (record { 0 = 7 })))) (7 ∷ blanks 7)
+    ∷ row (over (reply.Ask (ask.CopyIn (record { 0 = 7 }) 8))) (7 ∷ 8 ∷ blanks 6)
+    ∷ row (over (reply.Ask (ask.Print 7))) (7 ∷ blanks 7)
+    ∷ row (over (reply.Ask (ask.ReadConsole 7))) (7 ∷ blanks 7)
+    ∷ row (over (reply.Ask (ask.CopyOut (record { 0 = 7 }) 8))) (7 ∷ 8 ∷ blanks 6)
+    ∷ row (over (reply.Ask (ask.Emit 7))) (7 ∷ blanks 7)
+    ∷ row (over (reply.Ask ask.GetChar)) (blanks 8)
     ∷ row (over (reply.Ask (ask.Forward 7 8 (record { a0 = 10; a1 = 11; a2 = 12; a3 = 13; a4 = 14; a5 = 15 })))) (7 ∷ 8 ∷ 10 ∷ 11 ∷ 12 ∷ 13 ∷ 14 ∷ 15 ∷ [])
-    ∷ row (over reply.Done) (kept 8)
-    ∷ row (over (reply.Value 7)) (7 ∷ kept 7)
-    ∷ row (over (reply.Error error.BadState)) (kept 8)
+    ∷ row (over reply.Done) (blanks 8)
+    ∷ row (over (reply.Value 7)) (7 ∷ blanks 7)
+    ∷ row (over (reply.Error error.BadState)) (blanks 8)
     -- 01, Ecalls: PMU 0x504D55; registers.rs: the delegation masks, as oracle/diff reads them off the published Rust
     ∷ row (eidPmu ∷ delegatedExceptions ∷ delegatedInterrupts ∷ []) (0x50_4D55 ∷ 0xB10D ∷ 0x444 ∷ [])
     -- 01, Replay program: a line is its key, 16 lowercase hex digits and LF
@@ -168,9 +170,10 @@ further =
     ∷ row (flagOf (begins (bytes "a0=") (bytes "a0")) ∷ flagOf (begins (bytes "a0=") (bytes "b0=")) ∷ flagOf (begins (bytes "a0=") (bytes "a1=")) ∷ []) (0 ∷ 0 ∷ 0 ∷ [])
     -- a text at a place of a buffer: the bytes around it stay
     ∷ row (putAt (1 ∷ 2 ∷ 3 ∷ 4 ∷ 5 ∷ []) 1 (8 ∷ 9 ∷ [])) (1 ∷ 8 ∷ 9 ∷ 4 ∷ 5 ∷ [])
-    -- the words that say refusal 1, 2 or 7, and some that say an exit, done, and errors 3 and 6
-    ∷ row (flagOf (refusalWord 0x101) ∷ flagOf (refusalWord 0x102) ∷ flagOf (refusalWord 0x107) ∷ []) (1 ∷ 1 ∷ 1 ∷ [])
-    ∷ row (flagOf (refusalWord 0) ∷ flagOf (refusalWord 0x40) ∷ flagOf (refusalWord 0x103) ∷ flagOf (refusalWord 0x106) ∷ flagOf (refusalWord 0x100) ∷ []) (0 ∷ 0 ∷ 0 ∷ 0 ∷ 0 ∷ [])
+    -- refusals are 1, 2 and 7
+    ∷ row (flagOf (refuses (reply.Error error.InvalidInput)) ∷ flagOf (refuses (reply.Error error.BadState)) ∷ flagOf (refuses (reply.Error error.WrongAnswer)) ∷ []) (1 ∷ 1 ∷ 1 ∷ [])
+    ∷ row (flagOf (refuses (reply.Exit exit.Nothing)) ∷ flagOf (refuses reply.Done) ∷ flagOf (refuses (reply.Value 1)) ∷ flagOf (refuses (reply.Ask ask.GetChar)) ∷ []) (0 ∷ 0 ∷ 0 ∷ 0 ∷ [])
+    ∷ row (flagOf (refuses (reply.Error error.Unsupported)) ∷ flagOf (refuses (reply.Error error.InvalidTrap)) ∷ flagOf (refuses (reply.Error error.DecodeFailed)) ∷ flagOf (refuses (reply.Error error.GuestMemoryFault)) ∷ []) (0 ∷ 0 ∷ 0 ∷ 0 ∷ [])
     -- the waiting words that a trap leaves: its kind and what the kind carries; the others stay
     ∷ row (stays waiting.Idle) (0 ∷ 22 ∷ 23 ∷ 24 ∷ [])
     ∷ row (stays (waiting.Load 5 width.Half true)) (1 ∷ 5 ∷ 2 ∷ 1 ∷ [])
@@ -188,10 +191,12 @@ further =
     -- a refusal leaves them as they were, an error does not; a host's own call leaves them as they were
     ∷ row (left waiting.Idle (reply.Error error.WrongAnswer)) (21 ∷ 22 ∷ 23 ∷ 24 ∷ [])
     ∷ row (left waiting.Idle (reply.Error error.Unsupported)) (0 ∷ 22 ∷ 23 ∷ 24 ∷ [])
-    ∷ row (hostLeaves marked (record { vcpu = holding waiting.Idle; reply = reply.Done; args = [] })) (21 ∷ 22 ∷ 23 ∷ 24 ∷ [])
+    ∷ row (waitingLeft hostCall.Setup marked reply.Done waiting.Idle) (21 ∷ 22 ∷ 23 ∷ 24 ∷ [])
+    ∷ row (waitingLeft (hostCall.CompleteLoad 0) marked reply.Done waiting.Idle) (0 ∷ 22 ∷ 23 ∷ 24 ∷ [])
+    ∷ row (waitingLeft (hostCall.New 1 2) marked reply.Done waiting.Idle) (0 ∷ 0 ∷ 0 ∷ 0 ∷ [])
     -- docs/DECISIONS.md: a call of no known kind reads a register that isn't there
     ∷ row (registerRead (callBy 0 1 2 3 4 5)) (32 ∷ [])
-    ∷ row (registerRead (callBy 13 1 2 3 4 5)) (32 ∷ [])
+    ∷ row (registerRead (callBy 15 1 2 3 4 5)) (32 ∷ [])
     ∷ []
 
 equal : List ℕ → List ℕ → Bool
@@ -206,5 +211,5 @@ all (r ∷ rs) = and (equal (r .got) (r .wanted)) (all rs)
 
 -- the whole table
 table : T (all further)
-unfolding all equal further row holding registerRead callBy gotNumbers digitNumbers taken answerNumber answerValues fetchNumber fetchValue flagOf firstOf newOf printCount askedCount printedOf delegatedExceptions delegatedInterrupts takenOf lineOf digitOf nibbleOf pushOf hexOf outOf hostLeaves trapLeaves waitingCount askedWordCount waitingWords askedWords refusalWord replyWord errorNumber putAt exitCount askCount besideOf exitValues askValues exitNumber accessNumber abiNumber widthBytes
+unfolding all equal further row holding registerRead callBy gotNumbers digitNumbers taken answerNumber answerValues fetchNumber fetchValue flagOf fitted printable newOf printCount askedCount printedOf delegatedExceptions delegatedInterrupts takenOf lineOf digitOf nibbleOf pushOf hexOf outOf replyValues trapLeft waitingLeft waitingCount askedWordCount waitingWords askedWords refusal refuses replyWord errorNumber putAt exitValues askValues exitNumber askNumber accessNumber abiNumber widthBytes
 table = tt

@@ -17,6 +17,7 @@ use Rattle.scope.specs.Ecalls as theScopeEcalls
 use Rattle.scope.specs.VirtualInstruction as theScopeVirtualInstruction
 use Rattle.scope.specs.GuestPageFault as theScopeGuestPageFault
 use Rattle.scope.specs.Calls as theScopeCalls
+use Rattle.scope.specs.ReplyWords as theScopeReplyWords
 use Rattle.scope.specs.Words as theScopeWords
 use Rattle.words_call.specs.Words as theWordsCallWords
 use Rattle.words_entry.specs.Words as theWordsEntryWords
@@ -24,15 +25,15 @@ use Rattle.in_place_answer.specs.Words as theInPlaceAnswerWords
 use Rattle.in_place_entry_trap.specs.Calls as theInPlaceEntryTrapCalls
 use Rattle.in_place_record.specs.View as theInPlaceRecordView
 use Rattle.in_place_start.specs.Words as theInPlaceStartWords
-use Rattle.scope.specs.declared.machine.Vcpu.{Vcpu}
+use Rattle.scope.specs.declared.hosts.HostCall.{HostCall}
 use Rattle.scope.specs.declared.machine.Outcome.{Outcome}
-use Rattle.in_place_record.specs.View.{recordOf, viewOf, outOf, replyWord}
+use Rattle.scope.specs.declared.machine.Record.{Record}
+use Rattle.in_place_record.specs.View.{recordOf, viewOf}
+use Rattle.scope.specs.ReplyWords.{outOf, replyWord}
 use Rattle.words_call.specs.declared.After.{After}
-use Rattle.scope.specs.Words.{packOf}
-use Rattle.scope.specs.Words.{callBy}
+use Rattle.scope.specs.Words.{callBy, leftBy}
 use Rattle.words_entry.specs.Words.{exportedOf}
-use Rattle.scope.specs.Calls.{calledOf}
-use Rattle.scope.specs.Calls.{newOf, printCount}
+use Rattle.scope.specs.Calls.{calledOf, printable}
 use Rattle.in_place_entry_trap.specs.Calls.{answerCall, startCall}
 use lib.ListN.{drop, getD, replicate, set}
 use Prim.Native.Nat.{ℕ, _+_, _-_, _*_, _%_, _^_}
@@ -42,12 +43,16 @@ use lib.Dec.{eqb, ltb, T}
 use Rattle.test_definitions.specs.Same.{both, equal}
 
 -- the 58 words of a record
-abbrev words : Vcpu → List ℕ
-words v = packOf v .x ++ (packOf v .csrs ++ (packOf v .counts ++ packOf v .waiting))
+abbrev words : Record → List ℕ
+words r = r .x ++ (r .csrs ++ (r .counts ++ r .waiting))
 
--- the word returned, the eight words given, the array beside the reply, the record after it
-abbrev shown : Outcome → List ℕ
-shown o = replyWord (o .reply) ∷ (outOf (replicate 8 0) (o .reply) (o .args) ++ (o .args ++ words (o .vcpu)))
+-- the word returned, the eight words given, the array beside the reply, the words of the record after it
+abbrev left : List ℕ → HostCall → Outcome → List ℕ
+left r c o = replyWord (o .reply) ∷ (outOf (o .reply) (o .args) ++ (o .args ++ words (leftBy (recordOf r) c o)))
+
+-- the same of a call on 58 words
+abbrev shown : List ℕ → HostCall → List ℕ
+shown r c = left r c (calledOf (viewOf r) c)
 
 -- 01: a hypercall's array stands beside the exit and is all 0 beside any other
 abbrev beside : Bool → List ℕ → List ℕ
@@ -60,9 +65,7 @@ wanted code out after = code ∷ (out ++ (beside (eqb code 6) out ++ after))
 
 -- the same through the words of the exported entry: a reply's kind and number, its values, the array, the record
 abbrev reported : After → List ℕ
-reported a =
-    a .reply .kind ∷ a .reply .number
-    ∷ (a .reply .values ++ (a .reply .args ++ (a .rec .x ++ (a .rec .csrs ++ (a .rec .counts ++ a .rec .waiting)))))
+reported a = a .reply .kind ∷ a .reply .number ∷ (a .reply .values ++ (a .reply .args ++ words (a .rec)))
 
 abbrev exported : ℕ → List ℕ → List ℕ → List ℕ
 exported k c r = reported (exportedOf (recordOf r) (record { kind = k; numbers = c }))
@@ -84,25 +87,22 @@ told code out after =
     kindOf code ∷ numberOf code
     ∷ (choose (eqb code 6) (getD out 0 0 ∷ replicate 7 0) out ++ (beside (eqb code 6) out ++ after))
 
--- the entry's call, the count to print, and a new record
+-- the entry's call, and the count to print
 abbrev called : ℕ → List ℕ → List ℕ → List ℕ
-called k c r = shown (calledOf (viewOf r) (callBy k (getD c 0 0) (getD c 1 0) (getD c 2 0) (getD c 3 0) (getD c 4 0)))
+called k c r = shown r (callBy k (getD c 0 0) (getD c 1 0) (getD c 2 0) (getD c 3 0) (getD c 4 0))
 
 abbrev started : ℕ → List ℕ → List ℕ → List ℕ
-started k c r = shown (calledOf (viewOf r) (startCall c))
+started k c r = shown r (startCall c)
 
 abbrev answered : ℕ → List ℕ → List ℕ → List ℕ
-answered k c r = shown (calledOf (viewOf r) (answerCall c))
+answered k c r = shown r (answerCall c)
 
 abbrev printed : ℕ → List ℕ → List ℕ → List ℕ
-printed k c r = wanted 0x41 (set (replicate 8 0) 0 (printCount (viewOf r .waiting))) (words (viewOf r))
-
-abbrev fresh : ℕ → List ℕ → List ℕ → List ℕ
-fresh k c r = wanted 0x40 (replicate 8 0) (words (newOf (getD c 0 0) (getD c 1 0)))
+printed k c r = wanted 0x41 (set (replicate 8 0) 0 (printable (viewOf r .waiting) (getD c 0 0))) r
 
 -- a record whose words are all different
 abbrev spread : List ℕ
-spread = 81985529216486895 ∷ 163971058432973790 ∷ 245956587649460685 ∷ 327942116865947580 ∷ 409927646082434475 ∷ 491913175298921370 ∷ 573898704515408265 ∷ 655884233731895160 ∷ 737869762948382055 ∷ 819855292164868950 ∷ 901840821381355845 ∷ 983826350597842740 ∷ 1065811879814329635 ∷ 1147797409030816530 ∷ 1229782938247303425 ∷ 1311768467463790320 ∷ 1393753996680277215 ∷ 1475739525896764110 ∷ 1557725055113251005 ∷ 1639710584329737900 ∷ 1721696113546224795 ∷ 1803681642762711690 ∷ 1885667171979198585 ∷ 1967652701195685480 ∷ 2049638230412172375 ∷ 2131623759628659270 ∷ 2213609288845146165 ∷ 2295594818061633060 ∷ 2377580347278119955 ∷ 2459565876494606850 ∷ 2541551405711093745 ∷ 2623536934927580640 ∷ 2705522464144067535 ∷ 2787507993360554430 ∷ 2869493522577041325 ∷ 2951479051793528220 ∷ 3033464581010015115 ∷ 3115450110226502010 ∷ 3197435639442988905 ∷ 3279421168659475800 ∷ 3361406697875962695 ∷ 3443392227092449590 ∷ 3525377756308936485 ∷ 3607363285525423380 ∷ 3689348814741910275 ∷ 3771334343958397170 ∷ 3853319873174884065 ∷ 3935305402391370960 ∷ 4017290931607857855 ∷ 4099276460824344750 ∷ 4181261990040831645 ∷ 4263247519257318540 ∷ 4345233048473805435 ∷ 4427218577690292330 ∷ 0 ∷ 0 ∷ 0 ∷ 0 ∷ []
+spread = 81985529216486895 ∷ 163971058432973790 ∷ 245956587649460685 ∷ 327942116865947580 ∷ 409927646082434475 ∷ 491913175298921370 ∷ 573898704515408265 ∷ 655884233731895160 ∷ 737869762948382055 ∷ 819855292164868950 ∷ 901840821381355845 ∷ 983826350597842740 ∷ 1065811879814329635 ∷ 1147797409030816530 ∷ 1229782938247303425 ∷ 1311768467463790320 ∷ 1393753996680277215 ∷ 1475739525896764110 ∷ 1557725055113251005 ∷ 1639710584329737900 ∷ 1721696113546224795 ∷ 1803681642762711690 ∷ 1885667171979198585 ∷ 1967652701195685480 ∷ 2049638230412172375 ∷ 2131623759628659270 ∷ 2213609288845146165 ∷ 2295594818061633060 ∷ 2377580347278119955 ∷ 2459565876494606850 ∷ 2541551405711093745 ∷ 2623536934927580640 ∷ 2705522464144067535 ∷ 2787507993360554430 ∷ 2869493522577041325 ∷ 2951479051793528220 ∷ 3033464581010015115 ∷ 3115450110226502010 ∷ 3197435639442988905 ∷ 3279421168659475800 ∷ 3361406697875962695 ∷ 3443392227092449590 ∷ 3525377756308936485 ∷ 3607363285525423380 ∷ 3689348814741910275 ∷ 3771334343958397170 ∷ 3853319873174884065 ∷ 3935305402391370960 ∷ 4017290931607857855 ∷ 4099276460824344750 ∷ 4181261990040831645 ∷ 4263247519257318540 ∷ 4345233048473805435 ∷ 4427218577690292330 ∷ 0 ∷ 4591189636123266120 ∷ 4673175165339753015 ∷ 4755160694556239910 ∷ []
 
 -- places of the record, each with the word that stands there
 abbrev put : List ℕ → List ℕ → List ℕ
@@ -346,1661 +346,1766 @@ abbrev row-74 : Bool
 row-74 = calls called 9 (0 ∷ 0 ∷ 0 ∷ 0 ∷ 0 ∷ []) ([]) 0x40 ([]) (10 ∷ 0 ∷ [])
 
 abbrev row-75 : Bool
-row-75 = calls called 9 (0 ∷ 1 ∷ 0 ∷ 0 ∷ 0 ∷ []) ([]) 0x40 ([]) (10 ∷ 0xfffffffffffffffd ∷ [])
+row-75 = calls called 9 (0 ∷ 0xfffffffffffffffd ∷ 0 ∷ 0 ∷ 0 ∷ []) ([]) 0x40 ([]) (10 ∷ 0xfffffffffffffffd ∷ [])
 
 abbrev row-76 : Bool
-row-76 = calls called 9 (0 ∷ 2 ∷ 0 ∷ 0 ∷ 0 ∷ []) ([]) 0x40 ([]) (10 ∷ 0xffffffffffffffff ∷ [])
+row-76 = calls called 9 (0 ∷ 0xffffffffffffffff ∷ 0 ∷ 0 ∷ 0 ∷ []) ([]) 0x40 ([]) (10 ∷ 0xffffffffffffffff ∷ [])
 
 abbrev row-77 : Bool
-row-77 = calls called 9 (0 ∷ 3 ∷ 0 ∷ 0 ∷ 0 ∷ []) ([]) 0x40 ([]) (10 ∷ 0xffffffffffffffff ∷ [])
+row-77 = calls called 9 (0 ∷ 1 ∷ 0 ∷ 0 ∷ 0 ∷ []) ([]) 0x40 ([]) (10 ∷ 0xffffffffffffffff ∷ [])
 
 abbrev row-78 : Bool
-row-78 = calls called 9 (1 ∷ 0 ∷ 0 ∷ 0 ∷ 0 ∷ []) ([]) 0x40 ([]) (10 ∷ 0 ∷ 11 ∷ 0 ∷ [])
+row-78 = calls called 9 (0 ∷ 2 ∷ 0 ∷ 0 ∷ 0 ∷ []) ([]) 0x40 ([]) (10 ∷ 0xffffffffffffffff ∷ [])
 
 abbrev row-79 : Bool
-row-79 = calls called 9 (1 ∷ 1 ∷ 0 ∷ 0 ∷ 0 ∷ []) ([]) 0x40 ([]) (10 ∷ 0xfffffffffffffffd ∷ 11 ∷ 0 ∷ [])
+row-79 = calls called 9 (0 ∷ 0xfffffffffffffffe ∷ 0 ∷ 0 ∷ 0 ∷ []) ([]) 0x40 ([]) (10 ∷ 0xffffffffffffffff ∷ [])
 
 abbrev row-80 : Bool
-row-80 = calls called 9 (1 ∷ 2 ∷ 0 ∷ 0 ∷ 0 ∷ []) ([]) 0x40 ([]) (10 ∷ 0xffffffffffffffff ∷ 11 ∷ 0 ∷ [])
+row-80 = calls called 9 (1 ∷ 0 ∷ 0 ∷ 0 ∷ 0 ∷ []) ([]) 0x40 ([]) (10 ∷ 0 ∷ 11 ∷ 0 ∷ [])
 
 abbrev row-81 : Bool
-row-81 = calls called 9 (1 ∷ 3 ∷ 0 ∷ 0 ∷ 0 ∷ []) ([]) 0x40 ([]) (10 ∷ 0xffffffffffffffff ∷ 11 ∷ 0 ∷ [])
+row-81 = calls called 9 (1 ∷ 0xfffffffffffffffd ∷ 0 ∷ 0 ∷ 0 ∷ []) ([]) 0x40 ([]) (10 ∷ 0xfffffffffffffffd ∷ 11 ∷ 0 ∷ [])
 
 abbrev row-82 : Bool
-row-82 = calls called 9 (2 ∷ 0 ∷ 0 ∷ 0 ∷ 0 ∷ []) ([]) 0x40 ([]) (10 ∷ 0 ∷ 11 ∷ 0 ∷ [])
+row-82 = calls called 9 (1 ∷ 0xffffffffffffffff ∷ 0 ∷ 0 ∷ 0 ∷ []) ([]) 0x40 ([]) (10 ∷ 0xffffffffffffffff ∷ 11 ∷ 0 ∷ [])
 
 abbrev row-83 : Bool
-row-83 = calls called 9 (2 ∷ 1 ∷ 0 ∷ 0 ∷ 0 ∷ []) ([]) 0x40 ([]) (10 ∷ 0xfffffffffffffffd ∷ 11 ∷ 0 ∷ [])
+row-83 = calls called 9 (1 ∷ 1 ∷ 0 ∷ 0 ∷ 0 ∷ []) ([]) 0x40 ([]) (10 ∷ 0xffffffffffffffff ∷ 11 ∷ 0 ∷ [])
 
 abbrev row-84 : Bool
-row-84 = calls called 9 (2 ∷ 2 ∷ 0 ∷ 0 ∷ 0 ∷ []) ([]) 0x40 ([]) (10 ∷ 0xffffffffffffffff ∷ 11 ∷ 0 ∷ [])
+row-84 = calls called 9 (1 ∷ 2 ∷ 0 ∷ 0 ∷ 0 ∷ []) ([]) 0x40 ([]) (10 ∷ 0xffffffffffffffff ∷ 11 ∷ 0 ∷ [])
 
 abbrev row-85 : Bool
-row-85 = calls called 9 (2 ∷ 3 ∷ 0 ∷ 0 ∷ 0 ∷ []) ([]) 0x40 ([]) (10 ∷ 0xffffffffffffffff ∷ 11 ∷ 0 ∷ [])
+row-85 = calls called 9 (1 ∷ 0xfffffffffffffffe ∷ 0 ∷ 0 ∷ 0 ∷ []) ([]) 0x40 ([]) (10 ∷ 0xffffffffffffffff ∷ 11 ∷ 0 ∷ [])
 
 abbrev row-86 : Bool
-row-86 = gives (fresh 14 (5 ∷ 6 ∷ 0 ∷ 0 ∷ 0 ∷ [])) ([]) 0x40 ([]) (0 ∷ 0 ∷ 1 ∷ 0 ∷ 2 ∷ 0 ∷ 3 ∷ 0 ∷ 4 ∷ 0 ∷ 5 ∷ 0 ∷ 6 ∷ 0 ∷ 7 ∷ 0 ∷ 8 ∷ 0 ∷ 9 ∷ 0 ∷ 10 ∷ 5 ∷ 11 ∷ 6 ∷ 12 ∷ 0 ∷ 13 ∷ 0 ∷ 14 ∷ 0 ∷ 15 ∷ 0 ∷ 16 ∷ 0 ∷ 17 ∷ 0 ∷ 18 ∷ 0 ∷ 19 ∷ 0 ∷ 20 ∷ 0 ∷ 21 ∷ 0 ∷ 22 ∷ 0 ∷ 23 ∷ 0 ∷ 24 ∷ 0 ∷ 25 ∷ 0 ∷ 26 ∷ 0 ∷ 27 ∷ 0 ∷ 28 ∷ 0 ∷ 29 ∷ 0 ∷ 30 ∷ 0 ∷ 31 ∷ 0 ∷ 32 ∷ 0 ∷ 33 ∷ 0 ∷ 34 ∷ 0 ∷ 35 ∷ 0 ∷ 36 ∷ 0 ∷ 37 ∷ 0 ∷ 38 ∷ 0 ∷ 39 ∷ 0 ∷ 40 ∷ 0 ∷ 41 ∷ 0 ∷ 42 ∷ 0 ∷ 43 ∷ 0 ∷ 44 ∷ 0 ∷ 45 ∷ 0 ∷ 46 ∷ 0 ∷ 47 ∷ 0 ∷ 48 ∷ 0 ∷ 49 ∷ 0 ∷ 50 ∷ 0 ∷ 51 ∷ 0 ∷ 52 ∷ 0 ∷ 53 ∷ 0 ∷ [])
+row-86 = calls called 9 (2 ∷ 0 ∷ 0 ∷ 0 ∷ 0 ∷ []) ([]) 0x40 ([]) (10 ∷ 0 ∷ 11 ∷ 0 ∷ [])
 
 abbrev row-87 : Bool
-row-87 = calls started 10 (0xa ∷ 1 ∷ 2 ∷ 3 ∷ 0x40 ∷ []) (10 ∷ 0x141 ∷ 12 ∷ 3 ∷ 16 ∷ 0 ∷ 17 ∷ 0 ∷ []) 0x0 ([]) (10 ∷ 0 ∷ 32 ∷ 0x258bf258bf258bd3 ∷ 40 ∷ 0x141 ∷ 45 ∷ 0x3456789abcdf00f3 ∷ [])
+row-87 = calls called 9 (2 ∷ 0xfffffffffffffffd ∷ 0 ∷ 0 ∷ 0 ∷ []) ([]) 0x40 ([]) (10 ∷ 0xfffffffffffffffd ∷ 11 ∷ 0 ∷ [])
 
 abbrev row-88 : Bool
-row-88 = calls started 10 (0xa ∷ 1 ∷ 2 ∷ 3 ∷ 0x40 ∷ []) (10 ∷ 0x141 ∷ 12 ∷ 3 ∷ 16 ∷ 0 ∷ 17 ∷ 1 ∷ []) 0x27 (0 ∷ 0x141 ∷ []) (54 ∷ 9 ∷ [])
+row-88 = calls called 9 (2 ∷ 0xffffffffffffffff ∷ 0 ∷ 0 ∷ 0 ∷ []) ([]) 0x40 ([]) (10 ∷ 0xffffffffffffffff ∷ 11 ∷ 0 ∷ [])
 
 abbrev row-89 : Bool
-row-89 = calls started 10 (0xa ∷ 1 ∷ 2 ∷ 3 ∷ 0x40 ∷ []) (10 ∷ 0x141 ∷ 12 ∷ 3 ∷ 16 ∷ 0 ∷ 17 ∷ 2 ∷ []) 0x28 ([]) (54 ∷ 0xb ∷ [])
+row-89 = calls called 9 (2 ∷ 1 ∷ 0 ∷ 0 ∷ 0 ∷ []) ([]) 0x40 ([]) (10 ∷ 0xffffffffffffffff ∷ 11 ∷ 0 ∷ [])
 
 abbrev row-90 : Bool
-row-90 = calls started 10 (0xa ∷ 1 ∷ 2 ∷ 3 ∷ 0x40 ∷ []) (10 ∷ 0x141 ∷ 12 ∷ 3 ∷ 16 ∷ 0 ∷ 17 ∷ 3 ∷ []) 0x0 ([]) (10 ∷ 0 ∷ 32 ∷ 0x258bf258bf258bd3 ∷ 42 ∷ 0x30eca8641fdb9721 ∷ [])
+row-90 = calls called 9 (2 ∷ 2 ∷ 0 ∷ 0 ∷ 0 ∷ []) ([]) 0x40 ([]) (10 ∷ 0xffffffffffffffff ∷ 11 ∷ 0 ∷ [])
 
 abbrev row-91 : Bool
-row-91 = calls started 10 (0xa ∷ 1 ∷ 2 ∷ 3 ∷ 0x40 ∷ []) (10 ∷ 0x141 ∷ 12 ∷ 3 ∷ 16 ∷ 0 ∷ 17 ∷ 4 ∷ []) 0x22 (0 ∷ 0x141 ∷ []) (54 ∷ 4 ∷ [])
+row-91 = calls called 9 (2 ∷ 0xfffffffffffffffe ∷ 0 ∷ 0 ∷ 0 ∷ []) ([]) 0x40 ([]) (10 ∷ 0xffffffffffffffff ∷ 11 ∷ 0 ∷ [])
 
 abbrev row-92 : Bool
-row-92 = calls started 10 (0xa ∷ 1 ∷ 2 ∷ 3 ∷ 0x40 ∷ []) (10 ∷ 0x141 ∷ 12 ∷ 3 ∷ 16 ∷ 0 ∷ 17 ∷ 5 ∷ []) 0x0 ([]) (32 ∷ 0x258bf258bf258bd3 ∷ [])
+row-92 = calls called 14 (5 ∷ 6 ∷ 0 ∷ 0 ∷ 0 ∷ []) ([]) 0x40 ([]) (0 ∷ 0 ∷ 1 ∷ 0 ∷ 2 ∷ 0 ∷ 3 ∷ 0 ∷ 4 ∷ 0 ∷ 5 ∷ 0 ∷ 6 ∷ 0 ∷ 7 ∷ 0 ∷ 8 ∷ 0 ∷ 9 ∷ 0 ∷ 10 ∷ 5 ∷ 11 ∷ 6 ∷ 12 ∷ 0 ∷ 13 ∷ 0 ∷ 14 ∷ 0 ∷ 15 ∷ 0 ∷ 16 ∷ 0 ∷ 17 ∷ 0 ∷ 18 ∷ 0 ∷ 19 ∷ 0 ∷ 20 ∷ 0 ∷ 21 ∷ 0 ∷ 22 ∷ 0 ∷ 23 ∷ 0 ∷ 24 ∷ 0 ∷ 25 ∷ 0 ∷ 26 ∷ 0 ∷ 27 ∷ 0 ∷ 28 ∷ 0 ∷ 29 ∷ 0 ∷ 30 ∷ 0 ∷ 31 ∷ 0 ∷ 32 ∷ 0 ∷ 33 ∷ 0 ∷ 34 ∷ 0 ∷ 35 ∷ 0 ∷ 36 ∷ 0 ∷ 37 ∷ 0 ∷ 38 ∷ 0 ∷ 39 ∷ 0 ∷ 40 ∷ 0 ∷ 41 ∷ 0 ∷ 42 ∷ 0 ∷ 43 ∷ 0 ∷ 44 ∷ 0 ∷ 45 ∷ 0 ∷ 46 ∷ 0 ∷ 47 ∷ 0 ∷ 48 ∷ 0 ∷ 49 ∷ 0 ∷ 50 ∷ 0 ∷ 51 ∷ 0 ∷ 52 ∷ 0 ∷ 53 ∷ 0 ∷ 55 ∷ 0 ∷ 56 ∷ 0 ∷ 57 ∷ 0 ∷ [])
 
 abbrev row-93 : Bool
-row-93 = calls started 10 (0xa ∷ 1 ∷ 2 ∷ 3 ∷ 0x40 ∷ []) (10 ∷ 0x141 ∷ 12 ∷ 3 ∷ 16 ∷ 0 ∷ 17 ∷ 6 ∷ []) 0x0 ([]) (32 ∷ 0x258bf258bf258bd3 ∷ [])
+row-93 = calls started 10 (0xa ∷ 1 ∷ 2 ∷ 3 ∷ 0x40 ∷ []) (10 ∷ 0x141 ∷ 12 ∷ 3 ∷ 16 ∷ 0 ∷ 17 ∷ 0 ∷ []) 0x0 ([]) (10 ∷ 0 ∷ 32 ∷ 0x258bf258bf258bd3 ∷ 40 ∷ 0x141 ∷ 45 ∷ 0x3456789abcdf00f3 ∷ [])
 
 abbrev row-94 : Bool
-row-94 = calls started 10 (0xa ∷ 1 ∷ 2 ∷ 3 ∷ 0x40 ∷ []) (10 ∷ 0x141 ∷ 12 ∷ 3 ∷ 16 ∷ 0 ∷ 17 ∷ 7 ∷ []) 0x0 ([]) (32 ∷ 0x258bf258bf258bd3 ∷ [])
+row-94 = calls started 10 (0xa ∷ 1 ∷ 2 ∷ 3 ∷ 0x40 ∷ []) (10 ∷ 0x141 ∷ 12 ∷ 3 ∷ 16 ∷ 0 ∷ 17 ∷ 1 ∷ []) 0x27 (0 ∷ 0x141 ∷ []) (54 ∷ 9 ∷ [])
 
 abbrev row-95 : Bool
-row-95 = calls started 10 (0xa ∷ 1 ∷ 2 ∷ 3 ∷ 0x40 ∷ []) (10 ∷ 0x141 ∷ 12 ∷ 3 ∷ 16 ∷ 0 ∷ 17 ∷ 8 ∷ []) 0x7 ([]) ([])
+row-95 = calls started 10 (0xa ∷ 1 ∷ 2 ∷ 3 ∷ 0x40 ∷ []) (10 ∷ 0x141 ∷ 12 ∷ 3 ∷ 16 ∷ 0 ∷ 17 ∷ 2 ∷ []) 0x28 ([]) (54 ∷ 0xb ∷ [])
 
 abbrev row-96 : Bool
-row-96 = calls started 10 (0xa ∷ 1 ∷ 2 ∷ 3 ∷ 0x40 ∷ []) (10 ∷ 0x141 ∷ 12 ∷ 3 ∷ 16 ∷ 0 ∷ 17 ∷ 9 ∷ []) 0x29 (0 ∷ 9 ∷ 2 ∷ 0x141 ∷ 3 ∷ 0xda740da740da734 ∷ 4 ∷ 3 ∷ 5 ∷ 0xfedcba987654312 ∷ 6 ∷ 0x1111111111111101 ∷ 7 ∷ 0x123456789abcdef0 ∷ []) (54 ∷ 0xc ∷ [])
+row-96 = calls started 10 (0xa ∷ 1 ∷ 2 ∷ 3 ∷ 0x40 ∷ []) (10 ∷ 0x141 ∷ 12 ∷ 3 ∷ 16 ∷ 0 ∷ 17 ∷ 3 ∷ []) 0x0 ([]) (10 ∷ 0 ∷ 32 ∷ 0x258bf258bf258bd3 ∷ 42 ∷ 0x30eca8641fdb9721 ∷ [])
 
 abbrev row-97 : Bool
-row-97 = calls started 10 (0xa ∷ 1 ∷ 2 ∷ 3 ∷ 0x40 ∷ []) (10 ∷ 0x141 ∷ 12 ∷ 3 ∷ 16 ∷ 0 ∷ 17 ∷ 0x54494d45 ∷ []) 0x0 ([]) (10 ∷ 0 ∷ 11 ∷ 0 ∷ 32 ∷ 0x258bf258bf258bd3 ∷ 40 ∷ 0x141 ∷ 45 ∷ 0x3456789abcdf00f3 ∷ [])
+row-97 = calls started 10 (0xa ∷ 1 ∷ 2 ∷ 3 ∷ 0x40 ∷ []) (10 ∷ 0x141 ∷ 12 ∷ 3 ∷ 16 ∷ 0 ∷ 17 ∷ 4 ∷ []) 0x22 (0 ∷ 0x141 ∷ []) (54 ∷ 4 ∷ [])
 
 abbrev row-98 : Bool
-row-98 = calls started 10 (0xa ∷ 1 ∷ 2 ∷ 3 ∷ 0x40 ∷ []) (10 ∷ 0x141 ∷ 12 ∷ 3 ∷ 16 ∷ 1 ∷ 17 ∷ 0x54494d45 ∷ []) 0x0 ([]) (10 ∷ 0xfffffffffffffffe ∷ 11 ∷ 0 ∷ 32 ∷ 0x258bf258bf258bd3 ∷ [])
+row-98 = calls started 10 (0xa ∷ 1 ∷ 2 ∷ 3 ∷ 0x40 ∷ []) (10 ∷ 0x141 ∷ 12 ∷ 3 ∷ 16 ∷ 0 ∷ 17 ∷ 5 ∷ []) 0x0 ([]) (32 ∷ 0x258bf258bf258bd3 ∷ [])
 
 abbrev row-99 : Bool
-row-99 = calls started 10 (0xa ∷ 1 ∷ 2 ∷ 3 ∷ 0x40 ∷ []) (10 ∷ 0x141 ∷ 12 ∷ 3 ∷ 16 ∷ 0 ∷ 17 ∷ 0x735049 ∷ []) 0x2 (0 ∷ 0x141 ∷ 1 ∷ 0xda740da740da734 ∷ 2 ∷ 1 ∷ []) (32 ∷ 0x258bf258bf258bd3 ∷ [])
+row-99 = calls started 10 (0xa ∷ 1 ∷ 2 ∷ 3 ∷ 0x40 ∷ []) (10 ∷ 0x141 ∷ 12 ∷ 3 ∷ 16 ∷ 0 ∷ 17 ∷ 6 ∷ []) 0x0 ([]) (32 ∷ 0x258bf258bf258bd3 ∷ [])
 
 abbrev row-100 : Bool
-row-100 = calls started 10 (0xa ∷ 1 ∷ 2 ∷ 3 ∷ 0x40 ∷ []) (10 ∷ 0x141 ∷ 12 ∷ 3 ∷ 16 ∷ 1 ∷ 17 ∷ 0x735049 ∷ []) 0x0 ([]) (10 ∷ 0xfffffffffffffffe ∷ 11 ∷ 0 ∷ 32 ∷ 0x258bf258bf258bd3 ∷ [])
+row-100 = calls started 10 (0xa ∷ 1 ∷ 2 ∷ 3 ∷ 0x40 ∷ []) (10 ∷ 0x141 ∷ 12 ∷ 3 ∷ 16 ∷ 0 ∷ 17 ∷ 7 ∷ []) 0x0 ([]) (32 ∷ 0x258bf258bf258bd3 ∷ [])
 
 abbrev row-101 : Bool
-row-101 = calls started 10 (0xa ∷ 1 ∷ 2 ∷ 3 ∷ 0x40 ∷ []) (10 ∷ 0x141 ∷ 12 ∷ 3 ∷ 16 ∷ 0 ∷ 17 ∷ 0x48534d ∷ []) 0x3 (0 ∷ 0x141 ∷ 1 ∷ 0xda740da740da734 ∷ 2 ∷ 3 ∷ []) (32 ∷ 0x258bf258bf258bd3 ∷ [])
+row-101 = calls started 10 (0xa ∷ 1 ∷ 2 ∷ 3 ∷ 0x40 ∷ []) (10 ∷ 0x141 ∷ 12 ∷ 3 ∷ 16 ∷ 0 ∷ 17 ∷ 8 ∷ []) 0x7 ([]) ([])
 
 abbrev row-102 : Bool
-row-102 = calls started 10 (0xa ∷ 1 ∷ 2 ∷ 3 ∷ 0x40 ∷ []) (10 ∷ 0x141 ∷ 12 ∷ 3 ∷ 16 ∷ 1 ∷ 17 ∷ 0x48534d ∷ []) 0x4 ([]) ([])
+row-102 = calls started 10 (0xa ∷ 1 ∷ 2 ∷ 3 ∷ 0x40 ∷ []) (10 ∷ 0x141 ∷ 12 ∷ 3 ∷ 16 ∷ 0 ∷ 17 ∷ 9 ∷ []) 0x29 (0 ∷ 9 ∷ 2 ∷ 0x141 ∷ 3 ∷ 0xda740da740da734 ∷ 4 ∷ 3 ∷ 5 ∷ 0xfedcba987654312 ∷ 6 ∷ 0x1111111111111101 ∷ 7 ∷ 0x123456789abcdef0 ∷ []) (54 ∷ 0xc ∷ [])
 
 abbrev row-103 : Bool
-row-103 = calls started 10 (0xa ∷ 1 ∷ 2 ∷ 3 ∷ 0x40 ∷ []) (10 ∷ 0x141 ∷ 12 ∷ 3 ∷ 16 ∷ 2 ∷ 17 ∷ 0x48534d ∷ []) 0x0 ([]) (10 ∷ 0xfffffffffffffffe ∷ 11 ∷ 0 ∷ 32 ∷ 0x258bf258bf258bd3 ∷ [])
+row-103 = calls started 10 (0xa ∷ 1 ∷ 2 ∷ 3 ∷ 0x40 ∷ []) (10 ∷ 0x141 ∷ 12 ∷ 3 ∷ 16 ∷ 0 ∷ 17 ∷ 0x54494d45 ∷ []) 0x0 ([]) (10 ∷ 0 ∷ 11 ∷ 0 ∷ 32 ∷ 0x258bf258bf258bd3 ∷ 40 ∷ 0x141 ∷ 45 ∷ 0x3456789abcdf00f3 ∷ [])
 
 abbrev row-104 : Bool
-row-104 = calls started 10 (0xa ∷ 1 ∷ 2 ∷ 3 ∷ 0x40 ∷ []) (10 ∷ 0x141 ∷ 12 ∷ 3 ∷ 16 ∷ 3 ∷ 17 ∷ 0x48534d ∷ []) 0x5 ([]) ([])
+row-104 = calls started 10 (0xa ∷ 1 ∷ 2 ∷ 3 ∷ 0x40 ∷ []) (10 ∷ 0x141 ∷ 12 ∷ 3 ∷ 16 ∷ 1 ∷ 17 ∷ 0x54494d45 ∷ []) 0x0 ([]) (10 ∷ 0xfffffffffffffffe ∷ 11 ∷ 0 ∷ 32 ∷ 0x258bf258bf258bd3 ∷ [])
 
 abbrev row-105 : Bool
-row-105 = calls started 10 (0xa ∷ 1 ∷ 2 ∷ 3 ∷ 0x40 ∷ []) (10 ∷ 0x141 ∷ 12 ∷ 3 ∷ 16 ∷ 4 ∷ 17 ∷ 0x48534d ∷ []) 0x0 ([]) (10 ∷ 0xfffffffffffffffe ∷ 11 ∷ 0 ∷ 32 ∷ 0x258bf258bf258bd3 ∷ [])
+row-105 = calls started 10 (0xa ∷ 1 ∷ 2 ∷ 3 ∷ 0x40 ∷ []) (10 ∷ 0x141 ∷ 12 ∷ 3 ∷ 16 ∷ 0 ∷ 17 ∷ 0x735049 ∷ []) 0x2 (0 ∷ 0x141 ∷ 1 ∷ 0xda740da740da734 ∷ 2 ∷ 1 ∷ []) (32 ∷ 0x258bf258bf258bd3 ∷ [])
 
 abbrev row-106 : Bool
-row-106 = calls started 10 (0xa ∷ 1 ∷ 2 ∷ 3 ∷ 0x40 ∷ []) (10 ∷ 0x141 ∷ 12 ∷ 3 ∷ 16 ∷ 0 ∷ 17 ∷ 0x485643 ∷ []) 0x6 (2 ∷ 0x141 ∷ 3 ∷ 0xda740da740da734 ∷ 4 ∷ 3 ∷ 5 ∷ 0xfedcba987654312 ∷ 6 ∷ 0x1111111111111101 ∷ 7 ∷ 0x123456789abcdef0 ∷ []) (32 ∷ 0x258bf258bf258bd3 ∷ [])
+row-106 = calls started 10 (0xa ∷ 1 ∷ 2 ∷ 3 ∷ 0x40 ∷ []) (10 ∷ 0x141 ∷ 12 ∷ 3 ∷ 16 ∷ 1 ∷ 17 ∷ 0x735049 ∷ []) 0x0 ([]) (10 ∷ 0xfffffffffffffffe ∷ 11 ∷ 0 ∷ 32 ∷ 0x258bf258bf258bd3 ∷ [])
 
 abbrev row-107 : Bool
-row-107 = calls started 10 (0xa ∷ 1 ∷ 2 ∷ 3 ∷ 0x40 ∷ []) (10 ∷ 0x141 ∷ 12 ∷ 3 ∷ 16 ∷ 1 ∷ 17 ∷ 0x485643 ∷ []) 0x6 (0 ∷ 1 ∷ 2 ∷ 0x141 ∷ 3 ∷ 0xda740da740da734 ∷ 4 ∷ 3 ∷ 5 ∷ 0xfedcba987654312 ∷ 6 ∷ 0x1111111111111101 ∷ 7 ∷ 0x123456789abcdef0 ∷ []) (32 ∷ 0x258bf258bf258bd3 ∷ [])
+row-107 = calls started 10 (0xa ∷ 1 ∷ 2 ∷ 3 ∷ 0x40 ∷ []) (10 ∷ 0x141 ∷ 12 ∷ 3 ∷ 16 ∷ 0 ∷ 17 ∷ 0x48534d ∷ []) 0x3 (0 ∷ 0x141 ∷ 1 ∷ 0xda740da740da734 ∷ 2 ∷ 3 ∷ []) (32 ∷ 0x258bf258bf258bd3 ∷ [])
 
 abbrev row-108 : Bool
-row-108 = calls started 10 (0xa ∷ 1 ∷ 2 ∷ 3 ∷ 0x40 ∷ []) (10 ∷ 0x141 ∷ 12 ∷ 3 ∷ 16 ∷ 0 ∷ 17 ∷ 0x52464e43 ∷ []) 0x29 (0 ∷ 0x52464e43 ∷ 2 ∷ 0x141 ∷ 3 ∷ 0xda740da740da734 ∷ 4 ∷ 3 ∷ 5 ∷ 0xfedcba987654312 ∷ 6 ∷ 0x1111111111111101 ∷ 7 ∷ 0x123456789abcdef0 ∷ []) (47 ∷ 0x369d0369d0369cd1 ∷ 54 ∷ 0xc ∷ [])
+row-108 = calls started 10 (0xa ∷ 1 ∷ 2 ∷ 3 ∷ 0x40 ∷ []) (10 ∷ 0x141 ∷ 12 ∷ 3 ∷ 16 ∷ 1 ∷ 17 ∷ 0x48534d ∷ []) 0x4 ([]) ([])
 
 abbrev row-109 : Bool
-row-109 = calls started 10 (0xa ∷ 1 ∷ 2 ∷ 3 ∷ 0x40 ∷ []) (10 ∷ 0x141 ∷ 12 ∷ 3 ∷ 16 ∷ 1 ∷ 17 ∷ 0x52464e43 ∷ []) 0x29 (0 ∷ 0x52464e43 ∷ 1 ∷ 1 ∷ 2 ∷ 0x141 ∷ 3 ∷ 0xda740da740da734 ∷ 4 ∷ 3 ∷ 5 ∷ 0xfedcba987654312 ∷ 6 ∷ 0x1111111111111101 ∷ 7 ∷ 0x123456789abcdef0 ∷ []) (48 ∷ 0x37c048d159e26ac0 ∷ 54 ∷ 0xc ∷ [])
+row-109 = calls started 10 (0xa ∷ 1 ∷ 2 ∷ 3 ∷ 0x40 ∷ []) (10 ∷ 0x141 ∷ 12 ∷ 3 ∷ 16 ∷ 2 ∷ 17 ∷ 0x48534d ∷ []) 0x0 ([]) (10 ∷ 0xfffffffffffffffe ∷ 11 ∷ 0 ∷ 32 ∷ 0x258bf258bf258bd3 ∷ [])
 
 abbrev row-110 : Bool
-row-110 = calls started 10 (0xa ∷ 1 ∷ 2 ∷ 3 ∷ 0x40 ∷ []) (10 ∷ 0x141 ∷ 12 ∷ 3 ∷ 16 ∷ 2 ∷ 17 ∷ 0x52464e43 ∷ []) 0x29 (0 ∷ 0x52464e43 ∷ 1 ∷ 2 ∷ 2 ∷ 0x141 ∷ 3 ∷ 0xda740da740da734 ∷ 4 ∷ 3 ∷ 5 ∷ 0xfedcba987654312 ∷ 6 ∷ 0x1111111111111101 ∷ 7 ∷ 0x123456789abcdef0 ∷ []) (49 ∷ 0x38e38e38e38e38af ∷ 54 ∷ 0xc ∷ [])
+row-110 = calls started 10 (0xa ∷ 1 ∷ 2 ∷ 3 ∷ 0x40 ∷ []) (10 ∷ 0x141 ∷ 12 ∷ 3 ∷ 16 ∷ 3 ∷ 17 ∷ 0x48534d ∷ []) 0x5 ([]) ([])
 
 abbrev row-111 : Bool
-row-111 = calls started 10 (0xa ∷ 1 ∷ 2 ∷ 3 ∷ 0x40 ∷ []) (10 ∷ 0x141 ∷ 12 ∷ 3 ∷ 16 ∷ 3 ∷ 17 ∷ 0x52464e43 ∷ []) 0x29 (0 ∷ 0x52464e43 ∷ 1 ∷ 3 ∷ 2 ∷ 0x141 ∷ 3 ∷ 0xda740da740da734 ∷ 4 ∷ 3 ∷ 5 ∷ 0xfedcba987654312 ∷ 6 ∷ 0x1111111111111101 ∷ 7 ∷ 0x123456789abcdef0 ∷ []) (50 ∷ 0x3a06d3a06d3a069e ∷ 54 ∷ 0xc ∷ [])
+row-111 = calls started 10 (0xa ∷ 1 ∷ 2 ∷ 3 ∷ 0x40 ∷ []) (10 ∷ 0x141 ∷ 12 ∷ 3 ∷ 16 ∷ 4 ∷ 17 ∷ 0x48534d ∷ []) 0x0 ([]) (10 ∷ 0xfffffffffffffffe ∷ 11 ∷ 0 ∷ 32 ∷ 0x258bf258bf258bd3 ∷ [])
 
 abbrev row-112 : Bool
-row-112 = calls started 10 (0xa ∷ 1 ∷ 2 ∷ 3 ∷ 0x40 ∷ []) (10 ∷ 0x141 ∷ 12 ∷ 3 ∷ 16 ∷ 4 ∷ 17 ∷ 0x52464e43 ∷ []) 0x29 (0 ∷ 0x52464e43 ∷ 1 ∷ 4 ∷ 2 ∷ 0x141 ∷ 3 ∷ 0xda740da740da734 ∷ 4 ∷ 3 ∷ 5 ∷ 0xfedcba987654312 ∷ 6 ∷ 0x1111111111111101 ∷ 7 ∷ 0x123456789abcdef0 ∷ []) (51 ∷ 0x3b2a1907f6e5d48d ∷ 54 ∷ 0xc ∷ [])
+row-112 = calls started 10 (0xa ∷ 1 ∷ 2 ∷ 3 ∷ 0x40 ∷ []) (10 ∷ 0x141 ∷ 12 ∷ 3 ∷ 16 ∷ 0 ∷ 17 ∷ 0x485643 ∷ []) 0x6 (2 ∷ 0x141 ∷ 3 ∷ 0xda740da740da734 ∷ 4 ∷ 3 ∷ 5 ∷ 0xfedcba987654312 ∷ 6 ∷ 0x1111111111111101 ∷ 7 ∷ 0x123456789abcdef0 ∷ []) (32 ∷ 0x258bf258bf258bd3 ∷ [])
 
 abbrev row-113 : Bool
-row-113 = calls started 10 (0xa ∷ 1 ∷ 2 ∷ 3 ∷ 0x40 ∷ []) (10 ∷ 0x141 ∷ 12 ∷ 3 ∷ 16 ∷ 5 ∷ 17 ∷ 0x52464e43 ∷ []) 0x29 (0 ∷ 0x52464e43 ∷ 1 ∷ 5 ∷ 2 ∷ 0x141 ∷ 3 ∷ 0xda740da740da734 ∷ 4 ∷ 3 ∷ 5 ∷ 0xfedcba987654312 ∷ 6 ∷ 0x1111111111111101 ∷ 7 ∷ 0x123456789abcdef0 ∷ []) (52 ∷ 0x3c4d5e6f8091a27c ∷ 54 ∷ 0xc ∷ [])
+row-113 = calls started 10 (0xa ∷ 1 ∷ 2 ∷ 3 ∷ 0x40 ∷ []) (10 ∷ 0x141 ∷ 12 ∷ 3 ∷ 16 ∷ 1 ∷ 17 ∷ 0x485643 ∷ []) 0x6 (0 ∷ 1 ∷ 2 ∷ 0x141 ∷ 3 ∷ 0xda740da740da734 ∷ 4 ∷ 3 ∷ 5 ∷ 0xfedcba987654312 ∷ 6 ∷ 0x1111111111111101 ∷ 7 ∷ 0x123456789abcdef0 ∷ []) (32 ∷ 0x258bf258bf258bd3 ∷ [])
 
 abbrev row-114 : Bool
-row-114 = calls started 10 (0xa ∷ 1 ∷ 2 ∷ 3 ∷ 0x40 ∷ []) (10 ∷ 0x141 ∷ 12 ∷ 3 ∷ 16 ∷ 6 ∷ 17 ∷ 0x52464e43 ∷ []) 0x29 (0 ∷ 0x52464e43 ∷ 1 ∷ 6 ∷ 2 ∷ 0x141 ∷ 3 ∷ 0xda740da740da734 ∷ 4 ∷ 3 ∷ 5 ∷ 0xfedcba987654312 ∷ 6 ∷ 0x1111111111111101 ∷ 7 ∷ 0x123456789abcdef0 ∷ []) (53 ∷ 0x3d70a3d70a3d706b ∷ 54 ∷ 0xc ∷ [])
+row-114 = calls started 10 (0xa ∷ 1 ∷ 2 ∷ 3 ∷ 0x40 ∷ []) (10 ∷ 0x141 ∷ 12 ∷ 3 ∷ 16 ∷ 0 ∷ 17 ∷ 0x52464e43 ∷ []) 0x29 (0 ∷ 0x52464e43 ∷ 2 ∷ 0x141 ∷ 3 ∷ 0xda740da740da734 ∷ 4 ∷ 3 ∷ 5 ∷ 0xfedcba987654312 ∷ 6 ∷ 0x1111111111111101 ∷ 7 ∷ 0x123456789abcdef0 ∷ []) (47 ∷ 0x369d0369d0369cd1 ∷ 54 ∷ 0xc ∷ [])
 
 abbrev row-115 : Bool
-row-115 = calls started 10 (0xa ∷ 1 ∷ 2 ∷ 3 ∷ 0x40 ∷ []) (10 ∷ 0x141 ∷ 12 ∷ 3 ∷ 16 ∷ 7 ∷ 17 ∷ 0x52464e43 ∷ []) 0x29 (0 ∷ 0x52464e43 ∷ 1 ∷ 7 ∷ 2 ∷ 0x141 ∷ 3 ∷ 0xda740da740da734 ∷ 4 ∷ 3 ∷ 5 ∷ 0xfedcba987654312 ∷ 6 ∷ 0x1111111111111101 ∷ 7 ∷ 0x123456789abcdef0 ∷ []) (54 ∷ 0xc ∷ [])
+row-115 = calls started 10 (0xa ∷ 1 ∷ 2 ∷ 3 ∷ 0x40 ∷ []) (10 ∷ 0x141 ∷ 12 ∷ 3 ∷ 16 ∷ 1 ∷ 17 ∷ 0x52464e43 ∷ []) 0x29 (0 ∷ 0x52464e43 ∷ 1 ∷ 1 ∷ 2 ∷ 0x141 ∷ 3 ∷ 0xda740da740da734 ∷ 4 ∷ 3 ∷ 5 ∷ 0xfedcba987654312 ∷ 6 ∷ 0x1111111111111101 ∷ 7 ∷ 0x123456789abcdef0 ∷ []) (48 ∷ 0x37c048d159e26ac0 ∷ 54 ∷ 0xc ∷ [])
 
 abbrev row-116 : Bool
-row-116 = calls started 10 (0xa ∷ 1 ∷ 2 ∷ 3 ∷ 0x40 ∷ []) (10 ∷ 0x141 ∷ 12 ∷ 3 ∷ 16 ∷ 8 ∷ 17 ∷ 0x52464e43 ∷ []) 0x29 (0 ∷ 0x52464e43 ∷ 1 ∷ 8 ∷ 2 ∷ 0x141 ∷ 3 ∷ 0xda740da740da734 ∷ 4 ∷ 3 ∷ 5 ∷ 0xfedcba987654312 ∷ 6 ∷ 0x1111111111111101 ∷ 7 ∷ 0x123456789abcdef0 ∷ []) (54 ∷ 0xc ∷ [])
+row-116 = calls started 10 (0xa ∷ 1 ∷ 2 ∷ 3 ∷ 0x40 ∷ []) (10 ∷ 0x141 ∷ 12 ∷ 3 ∷ 16 ∷ 2 ∷ 17 ∷ 0x52464e43 ∷ []) 0x29 (0 ∷ 0x52464e43 ∷ 1 ∷ 2 ∷ 2 ∷ 0x141 ∷ 3 ∷ 0xda740da740da734 ∷ 4 ∷ 3 ∷ 5 ∷ 0xfedcba987654312 ∷ 6 ∷ 0x1111111111111101 ∷ 7 ∷ 0x123456789abcdef0 ∷ []) (49 ∷ 0x38e38e38e38e38af ∷ 54 ∷ 0xc ∷ [])
 
 abbrev row-117 : Bool
-row-117 = calls started 10 (0xa ∷ 1 ∷ 2 ∷ 3 ∷ 0x40 ∷ []) (10 ∷ 0x141 ∷ 12 ∷ 3 ∷ 16 ∷ 0 ∷ 17 ∷ 0x504d55 ∷ []) 0x29 (0 ∷ 0x504d55 ∷ 2 ∷ 0x141 ∷ 3 ∷ 0xda740da740da734 ∷ 4 ∷ 3 ∷ 5 ∷ 0xfedcba987654312 ∷ 6 ∷ 0x1111111111111101 ∷ 7 ∷ 0x123456789abcdef0 ∷ []) (54 ∷ 0xc ∷ [])
+row-117 = calls started 10 (0xa ∷ 1 ∷ 2 ∷ 3 ∷ 0x40 ∷ []) (10 ∷ 0x141 ∷ 12 ∷ 3 ∷ 16 ∷ 3 ∷ 17 ∷ 0x52464e43 ∷ []) 0x29 (0 ∷ 0x52464e43 ∷ 1 ∷ 3 ∷ 2 ∷ 0x141 ∷ 3 ∷ 0xda740da740da734 ∷ 4 ∷ 3 ∷ 5 ∷ 0xfedcba987654312 ∷ 6 ∷ 0x1111111111111101 ∷ 7 ∷ 0x123456789abcdef0 ∷ []) (50 ∷ 0x3a06d3a06d3a069e ∷ 54 ∷ 0xc ∷ [])
 
 abbrev row-118 : Bool
-row-118 = calls started 10 (0xa ∷ 1 ∷ 2 ∷ 3 ∷ 0x40 ∷ []) (10 ∷ 0x141 ∷ 12 ∷ 3 ∷ 16 ∷ 1 ∷ 17 ∷ 0x504d55 ∷ []) 0x29 (0 ∷ 0x504d55 ∷ 1 ∷ 1 ∷ 2 ∷ 0x141 ∷ 3 ∷ 0xda740da740da734 ∷ 4 ∷ 3 ∷ 5 ∷ 0xfedcba987654312 ∷ 6 ∷ 0x1111111111111101 ∷ 7 ∷ 0x123456789abcdef0 ∷ []) (54 ∷ 0xc ∷ [])
+row-118 = calls started 10 (0xa ∷ 1 ∷ 2 ∷ 3 ∷ 0x40 ∷ []) (10 ∷ 0x141 ∷ 12 ∷ 3 ∷ 16 ∷ 4 ∷ 17 ∷ 0x52464e43 ∷ []) 0x29 (0 ∷ 0x52464e43 ∷ 1 ∷ 4 ∷ 2 ∷ 0x141 ∷ 3 ∷ 0xda740da740da734 ∷ 4 ∷ 3 ∷ 5 ∷ 0xfedcba987654312 ∷ 6 ∷ 0x1111111111111101 ∷ 7 ∷ 0x123456789abcdef0 ∷ []) (51 ∷ 0x3b2a1907f6e5d48d ∷ 54 ∷ 0xc ∷ [])
 
 abbrev row-119 : Bool
-row-119 = calls started 10 (0xa ∷ 1 ∷ 2 ∷ 3 ∷ 0x40 ∷ []) (10 ∷ 0x141 ∷ 12 ∷ 3 ∷ 16 ∷ 0 ∷ 17 ∷ 0x10 ∷ []) 0x29 (0 ∷ 0x10 ∷ 2 ∷ 0x141 ∷ 3 ∷ 0xda740da740da734 ∷ 4 ∷ 3 ∷ 5 ∷ 0xfedcba987654312 ∷ 6 ∷ 0x1111111111111101 ∷ 7 ∷ 0x123456789abcdef0 ∷ []) (54 ∷ 0xc ∷ [])
+row-119 = calls started 10 (0xa ∷ 1 ∷ 2 ∷ 3 ∷ 0x40 ∷ []) (10 ∷ 0x141 ∷ 12 ∷ 3 ∷ 16 ∷ 5 ∷ 17 ∷ 0x52464e43 ∷ []) 0x29 (0 ∷ 0x52464e43 ∷ 1 ∷ 5 ∷ 2 ∷ 0x141 ∷ 3 ∷ 0xda740da740da734 ∷ 4 ∷ 3 ∷ 5 ∷ 0xfedcba987654312 ∷ 6 ∷ 0x1111111111111101 ∷ 7 ∷ 0x123456789abcdef0 ∷ []) (52 ∷ 0x3c4d5e6f8091a27c ∷ 54 ∷ 0xc ∷ [])
 
 abbrev row-120 : Bool
-row-120 = calls started 10 (0xa ∷ 1 ∷ 2 ∷ 3 ∷ 0x40 ∷ []) (10 ∷ 0x141 ∷ 12 ∷ 3 ∷ 16 ∷ 1 ∷ 17 ∷ 0x10 ∷ []) 0x29 (0 ∷ 0x10 ∷ 1 ∷ 1 ∷ 2 ∷ 0x141 ∷ 3 ∷ 0xda740da740da734 ∷ 4 ∷ 3 ∷ 5 ∷ 0xfedcba987654312 ∷ 6 ∷ 0x1111111111111101 ∷ 7 ∷ 0x123456789abcdef0 ∷ []) (54 ∷ 0xc ∷ [])
+row-120 = calls started 10 (0xa ∷ 1 ∷ 2 ∷ 3 ∷ 0x40 ∷ []) (10 ∷ 0x141 ∷ 12 ∷ 3 ∷ 16 ∷ 6 ∷ 17 ∷ 0x52464e43 ∷ []) 0x29 (0 ∷ 0x52464e43 ∷ 1 ∷ 6 ∷ 2 ∷ 0x141 ∷ 3 ∷ 0xda740da740da734 ∷ 4 ∷ 3 ∷ 5 ∷ 0xfedcba987654312 ∷ 6 ∷ 0x1111111111111101 ∷ 7 ∷ 0x123456789abcdef0 ∷ []) (53 ∷ 0x3d70a3d70a3d706b ∷ 54 ∷ 0xc ∷ [])
 
 abbrev row-121 : Bool
-row-121 = calls started 10 (0xa ∷ 1 ∷ 2 ∷ 3 ∷ 0x40 ∷ []) (10 ∷ 0 ∷ 12 ∷ 3 ∷ 16 ∷ 0 ∷ 17 ∷ 0x53525354 ∷ []) 0x7 ([]) ([])
+row-121 = calls started 10 (0xa ∷ 1 ∷ 2 ∷ 3 ∷ 0x40 ∷ []) (10 ∷ 0x141 ∷ 12 ∷ 3 ∷ 16 ∷ 7 ∷ 17 ∷ 0x52464e43 ∷ []) 0x29 (0 ∷ 0x52464e43 ∷ 1 ∷ 7 ∷ 2 ∷ 0x141 ∷ 3 ∷ 0xda740da740da734 ∷ 4 ∷ 3 ∷ 5 ∷ 0xfedcba987654312 ∷ 6 ∷ 0x1111111111111101 ∷ 7 ∷ 0x123456789abcdef0 ∷ []) (54 ∷ 0xc ∷ [])
 
 abbrev row-122 : Bool
-row-122 = calls started 10 (0xa ∷ 1 ∷ 2 ∷ 3 ∷ 0x40 ∷ []) (10 ∷ 1 ∷ 12 ∷ 3 ∷ 16 ∷ 0 ∷ 17 ∷ 0x53525354 ∷ []) 0x0 ([]) (10 ∷ 0xfffffffffffffffe ∷ 11 ∷ 0 ∷ 32 ∷ 0x258bf258bf258bd3 ∷ [])
+row-122 = calls started 10 (0xa ∷ 1 ∷ 2 ∷ 3 ∷ 0x40 ∷ []) (10 ∷ 0x141 ∷ 12 ∷ 3 ∷ 16 ∷ 8 ∷ 17 ∷ 0x52464e43 ∷ []) 0x29 (0 ∷ 0x52464e43 ∷ 1 ∷ 8 ∷ 2 ∷ 0x141 ∷ 3 ∷ 0xda740da740da734 ∷ 4 ∷ 3 ∷ 5 ∷ 0xfedcba987654312 ∷ 6 ∷ 0x1111111111111101 ∷ 7 ∷ 0x123456789abcdef0 ∷ []) (54 ∷ 0xc ∷ [])
 
 abbrev row-123 : Bool
-row-123 = calls started 10 (0xa ∷ 1 ∷ 2 ∷ 3 ∷ 0x40 ∷ []) (10 ∷ 0 ∷ 12 ∷ 3 ∷ 16 ∷ 1 ∷ 17 ∷ 0x53525354 ∷ []) 0x0 ([]) (10 ∷ 0xfffffffffffffffe ∷ 11 ∷ 0 ∷ 32 ∷ 0x258bf258bf258bd3 ∷ [])
+row-123 = calls started 10 (0xa ∷ 1 ∷ 2 ∷ 3 ∷ 0x40 ∷ []) (10 ∷ 0x141 ∷ 12 ∷ 3 ∷ 16 ∷ 0 ∷ 17 ∷ 0x504d55 ∷ []) 0x29 (0 ∷ 0x504d55 ∷ 2 ∷ 0x141 ∷ 3 ∷ 0xda740da740da734 ∷ 4 ∷ 3 ∷ 5 ∷ 0xfedcba987654312 ∷ 6 ∷ 0x1111111111111101 ∷ 7 ∷ 0x123456789abcdef0 ∷ []) (54 ∷ 0xc ∷ [])
 
 abbrev row-124 : Bool
-row-124 = calls started 10 (0xa ∷ 1 ∷ 2 ∷ 3 ∷ 0x40 ∷ []) (10 ∷ 0 ∷ 12 ∷ 1 ∷ 16 ∷ 0 ∷ 17 ∷ 0x4442434e ∷ []) 0x0 ([]) (11 ∷ 0 ∷ 32 ∷ 0x258bf258bf258bd3 ∷ [])
+row-124 = calls started 10 (0xa ∷ 1 ∷ 2 ∷ 3 ∷ 0x40 ∷ []) (10 ∷ 0x141 ∷ 12 ∷ 3 ∷ 16 ∷ 1 ∷ 17 ∷ 0x504d55 ∷ []) 0x29 (0 ∷ 0x504d55 ∷ 1 ∷ 1 ∷ 2 ∷ 0x141 ∷ 3 ∷ 0xda740da740da734 ∷ 4 ∷ 3 ∷ 5 ∷ 0xfedcba987654312 ∷ 6 ∷ 0x1111111111111101 ∷ 7 ∷ 0x123456789abcdef0 ∷ []) (54 ∷ 0xc ∷ [])
 
 abbrev row-125 : Bool
-row-125 = calls started 10 (0xa ∷ 1 ∷ 2 ∷ 3 ∷ 0x40 ∷ []) (10 ∷ 0xa ∷ 12 ∷ 1 ∷ 16 ∷ 0 ∷ 17 ∷ 0x4442434e ∷ []) 0x0 ([]) (10 ∷ 0xfffffffffffffffd ∷ 11 ∷ 0 ∷ 32 ∷ 0x258bf258bf258bd3 ∷ [])
+row-125 = calls started 10 (0xa ∷ 1 ∷ 2 ∷ 3 ∷ 0x40 ∷ []) (10 ∷ 0x141 ∷ 12 ∷ 3 ∷ 16 ∷ 0 ∷ 17 ∷ 0x10 ∷ []) 0x29 (0 ∷ 0x10 ∷ 2 ∷ 0x141 ∷ 3 ∷ 0xda740da740da734 ∷ 4 ∷ 3 ∷ 5 ∷ 0xfedcba987654312 ∷ 6 ∷ 0x1111111111111101 ∷ 7 ∷ 0x123456789abcdef0 ∷ []) (54 ∷ 0xc ∷ [])
 
 abbrev row-126 : Bool
-row-126 = calls started 10 (0xa ∷ 1 ∷ 2 ∷ 3 ∷ 0x40 ∷ []) (10 ∷ 0xa ∷ 12 ∷ 0 ∷ 16 ∷ 0 ∷ 17 ∷ 0x4442434e ∷ []) 0x23 (0 ∷ 0xda740da740da734 ∷ 1 ∷ 0xa ∷ []) (54 ∷ 5 ∷ 55 ∷ 0xa ∷ [])
+row-126 = calls started 10 (0xa ∷ 1 ∷ 2 ∷ 3 ∷ 0x40 ∷ []) (10 ∷ 0x141 ∷ 12 ∷ 3 ∷ 16 ∷ 1 ∷ 17 ∷ 0x10 ∷ []) 0x29 (0 ∷ 0x10 ∷ 1 ∷ 1 ∷ 2 ∷ 0x141 ∷ 3 ∷ 0xda740da740da734 ∷ 4 ∷ 3 ∷ 5 ∷ 0xfedcba987654312 ∷ 6 ∷ 0x1111111111111101 ∷ 7 ∷ 0x123456789abcdef0 ∷ []) (54 ∷ 0xc ∷ [])
 
 abbrev row-127 : Bool
-row-127 = calls started 10 (0xa ∷ 1 ∷ 2 ∷ 3 ∷ 9 ∷ []) (10 ∷ 0xa ∷ 12 ∷ 0 ∷ 16 ∷ 0 ∷ 17 ∷ 0x4442434e ∷ []) 0x23 (0 ∷ 0xda740da740da734 ∷ 1 ∷ 9 ∷ []) (54 ∷ 5 ∷ 55 ∷ 9 ∷ [])
+row-127 = calls started 10 (0xa ∷ 1 ∷ 2 ∷ 3 ∷ 0x40 ∷ []) (10 ∷ 0 ∷ 12 ∷ 3 ∷ 16 ∷ 0 ∷ 17 ∷ 0x53525354 ∷ []) 0x7 ([]) ([])
 
 abbrev row-128 : Bool
-row-128 = calls started 10 (0xa ∷ 1 ∷ 2 ∷ 3 ∷ 0 ∷ []) (10 ∷ 0xa ∷ 12 ∷ 0 ∷ 16 ∷ 0 ∷ 17 ∷ 0x4442434e ∷ []) 0x0 ([]) (10 ∷ 0 ∷ 11 ∷ 0 ∷ 32 ∷ 0x258bf258bf258bd3 ∷ [])
+row-128 = calls started 10 (0xa ∷ 1 ∷ 2 ∷ 3 ∷ 0x40 ∷ []) (10 ∷ 1 ∷ 12 ∷ 3 ∷ 16 ∷ 0 ∷ 17 ∷ 0x53525354 ∷ []) 0x0 ([]) (10 ∷ 0xfffffffffffffffe ∷ 11 ∷ 0 ∷ 32 ∷ 0x258bf258bf258bd3 ∷ [])
 
 abbrev row-129 : Bool
-row-129 = calls started 10 (0xa ∷ 1 ∷ 2 ∷ 3 ∷ 0x1388 ∷ []) (10 ∷ 0x1770 ∷ 12 ∷ 0 ∷ 16 ∷ 0 ∷ 17 ∷ 0x4442434e ∷ []) 0x23 (0 ∷ 0xda740da740da734 ∷ 1 ∷ 0x1000 ∷ []) (54 ∷ 5 ∷ 55 ∷ 0x1000 ∷ [])
+row-129 = calls started 10 (0xa ∷ 1 ∷ 2 ∷ 3 ∷ 0x40 ∷ []) (10 ∷ 0 ∷ 12 ∷ 3 ∷ 16 ∷ 1 ∷ 17 ∷ 0x53525354 ∷ []) 0x0 ([]) (10 ∷ 0xfffffffffffffffe ∷ 11 ∷ 0 ∷ 32 ∷ 0x258bf258bf258bd3 ∷ [])
 
 abbrev row-130 : Bool
-row-130 = calls started 10 (0xa ∷ 1 ∷ 2 ∷ 3 ∷ 0x1000 ∷ []) (10 ∷ 0x1770 ∷ 12 ∷ 0 ∷ 16 ∷ 0 ∷ 17 ∷ 0x4442434e ∷ []) 0x23 (0 ∷ 0xda740da740da734 ∷ 1 ∷ 0x1000 ∷ []) (54 ∷ 5 ∷ 55 ∷ 0x1000 ∷ [])
+row-130 = calls started 10 (0xa ∷ 1 ∷ 2 ∷ 3 ∷ 0x40 ∷ []) (10 ∷ 0 ∷ 12 ∷ 1 ∷ 16 ∷ 0 ∷ 17 ∷ 0x4442434e ∷ []) 0x0 ([]) (11 ∷ 0 ∷ 32 ∷ 0x258bf258bf258bd3 ∷ [])
 
 abbrev row-131 : Bool
-row-131 = calls started 10 (0xa ∷ 1 ∷ 2 ∷ 3 ∷ 0x1001 ∷ []) (10 ∷ 0x141 ∷ 12 ∷ 0 ∷ 16 ∷ 0 ∷ 17 ∷ 0x4442434e ∷ []) 0x23 (0 ∷ 0xda740da740da734 ∷ 1 ∷ 0x141 ∷ []) (54 ∷ 5 ∷ 55 ∷ 0x141 ∷ [])
+row-131 = calls started 10 (0xa ∷ 1 ∷ 2 ∷ 3 ∷ 0x40 ∷ []) (10 ∷ 0xa ∷ 12 ∷ 1 ∷ 16 ∷ 0 ∷ 17 ∷ 0x4442434e ∷ []) 0x0 ([]) (10 ∷ 0xfffffffffffffffd ∷ 11 ∷ 0 ∷ 32 ∷ 0x258bf258bf258bd3 ∷ [])
 
 abbrev row-132 : Bool
-row-132 = calls started 10 (0xa ∷ 1 ∷ 2 ∷ 3 ∷ 0x40 ∷ []) (10 ∷ 0 ∷ 12 ∷ 1 ∷ 16 ∷ 1 ∷ 17 ∷ 0x4442434e ∷ []) 0x0 ([]) (11 ∷ 0 ∷ 32 ∷ 0x258bf258bf258bd3 ∷ [])
+row-132 = calls started 10 (0xa ∷ 1 ∷ 2 ∷ 3 ∷ 0x40 ∷ []) (10 ∷ 0xa ∷ 12 ∷ 0 ∷ 16 ∷ 0 ∷ 17 ∷ 0x4442434e ∷ []) 0x23 (0 ∷ 0xda740da740da734 ∷ 1 ∷ 0xa ∷ []) (54 ∷ 5 ∷ 55 ∷ 0xa ∷ [])
 
 abbrev row-133 : Bool
-row-133 = calls started 10 (0xa ∷ 1 ∷ 2 ∷ 3 ∷ 0x40 ∷ []) (10 ∷ 0xa ∷ 12 ∷ 1 ∷ 16 ∷ 1 ∷ 17 ∷ 0x4442434e ∷ []) 0x0 ([]) (10 ∷ 0xfffffffffffffffd ∷ 11 ∷ 0 ∷ 32 ∷ 0x258bf258bf258bd3 ∷ [])
+row-133 = calls started 10 (0xa ∷ 1 ∷ 2 ∷ 3 ∷ 9 ∷ []) (10 ∷ 0xa ∷ 12 ∷ 0 ∷ 16 ∷ 0 ∷ 17 ∷ 0x4442434e ∷ []) 0x23 (0 ∷ 0xda740da740da734 ∷ 1 ∷ 9 ∷ []) (54 ∷ 5 ∷ 55 ∷ 9 ∷ [])
 
 abbrev row-134 : Bool
-row-134 = calls started 10 (0xa ∷ 1 ∷ 2 ∷ 3 ∷ 0x40 ∷ []) (10 ∷ 0xa ∷ 12 ∷ 0 ∷ 16 ∷ 1 ∷ 17 ∷ 0x4442434e ∷ []) 0x25 (0 ∷ 0xa ∷ []) (54 ∷ 7 ∷ 55 ∷ 0xa ∷ 56 ∷ 0xda740da740da734 ∷ [])
+row-134 = calls started 10 (0xa ∷ 1 ∷ 2 ∷ 3 ∷ 0 ∷ []) (10 ∷ 0xa ∷ 12 ∷ 0 ∷ 16 ∷ 0 ∷ 17 ∷ 0x4442434e ∷ []) 0x0 ([]) (10 ∷ 0 ∷ 11 ∷ 0 ∷ 32 ∷ 0x258bf258bf258bd3 ∷ [])
 
 abbrev row-135 : Bool
-row-135 = calls started 10 (0xa ∷ 1 ∷ 2 ∷ 3 ∷ 9 ∷ []) (10 ∷ 0xa ∷ 12 ∷ 0 ∷ 16 ∷ 1 ∷ 17 ∷ 0x4442434e ∷ []) 0x25 (0 ∷ 9 ∷ []) (54 ∷ 7 ∷ 55 ∷ 9 ∷ 56 ∷ 0xda740da740da734 ∷ [])
+row-135 = calls started 10 (0xa ∷ 1 ∷ 2 ∷ 3 ∷ 0x1388 ∷ []) (10 ∷ 0x1770 ∷ 12 ∷ 0 ∷ 16 ∷ 0 ∷ 17 ∷ 0x4442434e ∷ []) 0x23 (0 ∷ 0xda740da740da734 ∷ 1 ∷ 0x1000 ∷ []) (54 ∷ 5 ∷ 55 ∷ 0x1000 ∷ [])
 
 abbrev row-136 : Bool
-row-136 = calls started 10 (0xa ∷ 1 ∷ 2 ∷ 3 ∷ 0 ∷ []) (10 ∷ 0xa ∷ 12 ∷ 0 ∷ 16 ∷ 1 ∷ 17 ∷ 0x4442434e ∷ []) 0x0 ([]) (10 ∷ 0 ∷ 11 ∷ 0 ∷ 32 ∷ 0x258bf258bf258bd3 ∷ [])
+row-136 = calls started 10 (0xa ∷ 1 ∷ 2 ∷ 3 ∷ 0x1000 ∷ []) (10 ∷ 0x1770 ∷ 12 ∷ 0 ∷ 16 ∷ 0 ∷ 17 ∷ 0x4442434e ∷ []) 0x23 (0 ∷ 0xda740da740da734 ∷ 1 ∷ 0x1000 ∷ []) (54 ∷ 5 ∷ 55 ∷ 0x1000 ∷ [])
 
 abbrev row-137 : Bool
-row-137 = calls started 10 (0xa ∷ 1 ∷ 2 ∷ 3 ∷ 0x1388 ∷ []) (10 ∷ 0x1770 ∷ 12 ∷ 0 ∷ 16 ∷ 1 ∷ 17 ∷ 0x4442434e ∷ []) 0x25 (0 ∷ 0x1000 ∷ []) (54 ∷ 7 ∷ 55 ∷ 0x1000 ∷ 56 ∷ 0xda740da740da734 ∷ [])
+row-137 = calls started 10 (0xa ∷ 1 ∷ 2 ∷ 3 ∷ 0x1001 ∷ []) (10 ∷ 0x141 ∷ 12 ∷ 0 ∷ 16 ∷ 0 ∷ 17 ∷ 0x4442434e ∷ []) 0x23 (0 ∷ 0xda740da740da734 ∷ 1 ∷ 0x141 ∷ []) (54 ∷ 5 ∷ 55 ∷ 0x141 ∷ [])
 
 abbrev row-138 : Bool
-row-138 = calls started 10 (0xa ∷ 1 ∷ 2 ∷ 3 ∷ 0x1000 ∷ []) (10 ∷ 0x1770 ∷ 12 ∷ 0 ∷ 16 ∷ 1 ∷ 17 ∷ 0x4442434e ∷ []) 0x25 (0 ∷ 0x1000 ∷ []) (54 ∷ 7 ∷ 55 ∷ 0x1000 ∷ 56 ∷ 0xda740da740da734 ∷ [])
+row-138 = calls started 10 (0xa ∷ 1 ∷ 2 ∷ 3 ∷ 0x40 ∷ []) (10 ∷ 0 ∷ 12 ∷ 1 ∷ 16 ∷ 1 ∷ 17 ∷ 0x4442434e ∷ []) 0x0 ([]) (11 ∷ 0 ∷ 32 ∷ 0x258bf258bf258bd3 ∷ [])
 
 abbrev row-139 : Bool
-row-139 = calls started 10 (0xa ∷ 1 ∷ 2 ∷ 3 ∷ 0x1001 ∷ []) (10 ∷ 0x141 ∷ 12 ∷ 0 ∷ 16 ∷ 1 ∷ 17 ∷ 0x4442434e ∷ []) 0x25 (0 ∷ 0x141 ∷ []) (54 ∷ 7 ∷ 55 ∷ 0x141 ∷ 56 ∷ 0xda740da740da734 ∷ [])
+row-139 = calls started 10 (0xa ∷ 1 ∷ 2 ∷ 3 ∷ 0x40 ∷ []) (10 ∷ 0xa ∷ 12 ∷ 1 ∷ 16 ∷ 1 ∷ 17 ∷ 0x4442434e ∷ []) 0x0 ([]) (10 ∷ 0xfffffffffffffffd ∷ 11 ∷ 0 ∷ 32 ∷ 0x258bf258bf258bd3 ∷ [])
 
 abbrev row-140 : Bool
-row-140 = calls started 10 (0xa ∷ 1 ∷ 2 ∷ 3 ∷ 0x40 ∷ []) (10 ∷ 0 ∷ 12 ∷ 1 ∷ 16 ∷ 2 ∷ 17 ∷ 0x4442434e ∷ []) 0x27 ([]) (54 ∷ 0xa ∷ [])
+row-140 = calls started 10 (0xa ∷ 1 ∷ 2 ∷ 3 ∷ 0x40 ∷ []) (10 ∷ 0xa ∷ 12 ∷ 0 ∷ 16 ∷ 1 ∷ 17 ∷ 0x4442434e ∷ []) 0x25 (0 ∷ 0xa ∷ []) (54 ∷ 7 ∷ 55 ∷ 0xa ∷ 56 ∷ 0xda740da740da734 ∷ [])
 
 abbrev row-141 : Bool
-row-141 = calls started 10 (0xa ∷ 1 ∷ 2 ∷ 3 ∷ 0x40 ∷ []) (10 ∷ 0xa ∷ 12 ∷ 1 ∷ 16 ∷ 2 ∷ 17 ∷ 0x4442434e ∷ []) 0x27 (0 ∷ 0xa ∷ []) (54 ∷ 0xa ∷ [])
+row-141 = calls started 10 (0xa ∷ 1 ∷ 2 ∷ 3 ∷ 9 ∷ []) (10 ∷ 0xa ∷ 12 ∷ 0 ∷ 16 ∷ 1 ∷ 17 ∷ 0x4442434e ∷ []) 0x25 (0 ∷ 9 ∷ []) (54 ∷ 7 ∷ 55 ∷ 9 ∷ 56 ∷ 0xda740da740da734 ∷ [])
 
 abbrev row-142 : Bool
-row-142 = calls started 10 (0xa ∷ 1 ∷ 2 ∷ 3 ∷ 0x40 ∷ []) (10 ∷ 0xa ∷ 12 ∷ 0 ∷ 16 ∷ 2 ∷ 17 ∷ 0x4442434e ∷ []) 0x27 (0 ∷ 0xa ∷ []) (54 ∷ 0xa ∷ [])
+row-142 = calls started 10 (0xa ∷ 1 ∷ 2 ∷ 3 ∷ 0 ∷ []) (10 ∷ 0xa ∷ 12 ∷ 0 ∷ 16 ∷ 1 ∷ 17 ∷ 0x4442434e ∷ []) 0x0 ([]) (10 ∷ 0 ∷ 11 ∷ 0 ∷ 32 ∷ 0x258bf258bf258bd3 ∷ [])
 
 abbrev row-143 : Bool
-row-143 = calls started 10 (0xa ∷ 1 ∷ 2 ∷ 3 ∷ 9 ∷ []) (10 ∷ 0xa ∷ 12 ∷ 0 ∷ 16 ∷ 2 ∷ 17 ∷ 0x4442434e ∷ []) 0x27 (0 ∷ 0xa ∷ []) (54 ∷ 0xa ∷ [])
+row-143 = calls started 10 (0xa ∷ 1 ∷ 2 ∷ 3 ∷ 0x1388 ∷ []) (10 ∷ 0x1770 ∷ 12 ∷ 0 ∷ 16 ∷ 1 ∷ 17 ∷ 0x4442434e ∷ []) 0x25 (0 ∷ 0x1000 ∷ []) (54 ∷ 7 ∷ 55 ∷ 0x1000 ∷ 56 ∷ 0xda740da740da734 ∷ [])
 
 abbrev row-144 : Bool
-row-144 = calls started 10 (0xa ∷ 1 ∷ 2 ∷ 3 ∷ 0 ∷ []) (10 ∷ 0xa ∷ 12 ∷ 0 ∷ 16 ∷ 2 ∷ 17 ∷ 0x4442434e ∷ []) 0x27 (0 ∷ 0xa ∷ []) (54 ∷ 0xa ∷ [])
+row-144 = calls started 10 (0xa ∷ 1 ∷ 2 ∷ 3 ∷ 0x1000 ∷ []) (10 ∷ 0x1770 ∷ 12 ∷ 0 ∷ 16 ∷ 1 ∷ 17 ∷ 0x4442434e ∷ []) 0x25 (0 ∷ 0x1000 ∷ []) (54 ∷ 7 ∷ 55 ∷ 0x1000 ∷ 56 ∷ 0xda740da740da734 ∷ [])
 
 abbrev row-145 : Bool
-row-145 = calls started 10 (0xa ∷ 1 ∷ 2 ∷ 3 ∷ 0x1388 ∷ []) (10 ∷ 0x1770 ∷ 12 ∷ 0 ∷ 16 ∷ 2 ∷ 17 ∷ 0x4442434e ∷ []) 0x27 (0 ∷ 0x70 ∷ []) (54 ∷ 0xa ∷ [])
+row-145 = calls started 10 (0xa ∷ 1 ∷ 2 ∷ 3 ∷ 0x1001 ∷ []) (10 ∷ 0x141 ∷ 12 ∷ 0 ∷ 16 ∷ 1 ∷ 17 ∷ 0x4442434e ∷ []) 0x25 (0 ∷ 0x141 ∷ []) (54 ∷ 7 ∷ 55 ∷ 0x141 ∷ 56 ∷ 0xda740da740da734 ∷ [])
 
 abbrev row-146 : Bool
-row-146 = calls started 10 (0xa ∷ 1 ∷ 2 ∷ 3 ∷ 0x1000 ∷ []) (10 ∷ 0x1770 ∷ 12 ∷ 0 ∷ 16 ∷ 2 ∷ 17 ∷ 0x4442434e ∷ []) 0x27 (0 ∷ 0x70 ∷ []) (54 ∷ 0xa ∷ [])
+row-146 = calls started 10 (0xa ∷ 1 ∷ 2 ∷ 3 ∷ 0x40 ∷ []) (10 ∷ 0 ∷ 12 ∷ 1 ∷ 16 ∷ 2 ∷ 17 ∷ 0x4442434e ∷ []) 0x27 ([]) (54 ∷ 0xa ∷ [])
 
 abbrev row-147 : Bool
-row-147 = calls started 10 (0xa ∷ 1 ∷ 2 ∷ 3 ∷ 0x1001 ∷ []) (10 ∷ 0x141 ∷ 12 ∷ 0 ∷ 16 ∷ 2 ∷ 17 ∷ 0x4442434e ∷ []) 0x27 (0 ∷ 0x41 ∷ []) (54 ∷ 0xa ∷ [])
+row-147 = calls started 10 (0xa ∷ 1 ∷ 2 ∷ 3 ∷ 0x40 ∷ []) (10 ∷ 0xa ∷ 12 ∷ 1 ∷ 16 ∷ 2 ∷ 17 ∷ 0x4442434e ∷ []) 0x27 (0 ∷ 0xa ∷ []) (54 ∷ 0xa ∷ [])
 
 abbrev row-148 : Bool
-row-148 = calls started 10 (0xa ∷ 1 ∷ 2 ∷ 3 ∷ 0x40 ∷ []) (10 ∷ 0 ∷ 12 ∷ 1 ∷ 16 ∷ 3 ∷ 17 ∷ 0x4442434e ∷ []) 0x0 ([]) (10 ∷ 0xfffffffffffffffe ∷ 11 ∷ 0 ∷ 32 ∷ 0x258bf258bf258bd3 ∷ [])
+row-148 = calls started 10 (0xa ∷ 1 ∷ 2 ∷ 3 ∷ 0x40 ∷ []) (10 ∷ 0xa ∷ 12 ∷ 0 ∷ 16 ∷ 2 ∷ 17 ∷ 0x4442434e ∷ []) 0x27 (0 ∷ 0xa ∷ []) (54 ∷ 0xa ∷ [])
 
 abbrev row-149 : Bool
-row-149 = calls started 10 (0xa ∷ 1 ∷ 2 ∷ 3 ∷ 0x40 ∷ []) (10 ∷ 0xa ∷ 12 ∷ 1 ∷ 16 ∷ 3 ∷ 17 ∷ 0x4442434e ∷ []) 0x0 ([]) (10 ∷ 0xfffffffffffffffe ∷ 11 ∷ 0 ∷ 32 ∷ 0x258bf258bf258bd3 ∷ [])
+row-149 = calls started 10 (0xa ∷ 1 ∷ 2 ∷ 3 ∷ 9 ∷ []) (10 ∷ 0xa ∷ 12 ∷ 0 ∷ 16 ∷ 2 ∷ 17 ∷ 0x4442434e ∷ []) 0x27 (0 ∷ 0xa ∷ []) (54 ∷ 0xa ∷ [])
 
 abbrev row-150 : Bool
-row-150 = calls started 10 (0xa ∷ 1 ∷ 2 ∷ 3 ∷ 0x40 ∷ []) (10 ∷ 0xa ∷ 12 ∷ 0 ∷ 16 ∷ 3 ∷ 17 ∷ 0x4442434e ∷ []) 0x0 ([]) (10 ∷ 0xfffffffffffffffe ∷ 11 ∷ 0 ∷ 32 ∷ 0x258bf258bf258bd3 ∷ [])
+row-150 = calls started 10 (0xa ∷ 1 ∷ 2 ∷ 3 ∷ 0 ∷ []) (10 ∷ 0xa ∷ 12 ∷ 0 ∷ 16 ∷ 2 ∷ 17 ∷ 0x4442434e ∷ []) 0x27 (0 ∷ 0xa ∷ []) (54 ∷ 0xa ∷ [])
 
 abbrev row-151 : Bool
-row-151 = calls started 10 (0xa ∷ 1 ∷ 2 ∷ 3 ∷ 9 ∷ []) (10 ∷ 0xa ∷ 12 ∷ 0 ∷ 16 ∷ 3 ∷ 17 ∷ 0x4442434e ∷ []) 0x0 ([]) (10 ∷ 0xfffffffffffffffe ∷ 11 ∷ 0 ∷ 32 ∷ 0x258bf258bf258bd3 ∷ [])
+row-151 = calls started 10 (0xa ∷ 1 ∷ 2 ∷ 3 ∷ 0x1388 ∷ []) (10 ∷ 0x1770 ∷ 12 ∷ 0 ∷ 16 ∷ 2 ∷ 17 ∷ 0x4442434e ∷ []) 0x27 (0 ∷ 0x70 ∷ []) (54 ∷ 0xa ∷ [])
 
 abbrev row-152 : Bool
-row-152 = calls started 10 (0xa ∷ 1 ∷ 2 ∷ 3 ∷ 0 ∷ []) (10 ∷ 0xa ∷ 12 ∷ 0 ∷ 16 ∷ 3 ∷ 17 ∷ 0x4442434e ∷ []) 0x0 ([]) (10 ∷ 0xfffffffffffffffe ∷ 11 ∷ 0 ∷ 32 ∷ 0x258bf258bf258bd3 ∷ [])
+row-152 = calls started 10 (0xa ∷ 1 ∷ 2 ∷ 3 ∷ 0x1000 ∷ []) (10 ∷ 0x1770 ∷ 12 ∷ 0 ∷ 16 ∷ 2 ∷ 17 ∷ 0x4442434e ∷ []) 0x27 (0 ∷ 0x70 ∷ []) (54 ∷ 0xa ∷ [])
 
 abbrev row-153 : Bool
-row-153 = calls started 10 (0xa ∷ 1 ∷ 2 ∷ 3 ∷ 0x1388 ∷ []) (10 ∷ 0x1770 ∷ 12 ∷ 0 ∷ 16 ∷ 3 ∷ 17 ∷ 0x4442434e ∷ []) 0x0 ([]) (10 ∷ 0xfffffffffffffffe ∷ 11 ∷ 0 ∷ 32 ∷ 0x258bf258bf258bd3 ∷ [])
+row-153 = calls started 10 (0xa ∷ 1 ∷ 2 ∷ 3 ∷ 0x1001 ∷ []) (10 ∷ 0x141 ∷ 12 ∷ 0 ∷ 16 ∷ 2 ∷ 17 ∷ 0x4442434e ∷ []) 0x27 (0 ∷ 0x41 ∷ []) (54 ∷ 0xa ∷ [])
 
 abbrev row-154 : Bool
-row-154 = calls started 10 (0xa ∷ 1 ∷ 2 ∷ 3 ∷ 0x1000 ∷ []) (10 ∷ 0x1770 ∷ 12 ∷ 0 ∷ 16 ∷ 3 ∷ 17 ∷ 0x4442434e ∷ []) 0x0 ([]) (10 ∷ 0xfffffffffffffffe ∷ 11 ∷ 0 ∷ 32 ∷ 0x258bf258bf258bd3 ∷ [])
+row-154 = calls started 10 (0xa ∷ 1 ∷ 2 ∷ 3 ∷ 0x40 ∷ []) (10 ∷ 0 ∷ 12 ∷ 1 ∷ 16 ∷ 3 ∷ 17 ∷ 0x4442434e ∷ []) 0x0 ([]) (10 ∷ 0xfffffffffffffffe ∷ 11 ∷ 0 ∷ 32 ∷ 0x258bf258bf258bd3 ∷ [])
 
 abbrev row-155 : Bool
-row-155 = calls started 10 (0xa ∷ 1 ∷ 2 ∷ 3 ∷ 0x1001 ∷ []) (10 ∷ 0x141 ∷ 12 ∷ 0 ∷ 16 ∷ 3 ∷ 17 ∷ 0x4442434e ∷ []) 0x0 ([]) (10 ∷ 0xfffffffffffffffe ∷ 11 ∷ 0 ∷ 32 ∷ 0x258bf258bf258bd3 ∷ [])
+row-155 = calls started 10 (0xa ∷ 1 ∷ 2 ∷ 3 ∷ 0x40 ∷ []) (10 ∷ 0xa ∷ 12 ∷ 1 ∷ 16 ∷ 3 ∷ 17 ∷ 0x4442434e ∷ []) 0x0 ([]) (10 ∷ 0xfffffffffffffffe ∷ 11 ∷ 0 ∷ 32 ∷ 0x258bf258bf258bd3 ∷ [])
 
 abbrev row-156 : Bool
-row-156 = calls started 10 (0x16 ∷ 0x123414e29373 ∷ 2 ∷ 3 ∷ 4 ∷ []) ([]) 0x103 ([]) (46 ∷ 0x3579be02468acee2 ∷ [])
+row-156 = calls started 10 (0xa ∷ 1 ∷ 2 ∷ 3 ∷ 0x40 ∷ []) (10 ∷ 0xa ∷ 12 ∷ 0 ∷ 16 ∷ 3 ∷ 17 ∷ 0x4442434e ∷ []) 0x0 ([]) (10 ∷ 0xfffffffffffffffe ∷ 11 ∷ 0 ∷ 32 ∷ 0x258bf258bf258bd3 ∷ [])
 
 abbrev row-157 : Bool
-row-157 = calls answered 11 (1 ∷ 0x123414e29373 ∷ 0 ∷ 0 ∷ 0 ∷ []) (54 ∷ 2 ∷ []) 0x103 ([]) (46 ∷ 0x3579be02468acee2 ∷ 54 ∷ 0 ∷ [])
+row-157 = calls started 10 (0xa ∷ 1 ∷ 2 ∷ 3 ∷ 9 ∷ []) (10 ∷ 0xa ∷ 12 ∷ 0 ∷ 16 ∷ 3 ∷ 17 ∷ 0x4442434e ∷ []) 0x0 ([]) (10 ∷ 0xfffffffffffffffe ∷ 11 ∷ 0 ∷ 32 ∷ 0x258bf258bf258bd3 ∷ [])
 
 abbrev row-158 : Bool
-row-158 = calls started 10 (0x16 ∷ 0x123414d29333 ∷ 2 ∷ 3 ∷ 4 ∷ []) ([]) 0x21 (0 ∷ 0x258bf258bf258bcf ∷ 1 ∷ 1 ∷ []) (54 ∷ 2 ∷ [])
+row-158 = calls started 10 (0xa ∷ 1 ∷ 2 ∷ 3 ∷ 0 ∷ []) (10 ∷ 0xa ∷ 12 ∷ 0 ∷ 16 ∷ 3 ∷ 17 ∷ 0x4442434e ∷ []) 0x0 ([]) (10 ∷ 0xfffffffffffffffe ∷ 11 ∷ 0 ∷ 32 ∷ 0x258bf258bf258bd3 ∷ [])
 
 abbrev row-159 : Bool
-row-159 = calls answered 11 (1 ∷ 0x123414d29333 ∷ 0 ∷ 0 ∷ 0 ∷ []) (54 ∷ 2 ∷ []) 0x103 ([]) (46 ∷ 0x3579be02468acee2 ∷ 54 ∷ 0 ∷ [])
+row-159 = calls started 10 (0xa ∷ 1 ∷ 2 ∷ 3 ∷ 0x1388 ∷ []) (10 ∷ 0x1770 ∷ 12 ∷ 0 ∷ 16 ∷ 3 ∷ 17 ∷ 0x4442434e ∷ []) 0x0 ([]) (10 ∷ 0xfffffffffffffffe ∷ 11 ∷ 0 ∷ 32 ∷ 0x258bf258bf258bd3 ∷ [])
 
 abbrev row-160 : Bool
-row-160 = calls started 10 (0x16 ∷ 0x123414d29073 ∷ 2 ∷ 3 ∷ 4 ∷ []) ([]) 0x0 ([]) (32 ∷ 0x258bf258bf258bd3 ∷ 40 ∷ 0x6d3a06d3a06d39a ∷ [])
+row-160 = calls started 10 (0xa ∷ 1 ∷ 2 ∷ 3 ∷ 0x1000 ∷ []) (10 ∷ 0x1770 ∷ 12 ∷ 0 ∷ 16 ∷ 3 ∷ 17 ∷ 0x4442434e ∷ []) 0x0 ([]) (10 ∷ 0xfffffffffffffffe ∷ 11 ∷ 0 ∷ 32 ∷ 0x258bf258bf258bd3 ∷ [])
 
 abbrev row-161 : Bool
-row-161 = calls answered 11 (1 ∷ 0x123414d29073 ∷ 0 ∷ 0 ∷ 0 ∷ []) (54 ∷ 2 ∷ []) 0x0 ([]) (32 ∷ 0x258bf258bf258bd3 ∷ 40 ∷ 0x6d3a06d3a06d39a ∷ 54 ∷ 0 ∷ [])
+row-161 = calls started 10 (0xa ∷ 1 ∷ 2 ∷ 3 ∷ 0x1001 ∷ []) (10 ∷ 0x141 ∷ 12 ∷ 0 ∷ 16 ∷ 3 ∷ 17 ∷ 0x4442434e ∷ []) 0x0 ([]) (10 ∷ 0xfffffffffffffffe ∷ 11 ∷ 0 ∷ 32 ∷ 0x258bf258bf258bd3 ∷ [])
 
 abbrev row-162 : Bool
-row-162 = calls started 10 (0x16 ∷ 0x123414df9ff3 ∷ 2 ∷ 3 ∷ 4 ∷ []) ([]) 0x0 ([]) (31 ∷ 0x2ea61d950c83fb47 ∷ 32 ∷ 0x258bf258bf258bd3 ∷ 40 ∷ 0x2468acf13579bde0 ∷ [])
+row-162 = calls started 10 (0x16 ∷ 0x123414e29373 ∷ 2 ∷ 3 ∷ 4 ∷ []) ([]) 0x103 ([]) (46 ∷ 0x3579be02468acee2 ∷ [])
 
 abbrev row-163 : Bool
-row-163 = calls answered 11 (1 ∷ 0x123414df9ff3 ∷ 0 ∷ 0 ∷ 0 ∷ []) (54 ∷ 2 ∷ []) 0x0 ([]) (31 ∷ 0x2ea61d950c83fb47 ∷ 32 ∷ 0x258bf258bf258bd3 ∷ 40 ∷ 0x2468acf13579bde0 ∷ 54 ∷ 0 ∷ [])
+row-163 = calls answered 11 (1 ∷ 0x123414e29373 ∷ 0 ∷ 0 ∷ 0 ∷ []) (54 ∷ 2 ∷ []) 0x103 ([]) (46 ∷ 0x3579be02468acee2 ∷ 54 ∷ 0 ∷ [])
 
 abbrev row-164 : Bool
-row-164 = calls started 10 (0x16 ∷ 0x123414d28373 ∷ 2 ∷ 3 ∷ 4 ∷ []) ([]) 0x103 ([]) (46 ∷ 0x3579be02468acee2 ∷ [])
+row-164 = calls started 10 (0x16 ∷ 0x123414d29333 ∷ 2 ∷ 3 ∷ 4 ∷ []) ([]) 0x21 (0 ∷ 0x258bf258bf258bcf ∷ 1 ∷ 1 ∷ []) (54 ∷ 2 ∷ [])
 
 abbrev row-165 : Bool
-row-165 = calls answered 11 (1 ∷ 0x123414d28373 ∷ 0 ∷ 0 ∷ 0 ∷ []) (54 ∷ 2 ∷ []) 0x103 ([]) (46 ∷ 0x3579be02468acee2 ∷ 54 ∷ 0 ∷ [])
+row-165 = calls answered 11 (1 ∷ 0x123414d29333 ∷ 0 ∷ 0 ∷ 0 ∷ []) (54 ∷ 2 ∷ []) 0x103 ([]) (46 ∷ 0x3579be02468acee2 ∷ 54 ∷ 0 ∷ [])
 
 abbrev row-166 : Bool
-row-166 = calls started 10 (0x16 ∷ 0x123414d00373 ∷ 2 ∷ 3 ∷ 4 ∷ []) ([]) 0x103 ([]) (46 ∷ 0x3579be02468acee2 ∷ [])
+row-166 = calls started 10 (0x16 ∷ 0x123414d29073 ∷ 2 ∷ 3 ∷ 4 ∷ []) ([]) 0x0 ([]) (32 ∷ 0x258bf258bf258bd3 ∷ 40 ∷ 0x6d3a06d3a06d39a ∷ [])
 
 abbrev row-167 : Bool
-row-167 = calls answered 11 (1 ∷ 0x123414d00373 ∷ 0 ∷ 0 ∷ 0 ∷ []) (54 ∷ 2 ∷ []) 0x103 ([]) (46 ∷ 0x3579be02468acee2 ∷ 54 ∷ 0 ∷ [])
+row-167 = calls answered 11 (1 ∷ 0x123414d29073 ∷ 0 ∷ 0 ∷ 0 ∷ []) (54 ∷ 2 ∷ []) 0x0 ([]) (32 ∷ 0x258bf258bf258bd3 ∷ 40 ∷ 0x6d3a06d3a06d39a ∷ 54 ∷ 0 ∷ [])
 
 abbrev row-168 : Bool
-row-168 = calls started 10 (0x16 ∷ 0x123414d29373 ∷ 2 ∷ 3 ∷ 4 ∷ []) ([]) 0x0 ([]) (6 ∷ 0x2ea61d950c83fb47 ∷ 32 ∷ 0x258bf258bf258bd3 ∷ 40 ∷ 0x6d3a06d3a06d39a ∷ [])
+row-168 = calls started 10 (0x16 ∷ 0x123414df9ff3 ∷ 2 ∷ 3 ∷ 4 ∷ []) ([]) 0x0 ([]) (31 ∷ 0x2ea61d950c83fb47 ∷ 32 ∷ 0x258bf258bf258bd3 ∷ 40 ∷ 0x2468acf13579bde0 ∷ [])
 
 abbrev row-169 : Bool
-row-169 = calls answered 11 (1 ∷ 0x123414d29373 ∷ 0 ∷ 0 ∷ 0 ∷ []) (54 ∷ 2 ∷ []) 0x0 ([]) (6 ∷ 0x2ea61d950c83fb47 ∷ 32 ∷ 0x258bf258bf258bd3 ∷ 40 ∷ 0x6d3a06d3a06d39a ∷ 54 ∷ 0 ∷ [])
+row-169 = calls answered 11 (1 ∷ 0x123414df9ff3 ∷ 0 ∷ 0 ∷ 0 ∷ []) (54 ∷ 2 ∷ []) 0x0 ([]) (31 ∷ 0x2ea61d950c83fb47 ∷ 32 ∷ 0x258bf258bf258bd3 ∷ 40 ∷ 0x2468acf13579bde0 ∷ 54 ∷ 0 ∷ [])
 
 abbrev row-170 : Bool
-row-170 = calls started 10 (0x16 ∷ 0x123414d01373 ∷ 2 ∷ 3 ∷ 4 ∷ []) ([]) 0x0 ([]) (6 ∷ 0x2ea61d950c83fb47 ∷ 32 ∷ 0x258bf258bf258bd3 ∷ 40 ∷ 0 ∷ [])
+row-170 = calls started 10 (0x16 ∷ 0x123414d28373 ∷ 2 ∷ 3 ∷ 4 ∷ []) ([]) 0x103 ([]) (46 ∷ 0x3579be02468acee2 ∷ [])
 
 abbrev row-171 : Bool
-row-171 = calls answered 11 (1 ∷ 0x123414d01373 ∷ 0 ∷ 0 ∷ 0 ∷ []) (54 ∷ 2 ∷ []) 0x0 ([]) (6 ∷ 0x2ea61d950c83fb47 ∷ 32 ∷ 0x258bf258bf258bd3 ∷ 40 ∷ 0 ∷ 54 ∷ 0 ∷ [])
+row-171 = calls answered 11 (1 ∷ 0x123414d28373 ∷ 0 ∷ 0 ∷ 0 ∷ []) (54 ∷ 2 ∷ []) 0x103 ([]) (46 ∷ 0x3579be02468acee2 ∷ 54 ∷ 0 ∷ [])
 
 abbrev row-172 : Bool
-row-172 = calls started 10 (0x16 ∷ 0x123414d2a373 ∷ 2 ∷ 3 ∷ 4 ∷ []) ([]) 0x0 ([]) (6 ∷ 0x2ea61d950c83fb47 ∷ 32 ∷ 0x258bf258bf258bd3 ∷ 40 ∷ 0x2ef7bdfd3e87fbdf ∷ [])
+row-172 = calls started 10 (0x16 ∷ 0x123414d00373 ∷ 2 ∷ 3 ∷ 4 ∷ []) ([]) 0x103 ([]) (46 ∷ 0x3579be02468acee2 ∷ [])
 
 abbrev row-173 : Bool
-row-173 = calls answered 11 (1 ∷ 0x123414d2a373 ∷ 0 ∷ 0 ∷ 0 ∷ []) (54 ∷ 2 ∷ []) 0x0 ([]) (6 ∷ 0x2ea61d950c83fb47 ∷ 32 ∷ 0x258bf258bf258bd3 ∷ 40 ∷ 0x2ef7bdfd3e87fbdf ∷ 54 ∷ 0 ∷ [])
+row-173 = calls answered 11 (1 ∷ 0x123414d00373 ∷ 0 ∷ 0 ∷ 0 ∷ []) (54 ∷ 2 ∷ []) 0x103 ([]) (46 ∷ 0x3579be02468acee2 ∷ 54 ∷ 0 ∷ [])
 
 abbrev row-174 : Bool
-row-174 = calls started 10 (0x16 ∷ 0x123414d02373 ∷ 2 ∷ 3 ∷ 4 ∷ []) ([]) 0x0 ([]) (6 ∷ 0x2ea61d950c83fb47 ∷ 32 ∷ 0x258bf258bf258bd3 ∷ [])
+row-174 = calls started 10 (0x16 ∷ 0x123414d29373 ∷ 2 ∷ 3 ∷ 4 ∷ []) ([]) 0x0 ([]) (6 ∷ 0x2ea61d950c83fb47 ∷ 32 ∷ 0x258bf258bf258bd3 ∷ 40 ∷ 0x6d3a06d3a06d39a ∷ [])
 
 abbrev row-175 : Bool
-row-175 = calls answered 11 (1 ∷ 0x123414d02373 ∷ 0 ∷ 0 ∷ 0 ∷ []) (54 ∷ 2 ∷ []) 0x0 ([]) (6 ∷ 0x2ea61d950c83fb47 ∷ 32 ∷ 0x258bf258bf258bd3 ∷ 54 ∷ 0 ∷ [])
+row-175 = calls answered 11 (1 ∷ 0x123414d29373 ∷ 0 ∷ 0 ∷ 0 ∷ []) (54 ∷ 2 ∷ []) 0x0 ([]) (6 ∷ 0x2ea61d950c83fb47 ∷ 32 ∷ 0x258bf258bf258bd3 ∷ 40 ∷ 0x6d3a06d3a06d39a ∷ 54 ∷ 0 ∷ [])
 
 abbrev row-176 : Bool
-row-176 = calls started 10 (0x16 ∷ 0x123414d2b373 ∷ 2 ∷ 3 ∷ 4 ∷ []) ([]) 0x0 ([]) (6 ∷ 0x2ea61d950c83fb47 ∷ 32 ∷ 0x258bf258bf258bd3 ∷ 40 ∷ 0x28241d9004812845 ∷ [])
+row-176 = calls started 10 (0x16 ∷ 0x123414d01373 ∷ 2 ∷ 3 ∷ 4 ∷ []) ([]) 0x0 ([]) (6 ∷ 0x2ea61d950c83fb47 ∷ 32 ∷ 0x258bf258bf258bd3 ∷ 40 ∷ 0 ∷ [])
 
 abbrev row-177 : Bool
-row-177 = calls answered 11 (1 ∷ 0x123414d2b373 ∷ 0 ∷ 0 ∷ 0 ∷ []) (54 ∷ 2 ∷ []) 0x0 ([]) (6 ∷ 0x2ea61d950c83fb47 ∷ 32 ∷ 0x258bf258bf258bd3 ∷ 40 ∷ 0x28241d9004812845 ∷ 54 ∷ 0 ∷ [])
+row-177 = calls answered 11 (1 ∷ 0x123414d01373 ∷ 0 ∷ 0 ∷ 0 ∷ []) (54 ∷ 2 ∷ []) 0x0 ([]) (6 ∷ 0x2ea61d950c83fb47 ∷ 32 ∷ 0x258bf258bf258bd3 ∷ 40 ∷ 0 ∷ 54 ∷ 0 ∷ [])
 
 abbrev row-178 : Bool
-row-178 = calls started 10 (0x16 ∷ 0x123414d03373 ∷ 2 ∷ 3 ∷ 4 ∷ []) ([]) 0x0 ([]) (6 ∷ 0x2ea61d950c83fb47 ∷ 32 ∷ 0x258bf258bf258bd3 ∷ [])
+row-178 = calls started 10 (0x16 ∷ 0x123414d2a373 ∷ 2 ∷ 3 ∷ 4 ∷ []) ([]) 0x0 ([]) (6 ∷ 0x2ea61d950c83fb47 ∷ 32 ∷ 0x258bf258bf258bd3 ∷ 40 ∷ 0x2ef7bdfd3e87fbdf ∷ [])
 
 abbrev row-179 : Bool
-row-179 = calls answered 11 (1 ∷ 0x123414d03373 ∷ 0 ∷ 0 ∷ 0 ∷ []) (54 ∷ 2 ∷ []) 0x0 ([]) (6 ∷ 0x2ea61d950c83fb47 ∷ 32 ∷ 0x258bf258bf258bd3 ∷ 54 ∷ 0 ∷ [])
+row-179 = calls answered 11 (1 ∷ 0x123414d2a373 ∷ 0 ∷ 0 ∷ 0 ∷ []) (54 ∷ 2 ∷ []) 0x0 ([]) (6 ∷ 0x2ea61d950c83fb47 ∷ 32 ∷ 0x258bf258bf258bd3 ∷ 40 ∷ 0x2ef7bdfd3e87fbdf ∷ 54 ∷ 0 ∷ [])
 
 abbrev row-180 : Bool
-row-180 = calls started 10 (0x16 ∷ 0x123414d2c373 ∷ 2 ∷ 3 ∷ 4 ∷ []) ([]) 0x103 ([]) (46 ∷ 0x3579be02468acee2 ∷ [])
+row-180 = calls started 10 (0x16 ∷ 0x123414d02373 ∷ 2 ∷ 3 ∷ 4 ∷ []) ([]) 0x0 ([]) (6 ∷ 0x2ea61d950c83fb47 ∷ 32 ∷ 0x258bf258bf258bd3 ∷ [])
 
 abbrev row-181 : Bool
-row-181 = calls answered 11 (1 ∷ 0x123414d2c373 ∷ 0 ∷ 0 ∷ 0 ∷ []) (54 ∷ 2 ∷ []) 0x103 ([]) (46 ∷ 0x3579be02468acee2 ∷ 54 ∷ 0 ∷ [])
+row-181 = calls answered 11 (1 ∷ 0x123414d02373 ∷ 0 ∷ 0 ∷ 0 ∷ []) (54 ∷ 2 ∷ []) 0x0 ([]) (6 ∷ 0x2ea61d950c83fb47 ∷ 32 ∷ 0x258bf258bf258bd3 ∷ 54 ∷ 0 ∷ [])
 
 abbrev row-182 : Bool
-row-182 = calls started 10 (0x16 ∷ 0x123414d04373 ∷ 2 ∷ 3 ∷ 4 ∷ []) ([]) 0x103 ([]) (46 ∷ 0x3579be02468acee2 ∷ [])
+row-182 = calls started 10 (0x16 ∷ 0x123414d2b373 ∷ 2 ∷ 3 ∷ 4 ∷ []) ([]) 0x0 ([]) (6 ∷ 0x2ea61d950c83fb47 ∷ 32 ∷ 0x258bf258bf258bd3 ∷ 40 ∷ 0x28241d9004812845 ∷ [])
 
 abbrev row-183 : Bool
-row-183 = calls answered 11 (1 ∷ 0x123414d04373 ∷ 0 ∷ 0 ∷ 0 ∷ []) (54 ∷ 2 ∷ []) 0x103 ([]) (46 ∷ 0x3579be02468acee2 ∷ 54 ∷ 0 ∷ [])
+row-183 = calls answered 11 (1 ∷ 0x123414d2b373 ∷ 0 ∷ 0 ∷ 0 ∷ []) (54 ∷ 2 ∷ []) 0x0 ([]) (6 ∷ 0x2ea61d950c83fb47 ∷ 32 ∷ 0x258bf258bf258bd3 ∷ 40 ∷ 0x28241d9004812845 ∷ 54 ∷ 0 ∷ [])
 
 abbrev row-184 : Bool
-row-184 = calls started 10 (0x16 ∷ 0x123414d2d373 ∷ 2 ∷ 3 ∷ 4 ∷ []) ([]) 0x0 ([]) (6 ∷ 0x2ea61d950c83fb47 ∷ 32 ∷ 0x258bf258bf258bd3 ∷ 40 ∷ 5 ∷ [])
+row-184 = calls started 10 (0x16 ∷ 0x123414d03373 ∷ 2 ∷ 3 ∷ 4 ∷ []) ([]) 0x0 ([]) (6 ∷ 0x2ea61d950c83fb47 ∷ 32 ∷ 0x258bf258bf258bd3 ∷ [])
 
 abbrev row-185 : Bool
-row-185 = calls answered 11 (1 ∷ 0x123414d2d373 ∷ 0 ∷ 0 ∷ 0 ∷ []) (54 ∷ 2 ∷ []) 0x0 ([]) (6 ∷ 0x2ea61d950c83fb47 ∷ 32 ∷ 0x258bf258bf258bd3 ∷ 40 ∷ 5 ∷ 54 ∷ 0 ∷ [])
+row-185 = calls answered 11 (1 ∷ 0x123414d03373 ∷ 0 ∷ 0 ∷ 0 ∷ []) (54 ∷ 2 ∷ []) 0x0 ([]) (6 ∷ 0x2ea61d950c83fb47 ∷ 32 ∷ 0x258bf258bf258bd3 ∷ 54 ∷ 0 ∷ [])
 
 abbrev row-186 : Bool
-row-186 = calls started 10 (0x16 ∷ 0x123414d05373 ∷ 2 ∷ 3 ∷ 4 ∷ []) ([]) 0x0 ([]) (6 ∷ 0x2ea61d950c83fb47 ∷ 32 ∷ 0x258bf258bf258bd3 ∷ 40 ∷ 0 ∷ [])
+row-186 = calls started 10 (0x16 ∷ 0x123414d2c373 ∷ 2 ∷ 3 ∷ 4 ∷ []) ([]) 0x103 ([]) (46 ∷ 0x3579be02468acee2 ∷ [])
 
 abbrev row-187 : Bool
-row-187 = calls answered 11 (1 ∷ 0x123414d05373 ∷ 0 ∷ 0 ∷ 0 ∷ []) (54 ∷ 2 ∷ []) 0x0 ([]) (6 ∷ 0x2ea61d950c83fb47 ∷ 32 ∷ 0x258bf258bf258bd3 ∷ 40 ∷ 0 ∷ 54 ∷ 0 ∷ [])
+row-187 = calls answered 11 (1 ∷ 0x123414d2c373 ∷ 0 ∷ 0 ∷ 0 ∷ []) (54 ∷ 2 ∷ []) 0x103 ([]) (46 ∷ 0x3579be02468acee2 ∷ 54 ∷ 0 ∷ [])
 
 abbrev row-188 : Bool
-row-188 = calls started 10 (0x16 ∷ 0x123414d2e373 ∷ 2 ∷ 3 ∷ 4 ∷ []) ([]) 0x0 ([]) (6 ∷ 0x2ea61d950c83fb47 ∷ 32 ∷ 0x258bf258bf258bd3 ∷ [])
+row-188 = calls started 10 (0x16 ∷ 0x123414d04373 ∷ 2 ∷ 3 ∷ 4 ∷ []) ([]) 0x103 ([]) (46 ∷ 0x3579be02468acee2 ∷ [])
 
 abbrev row-189 : Bool
-row-189 = calls answered 11 (1 ∷ 0x123414d2e373 ∷ 0 ∷ 0 ∷ 0 ∷ []) (54 ∷ 2 ∷ []) 0x0 ([]) (6 ∷ 0x2ea61d950c83fb47 ∷ 32 ∷ 0x258bf258bf258bd3 ∷ 54 ∷ 0 ∷ [])
+row-189 = calls answered 11 (1 ∷ 0x123414d04373 ∷ 0 ∷ 0 ∷ 0 ∷ []) (54 ∷ 2 ∷ []) 0x103 ([]) (46 ∷ 0x3579be02468acee2 ∷ 54 ∷ 0 ∷ [])
 
 abbrev row-190 : Bool
-row-190 = calls started 10 (0x16 ∷ 0x123414d06373 ∷ 2 ∷ 3 ∷ 4 ∷ []) ([]) 0x0 ([]) (6 ∷ 0x2ea61d950c83fb47 ∷ 32 ∷ 0x258bf258bf258bd3 ∷ [])
+row-190 = calls started 10 (0x16 ∷ 0x123414d2d373 ∷ 2 ∷ 3 ∷ 4 ∷ []) ([]) 0x0 ([]) (6 ∷ 0x2ea61d950c83fb47 ∷ 32 ∷ 0x258bf258bf258bd3 ∷ 40 ∷ 5 ∷ [])
 
 abbrev row-191 : Bool
-row-191 = calls answered 11 (1 ∷ 0x123414d06373 ∷ 0 ∷ 0 ∷ 0 ∷ []) (54 ∷ 2 ∷ []) 0x0 ([]) (6 ∷ 0x2ea61d950c83fb47 ∷ 32 ∷ 0x258bf258bf258bd3 ∷ 54 ∷ 0 ∷ [])
+row-191 = calls answered 11 (1 ∷ 0x123414d2d373 ∷ 0 ∷ 0 ∷ 0 ∷ []) (54 ∷ 2 ∷ []) 0x0 ([]) (6 ∷ 0x2ea61d950c83fb47 ∷ 32 ∷ 0x258bf258bf258bd3 ∷ 40 ∷ 5 ∷ 54 ∷ 0 ∷ [])
 
 abbrev row-192 : Bool
-row-192 = calls started 10 (0x16 ∷ 0x123414d2f373 ∷ 2 ∷ 3 ∷ 4 ∷ []) ([]) 0x0 ([]) (6 ∷ 0x2ea61d950c83fb47 ∷ 32 ∷ 0x258bf258bf258bd3 ∷ 40 ∷ 0x2ea61d950c83fb42 ∷ [])
+row-192 = calls started 10 (0x16 ∷ 0x123414d05373 ∷ 2 ∷ 3 ∷ 4 ∷ []) ([]) 0x0 ([]) (6 ∷ 0x2ea61d950c83fb47 ∷ 32 ∷ 0x258bf258bf258bd3 ∷ 40 ∷ 0 ∷ [])
 
 abbrev row-193 : Bool
-row-193 = calls answered 11 (1 ∷ 0x123414d2f373 ∷ 0 ∷ 0 ∷ 0 ∷ []) (54 ∷ 2 ∷ []) 0x0 ([]) (6 ∷ 0x2ea61d950c83fb47 ∷ 32 ∷ 0x258bf258bf258bd3 ∷ 40 ∷ 0x2ea61d950c83fb42 ∷ 54 ∷ 0 ∷ [])
+row-193 = calls answered 11 (1 ∷ 0x123414d05373 ∷ 0 ∷ 0 ∷ 0 ∷ []) (54 ∷ 2 ∷ []) 0x0 ([]) (6 ∷ 0x2ea61d950c83fb47 ∷ 32 ∷ 0x258bf258bf258bd3 ∷ 40 ∷ 0 ∷ 54 ∷ 0 ∷ [])
 
 abbrev row-194 : Bool
-row-194 = calls started 10 (0x16 ∷ 0x123414d07373 ∷ 2 ∷ 3 ∷ 4 ∷ []) ([]) 0x0 ([]) (6 ∷ 0x2ea61d950c83fb47 ∷ 32 ∷ 0x258bf258bf258bd3 ∷ [])
+row-194 = calls started 10 (0x16 ∷ 0x123414d2e373 ∷ 2 ∷ 3 ∷ 4 ∷ []) ([]) 0x0 ([]) (6 ∷ 0x2ea61d950c83fb47 ∷ 32 ∷ 0x258bf258bf258bd3 ∷ [])
 
 abbrev row-195 : Bool
-row-195 = calls answered 11 (1 ∷ 0x123414d07373 ∷ 0 ∷ 0 ∷ 0 ∷ []) (54 ∷ 2 ∷ []) 0x0 ([]) (6 ∷ 0x2ea61d950c83fb47 ∷ 32 ∷ 0x258bf258bf258bd3 ∷ 54 ∷ 0 ∷ [])
+row-195 = calls answered 11 (1 ∷ 0x123414d2e373 ∷ 0 ∷ 0 ∷ 0 ∷ []) (54 ∷ 2 ∷ []) 0x0 ([]) (6 ∷ 0x2ea61d950c83fb47 ∷ 32 ∷ 0x258bf258bf258bd3 ∷ 54 ∷ 0 ∷ [])
 
 abbrev row-196 : Bool
-row-196 = calls started 10 (0x15 ∷ 7 ∷ 0x4000000 ∷ 0 ∷ 4 ∷ []) ([]) 0x21 (0 ∷ 0x258bf258bf258bcf ∷ 1 ∷ 1 ∷ []) (54 ∷ 3 ∷ 55 ∷ 0x10000003 ∷ 56 ∷ 1 ∷ [])
+row-196 = calls started 10 (0x16 ∷ 0x123414d06373 ∷ 2 ∷ 3 ∷ 4 ∷ []) ([]) 0x0 ([]) (6 ∷ 0x2ea61d950c83fb47 ∷ 32 ∷ 0x258bf258bf258bd3 ∷ [])
 
 abbrev row-197 : Bool
-row-197 = calls started 10 (0x17 ∷ 6 ∷ 0xc400000000000000 ∷ 0 ∷ 4 ∷ []) ([]) 0x21 (0 ∷ 0x258bf258bf258bcf ∷ 1 ∷ 1 ∷ []) (54 ∷ 3 ∷ 55 ∷ 0x1000000000000002 ∷ 56 ∷ 2 ∷ [])
+row-197 = calls answered 11 (1 ∷ 0x123414d06373 ∷ 0 ∷ 0 ∷ 0 ∷ []) (54 ∷ 2 ∷ []) 0x0 ([]) (6 ∷ 0x2ea61d950c83fb47 ∷ 32 ∷ 0x258bf258bf258bd3 ∷ 54 ∷ 0 ∷ [])
 
 abbrev row-198 : Bool
-row-198 = calls answered 11 (1 ∷ 0 ∷ 0 ∷ 0 ∷ 0 ∷ []) (54 ∷ 3 ∷ 55 ∷ 0x10000003 ∷ 56 ∷ 1 ∷ []) 0x8 (0 ∷ 0x10000003 ∷ 1 ∷ 1 ∷ []) (54 ∷ 0 ∷ 55 ∷ 0 ∷ 56 ∷ 0 ∷ [])
+row-198 = calls started 10 (0x16 ∷ 0x123414d2f373 ∷ 2 ∷ 3 ∷ 4 ∷ []) ([]) 0x0 ([]) (6 ∷ 0x2ea61d950c83fb47 ∷ 32 ∷ 0x258bf258bf258bd3 ∷ 40 ∷ 0x2ea61d950c83fb42 ∷ [])
 
 abbrev row-199 : Bool
-row-199 = calls answered 11 (1 ∷ 0 ∷ 0 ∷ 0 ∷ 0 ∷ []) (54 ∷ 3 ∷ 55 ∷ 0x10000003 ∷ 56 ∷ 2 ∷ []) 0x8 (0 ∷ 0x10000003 ∷ 1 ∷ 2 ∷ []) (54 ∷ 0 ∷ 55 ∷ 0 ∷ 56 ∷ 0 ∷ [])
+row-199 = calls answered 11 (1 ∷ 0x123414d2f373 ∷ 0 ∷ 0 ∷ 0 ∷ []) (54 ∷ 2 ∷ []) 0x0 ([]) (6 ∷ 0x2ea61d950c83fb47 ∷ 32 ∷ 0x258bf258bf258bd3 ∷ 40 ∷ 0x2ea61d950c83fb42 ∷ 54 ∷ 0 ∷ [])
 
 abbrev row-200 : Bool
-row-200 = calls answered 11 (1 ∷ 0 ∷ 0 ∷ 0 ∷ 0 ∷ []) (54 ∷ 3 ∷ 55 ∷ 0x10000003 ∷ 56 ∷ 4 ∷ []) 0x8 (0 ∷ 0x10000003 ∷ 1 ∷ 4 ∷ []) (54 ∷ 0 ∷ 55 ∷ 0 ∷ 56 ∷ 0 ∷ [])
+row-200 = calls started 10 (0x16 ∷ 0x123414d07373 ∷ 2 ∷ 3 ∷ 4 ∷ []) ([]) 0x0 ([]) (6 ∷ 0x2ea61d950c83fb47 ∷ 32 ∷ 0x258bf258bf258bd3 ∷ [])
 
 abbrev row-201 : Bool
-row-201 = calls started 10 (0x15 ∷ 7 ∷ 0x4000000 ∷ 0x3000 ∷ 4 ∷ []) ([]) 0x103 ([]) ([])
+row-201 = calls answered 11 (1 ∷ 0x123414d07373 ∷ 0 ∷ 0 ∷ 0 ∷ []) (54 ∷ 2 ∷ []) 0x0 ([]) (6 ∷ 0x2ea61d950c83fb47 ∷ 32 ∷ 0x258bf258bf258bd3 ∷ 54 ∷ 0 ∷ [])
 
 abbrev row-202 : Bool
-row-202 = calls started 10 (0x17 ∷ 6 ∷ 0xc400000000000000 ∷ 0x3000 ∷ 4 ∷ []) ([]) 0x103 ([]) ([])
+row-202 = calls started 10 (0x15 ∷ 7 ∷ 0x4000000 ∷ 0 ∷ 4 ∷ []) ([]) 0x21 (0 ∷ 0x258bf258bf258bcf ∷ 1 ∷ 1 ∷ []) (54 ∷ 3 ∷ 55 ∷ 0x10000003 ∷ 56 ∷ 1 ∷ [])
 
 abbrev row-203 : Bool
-row-203 = calls answered 11 (1 ∷ 0x3000 ∷ 0 ∷ 0 ∷ 0 ∷ []) (54 ∷ 3 ∷ 55 ∷ 0x10000003 ∷ 56 ∷ 1 ∷ []) 0x8 (0 ∷ 0x10000003 ∷ 1 ∷ 1 ∷ []) (54 ∷ 0 ∷ 55 ∷ 0 ∷ 56 ∷ 0 ∷ [])
+row-203 = calls started 10 (0x17 ∷ 6 ∷ 0xc400000000000000 ∷ 0 ∷ 4 ∷ []) ([]) 0x21 (0 ∷ 0x258bf258bf258bcf ∷ 1 ∷ 1 ∷ []) (54 ∷ 3 ∷ 55 ∷ 0x1000000000000002 ∷ 56 ∷ 2 ∷ [])
 
 abbrev row-204 : Bool
-row-204 = calls answered 11 (1 ∷ 0x3000 ∷ 0 ∷ 0 ∷ 0 ∷ []) (54 ∷ 3 ∷ 55 ∷ 0x10000003 ∷ 56 ∷ 2 ∷ []) 0x8 (0 ∷ 0x10000003 ∷ 1 ∷ 2 ∷ []) (54 ∷ 0 ∷ 55 ∷ 0 ∷ 56 ∷ 0 ∷ [])
+row-204 = calls answered 11 (1 ∷ 0 ∷ 0 ∷ 0 ∷ 0 ∷ []) (54 ∷ 3 ∷ 55 ∷ 0x10000003 ∷ 56 ∷ 1 ∷ []) 0x8 (0 ∷ 0x10000003 ∷ 1 ∷ 1 ∷ []) (54 ∷ 0 ∷ [])
 
 abbrev row-205 : Bool
-row-205 = calls answered 11 (1 ∷ 0x3000 ∷ 0 ∷ 0 ∷ 0 ∷ []) (54 ∷ 3 ∷ 55 ∷ 0x10000003 ∷ 56 ∷ 4 ∷ []) 0x8 (0 ∷ 0x10000003 ∷ 1 ∷ 4 ∷ []) (54 ∷ 0 ∷ 55 ∷ 0 ∷ 56 ∷ 0 ∷ [])
+row-205 = calls answered 11 (1 ∷ 0 ∷ 0 ∷ 0 ∷ 0 ∷ []) (54 ∷ 3 ∷ 55 ∷ 0x10000003 ∷ 56 ∷ 2 ∷ []) 0x8 (0 ∷ 0x10000003 ∷ 1 ∷ 2 ∷ []) (54 ∷ 0 ∷ [])
 
 abbrev row-206 : Bool
-row-206 = calls started 10 (0x15 ∷ 7 ∷ 0x4000000 ∷ 0x3020 ∷ 4 ∷ []) ([]) 0x103 ([]) ([])
+row-206 = calls answered 11 (1 ∷ 0 ∷ 0 ∷ 0 ∷ 0 ∷ []) (54 ∷ 3 ∷ 55 ∷ 0x10000003 ∷ 56 ∷ 4 ∷ []) 0x8 (0 ∷ 0x10000003 ∷ 1 ∷ 4 ∷ []) (54 ∷ 0 ∷ [])
 
 abbrev row-207 : Bool
-row-207 = calls started 10 (0x17 ∷ 6 ∷ 0xc400000000000000 ∷ 0x3020 ∷ 4 ∷ []) ([]) 0x103 ([]) ([])
+row-207 = calls started 10 (0x15 ∷ 7 ∷ 0x4000000 ∷ 0x3000 ∷ 4 ∷ []) ([]) 0x103 ([]) ([])
 
 abbrev row-208 : Bool
-row-208 = calls answered 11 (1 ∷ 0x3020 ∷ 0 ∷ 0 ∷ 0 ∷ []) (54 ∷ 3 ∷ 55 ∷ 0x10000003 ∷ 56 ∷ 1 ∷ []) 0x8 (0 ∷ 0x10000003 ∷ 1 ∷ 1 ∷ []) (54 ∷ 0 ∷ 55 ∷ 0 ∷ 56 ∷ 0 ∷ [])
+row-208 = calls started 10 (0x17 ∷ 6 ∷ 0xc400000000000000 ∷ 0x3000 ∷ 4 ∷ []) ([]) 0x103 ([]) ([])
 
 abbrev row-209 : Bool
-row-209 = calls answered 11 (1 ∷ 0x3020 ∷ 0 ∷ 0 ∷ 0 ∷ []) (54 ∷ 3 ∷ 55 ∷ 0x10000003 ∷ 56 ∷ 2 ∷ []) 0x8 (0 ∷ 0x10000003 ∷ 1 ∷ 2 ∷ []) (54 ∷ 0 ∷ 55 ∷ 0 ∷ 56 ∷ 0 ∷ [])
+row-209 = calls answered 11 (1 ∷ 0x3000 ∷ 0 ∷ 0 ∷ 0 ∷ []) (54 ∷ 3 ∷ 55 ∷ 0x10000003 ∷ 56 ∷ 1 ∷ []) 0x8 (0 ∷ 0x10000003 ∷ 1 ∷ 1 ∷ []) (54 ∷ 0 ∷ [])
 
 abbrev row-210 : Bool
-row-210 = calls answered 11 (1 ∷ 0x3020 ∷ 0 ∷ 0 ∷ 0 ∷ []) (54 ∷ 3 ∷ 55 ∷ 0x10000003 ∷ 56 ∷ 4 ∷ []) 0x8 (0 ∷ 0x10000003 ∷ 1 ∷ 4 ∷ []) (54 ∷ 0 ∷ 55 ∷ 0 ∷ 56 ∷ 0 ∷ [])
+row-210 = calls answered 11 (1 ∷ 0x3000 ∷ 0 ∷ 0 ∷ 0 ∷ []) (54 ∷ 3 ∷ 55 ∷ 0x10000003 ∷ 56 ∷ 2 ∷ []) 0x8 (0 ∷ 0x10000003 ∷ 1 ∷ 2 ∷ []) (54 ∷ 0 ∷ [])
 
 abbrev row-211 : Bool
-row-211 = calls started 10 (0x15 ∷ 7 ∷ 0x4000000 ∷ 0x100003000 ∷ 4 ∷ []) ([]) 0x103 ([]) ([])
+row-211 = calls answered 11 (1 ∷ 0x3000 ∷ 0 ∷ 0 ∷ 0 ∷ []) (54 ∷ 3 ∷ 55 ∷ 0x10000003 ∷ 56 ∷ 4 ∷ []) 0x8 (0 ∷ 0x10000003 ∷ 1 ∷ 4 ∷ []) (54 ∷ 0 ∷ [])
 
 abbrev row-212 : Bool
-row-212 = calls started 10 (0x17 ∷ 6 ∷ 0xc400000000000000 ∷ 0x100003000 ∷ 4 ∷ []) ([]) 0x103 ([]) ([])
+row-212 = calls started 10 (0x15 ∷ 7 ∷ 0x4000000 ∷ 0x3020 ∷ 4 ∷ []) ([]) 0x103 ([]) ([])
 
 abbrev row-213 : Bool
-row-213 = calls answered 11 (1 ∷ 0x100003000 ∷ 0 ∷ 0 ∷ 0 ∷ []) (54 ∷ 3 ∷ 55 ∷ 0x10000003 ∷ 56 ∷ 1 ∷ []) 0x8 (0 ∷ 0x10000003 ∷ 1 ∷ 1 ∷ []) (54 ∷ 0 ∷ 55 ∷ 0 ∷ 56 ∷ 0 ∷ [])
+row-213 = calls started 10 (0x17 ∷ 6 ∷ 0xc400000000000000 ∷ 0x3020 ∷ 4 ∷ []) ([]) 0x103 ([]) ([])
 
 abbrev row-214 : Bool
-row-214 = calls answered 11 (1 ∷ 0x100003000 ∷ 0 ∷ 0 ∷ 0 ∷ []) (54 ∷ 3 ∷ 55 ∷ 0x10000003 ∷ 56 ∷ 2 ∷ []) 0x8 (0 ∷ 0x10000003 ∷ 1 ∷ 2 ∷ []) (54 ∷ 0 ∷ 55 ∷ 0 ∷ 56 ∷ 0 ∷ [])
+row-214 = calls answered 11 (1 ∷ 0x3020 ∷ 0 ∷ 0 ∷ 0 ∷ []) (54 ∷ 3 ∷ 55 ∷ 0x10000003 ∷ 56 ∷ 1 ∷ []) 0x8 (0 ∷ 0x10000003 ∷ 1 ∷ 1 ∷ []) (54 ∷ 0 ∷ [])
 
 abbrev row-215 : Bool
-row-215 = calls answered 11 (1 ∷ 0x100003000 ∷ 0 ∷ 0 ∷ 0 ∷ []) (54 ∷ 3 ∷ 55 ∷ 0x10000003 ∷ 56 ∷ 4 ∷ []) 0x8 (0 ∷ 0x10000003 ∷ 1 ∷ 4 ∷ []) (54 ∷ 0 ∷ 55 ∷ 0 ∷ 56 ∷ 0 ∷ [])
+row-215 = calls answered 11 (1 ∷ 0x3020 ∷ 0 ∷ 0 ∷ 0 ∷ []) (54 ∷ 3 ∷ 55 ∷ 0x10000003 ∷ 56 ∷ 2 ∷ []) 0x8 (0 ∷ 0x10000003 ∷ 1 ∷ 2 ∷ []) (54 ∷ 0 ∷ [])
 
 abbrev row-216 : Bool
-row-216 = calls started 10 (0x15 ∷ 7 ∷ 0x4000000 ∷ 0x100000000 ∷ 4 ∷ []) ([]) 0x105 ([]) ([])
+row-216 = calls answered 11 (1 ∷ 0x3020 ∷ 0 ∷ 0 ∷ 0 ∷ []) (54 ∷ 3 ∷ 55 ∷ 0x10000003 ∷ 56 ∷ 4 ∷ []) 0x8 (0 ∷ 0x10000003 ∷ 1 ∷ 4 ∷ []) (54 ∷ 0 ∷ [])
 
 abbrev row-217 : Bool
-row-217 = calls started 10 (0x17 ∷ 6 ∷ 0xc400000000000000 ∷ 0x100000000 ∷ 4 ∷ []) ([]) 0x105 ([]) ([])
+row-217 = calls started 10 (0x15 ∷ 7 ∷ 0x4000000 ∷ 0x100003000 ∷ 4 ∷ []) ([]) 0x103 ([]) ([])
 
 abbrev row-218 : Bool
-row-218 = calls answered 11 (1 ∷ 0x100000000 ∷ 0 ∷ 0 ∷ 0 ∷ []) (54 ∷ 3 ∷ 55 ∷ 0x10000003 ∷ 56 ∷ 1 ∷ []) 0x8 (0 ∷ 0x10000003 ∷ 1 ∷ 1 ∷ []) (54 ∷ 0 ∷ 55 ∷ 0 ∷ 56 ∷ 0 ∷ [])
+row-218 = calls started 10 (0x17 ∷ 6 ∷ 0xc400000000000000 ∷ 0x100003000 ∷ 4 ∷ []) ([]) 0x103 ([]) ([])
 
 abbrev row-219 : Bool
-row-219 = calls answered 11 (1 ∷ 0x100000000 ∷ 0 ∷ 0 ∷ 0 ∷ []) (54 ∷ 3 ∷ 55 ∷ 0x10000003 ∷ 56 ∷ 2 ∷ []) 0x8 (0 ∷ 0x10000003 ∷ 1 ∷ 2 ∷ []) (54 ∷ 0 ∷ 55 ∷ 0 ∷ 56 ∷ 0 ∷ [])
+row-219 = calls answered 11 (1 ∷ 0x100003000 ∷ 0 ∷ 0 ∷ 0 ∷ []) (54 ∷ 3 ∷ 55 ∷ 0x10000003 ∷ 56 ∷ 1 ∷ []) 0x8 (0 ∷ 0x10000003 ∷ 1 ∷ 1 ∷ []) (54 ∷ 0 ∷ [])
 
 abbrev row-220 : Bool
-row-220 = calls answered 11 (1 ∷ 0x100000000 ∷ 0 ∷ 0 ∷ 0 ∷ []) (54 ∷ 3 ∷ 55 ∷ 0x10000003 ∷ 56 ∷ 4 ∷ []) 0x8 (0 ∷ 0x10000003 ∷ 1 ∷ 4 ∷ []) (54 ∷ 0 ∷ 55 ∷ 0 ∷ 56 ∷ 0 ∷ [])
+row-220 = calls answered 11 (1 ∷ 0x100003000 ∷ 0 ∷ 0 ∷ 0 ∷ []) (54 ∷ 3 ∷ 55 ∷ 0x10000003 ∷ 56 ∷ 2 ∷ []) 0x8 (0 ∷ 0x10000003 ∷ 1 ∷ 2 ∷ []) (54 ∷ 0 ∷ [])
 
 abbrev row-221 : Bool
-row-221 = calls started 10 (0x15 ∷ 7 ∷ 0x4000000 ∷ 0x3010 ∷ 4 ∷ []) ([]) 0x105 ([]) ([])
+row-221 = calls answered 11 (1 ∷ 0x100003000 ∷ 0 ∷ 0 ∷ 0 ∷ []) (54 ∷ 3 ∷ 55 ∷ 0x10000003 ∷ 56 ∷ 4 ∷ []) 0x8 (0 ∷ 0x10000003 ∷ 1 ∷ 4 ∷ []) (54 ∷ 0 ∷ [])
 
 abbrev row-222 : Bool
-row-222 = calls started 10 (0x17 ∷ 6 ∷ 0xc400000000000000 ∷ 0x3010 ∷ 4 ∷ []) ([]) 0x105 ([]) ([])
+row-222 = calls started 10 (0x15 ∷ 7 ∷ 0x4000000 ∷ 0x100000000 ∷ 4 ∷ []) ([]) 0x105 ([]) ([])
 
 abbrev row-223 : Bool
-row-223 = calls answered 11 (1 ∷ 0x3010 ∷ 0 ∷ 0 ∷ 0 ∷ []) (54 ∷ 3 ∷ 55 ∷ 0x10000003 ∷ 56 ∷ 1 ∷ []) 0x8 (0 ∷ 0x10000003 ∷ 1 ∷ 1 ∷ []) (54 ∷ 0 ∷ 55 ∷ 0 ∷ 56 ∷ 0 ∷ [])
+row-223 = calls started 10 (0x17 ∷ 6 ∷ 0xc400000000000000 ∷ 0x100000000 ∷ 4 ∷ []) ([]) 0x105 ([]) ([])
 
 abbrev row-224 : Bool
-row-224 = calls answered 11 (1 ∷ 0x3010 ∷ 0 ∷ 0 ∷ 0 ∷ []) (54 ∷ 3 ∷ 55 ∷ 0x10000003 ∷ 56 ∷ 2 ∷ []) 0x8 (0 ∷ 0x10000003 ∷ 1 ∷ 2 ∷ []) (54 ∷ 0 ∷ 55 ∷ 0 ∷ 56 ∷ 0 ∷ [])
+row-224 = calls answered 11 (1 ∷ 0x100000000 ∷ 0 ∷ 0 ∷ 0 ∷ []) (54 ∷ 3 ∷ 55 ∷ 0x10000003 ∷ 56 ∷ 1 ∷ []) 0x8 (0 ∷ 0x10000003 ∷ 1 ∷ 1 ∷ []) (54 ∷ 0 ∷ [])
 
 abbrev row-225 : Bool
-row-225 = calls answered 11 (1 ∷ 0x3010 ∷ 0 ∷ 0 ∷ 0 ∷ []) (54 ∷ 3 ∷ 55 ∷ 0x10000003 ∷ 56 ∷ 4 ∷ []) 0x8 (0 ∷ 0x10000003 ∷ 1 ∷ 4 ∷ []) (54 ∷ 0 ∷ 55 ∷ 0 ∷ 56 ∷ 0 ∷ [])
+row-225 = calls answered 11 (1 ∷ 0x100000000 ∷ 0 ∷ 0 ∷ 0 ∷ []) (54 ∷ 3 ∷ 55 ∷ 0x10000003 ∷ 56 ∷ 2 ∷ []) 0x8 (0 ∷ 0x10000003 ∷ 1 ∷ 2 ∷ []) (54 ∷ 0 ∷ [])
 
 abbrev row-226 : Bool
-row-226 = calls started 10 (0x15 ∷ 7 ∷ 0x4000000 ∷ 0x2000 ∷ 4 ∷ []) ([]) 0x105 ([]) ([])
+row-226 = calls answered 11 (1 ∷ 0x100000000 ∷ 0 ∷ 0 ∷ 0 ∷ []) (54 ∷ 3 ∷ 55 ∷ 0x10000003 ∷ 56 ∷ 4 ∷ []) 0x8 (0 ∷ 0x10000003 ∷ 1 ∷ 4 ∷ []) (54 ∷ 0 ∷ [])
 
 abbrev row-227 : Bool
-row-227 = calls started 10 (0x17 ∷ 6 ∷ 0xc400000000000000 ∷ 0x2000 ∷ 4 ∷ []) ([]) 0x105 ([]) ([])
+row-227 = calls started 10 (0x15 ∷ 7 ∷ 0x4000000 ∷ 0x3010 ∷ 4 ∷ []) ([]) 0x105 ([]) ([])
 
 abbrev row-228 : Bool
-row-228 = calls answered 11 (1 ∷ 0x2000 ∷ 0 ∷ 0 ∷ 0 ∷ []) (54 ∷ 3 ∷ 55 ∷ 0x10000003 ∷ 56 ∷ 1 ∷ []) 0x8 (0 ∷ 0x10000003 ∷ 1 ∷ 1 ∷ []) (54 ∷ 0 ∷ 55 ∷ 0 ∷ 56 ∷ 0 ∷ [])
+row-228 = calls started 10 (0x17 ∷ 6 ∷ 0xc400000000000000 ∷ 0x3010 ∷ 4 ∷ []) ([]) 0x105 ([]) ([])
 
 abbrev row-229 : Bool
-row-229 = calls answered 11 (1 ∷ 0x2000 ∷ 0 ∷ 0 ∷ 0 ∷ []) (54 ∷ 3 ∷ 55 ∷ 0x10000003 ∷ 56 ∷ 2 ∷ []) 0x8 (0 ∷ 0x10000003 ∷ 1 ∷ 2 ∷ []) (54 ∷ 0 ∷ 55 ∷ 0 ∷ 56 ∷ 0 ∷ [])
+row-229 = calls answered 11 (1 ∷ 0x3010 ∷ 0 ∷ 0 ∷ 0 ∷ []) (54 ∷ 3 ∷ 55 ∷ 0x10000003 ∷ 56 ∷ 1 ∷ []) 0x8 (0 ∷ 0x10000003 ∷ 1 ∷ 1 ∷ []) (54 ∷ 0 ∷ [])
 
 abbrev row-230 : Bool
-row-230 = calls answered 11 (1 ∷ 0x2000 ∷ 0 ∷ 0 ∷ 0 ∷ []) (54 ∷ 3 ∷ 55 ∷ 0x10000003 ∷ 56 ∷ 4 ∷ []) 0x8 (0 ∷ 0x10000003 ∷ 1 ∷ 4 ∷ []) (54 ∷ 0 ∷ 55 ∷ 0 ∷ 56 ∷ 0 ∷ [])
+row-230 = calls answered 11 (1 ∷ 0x3010 ∷ 0 ∷ 0 ∷ 0 ∷ []) (54 ∷ 3 ∷ 55 ∷ 0x10000003 ∷ 56 ∷ 2 ∷ []) 0x8 (0 ∷ 0x10000003 ∷ 1 ∷ 2 ∷ []) (54 ∷ 0 ∷ [])
 
 abbrev row-231 : Bool
-row-231 = calls started 10 (0x15 ∷ 7 ∷ 0x4000000 ∷ 0x13 ∷ 4 ∷ []) ([]) 0x8 (0 ∷ 0x10000003 ∷ 1 ∷ 1 ∷ []) ([])
+row-231 = calls answered 11 (1 ∷ 0x3010 ∷ 0 ∷ 0 ∷ 0 ∷ []) (54 ∷ 3 ∷ 55 ∷ 0x10000003 ∷ 56 ∷ 4 ∷ []) 0x8 (0 ∷ 0x10000003 ∷ 1 ∷ 4 ∷ []) (54 ∷ 0 ∷ [])
 
 abbrev row-232 : Bool
-row-232 = calls started 10 (0x17 ∷ 6 ∷ 0xc400000000000000 ∷ 0x13 ∷ 4 ∷ []) ([]) 0x8 (0 ∷ 0x1000000000000002 ∷ 1 ∷ 2 ∷ []) ([])
+row-232 = calls started 10 (0x15 ∷ 7 ∷ 0x4000000 ∷ 0x2000 ∷ 4 ∷ []) ([]) 0x105 ([]) ([])
 
 abbrev row-233 : Bool
-row-233 = calls answered 11 (1 ∷ 0x13 ∷ 0 ∷ 0 ∷ 0 ∷ []) (54 ∷ 3 ∷ 55 ∷ 0x10000003 ∷ 56 ∷ 1 ∷ []) 0x8 (0 ∷ 0x10000003 ∷ 1 ∷ 1 ∷ []) (54 ∷ 0 ∷ 55 ∷ 0 ∷ 56 ∷ 0 ∷ [])
+row-233 = calls started 10 (0x17 ∷ 6 ∷ 0xc400000000000000 ∷ 0x2000 ∷ 4 ∷ []) ([]) 0x105 ([]) ([])
 
 abbrev row-234 : Bool
-row-234 = calls answered 11 (1 ∷ 0x13 ∷ 0 ∷ 0 ∷ 0 ∷ []) (54 ∷ 3 ∷ 55 ∷ 0x10000003 ∷ 56 ∷ 2 ∷ []) 0x8 (0 ∷ 0x10000003 ∷ 1 ∷ 2 ∷ []) (54 ∷ 0 ∷ 55 ∷ 0 ∷ 56 ∷ 0 ∷ [])
+row-234 = calls answered 11 (1 ∷ 0x2000 ∷ 0 ∷ 0 ∷ 0 ∷ []) (54 ∷ 3 ∷ 55 ∷ 0x10000003 ∷ 56 ∷ 1 ∷ []) 0x8 (0 ∷ 0x10000003 ∷ 1 ∷ 1 ∷ []) (54 ∷ 0 ∷ [])
 
 abbrev row-235 : Bool
-row-235 = calls answered 11 (1 ∷ 0x13 ∷ 0 ∷ 0 ∷ 0 ∷ []) (54 ∷ 3 ∷ 55 ∷ 0x10000003 ∷ 56 ∷ 4 ∷ []) 0x8 (0 ∷ 0x10000003 ∷ 1 ∷ 4 ∷ []) (54 ∷ 0 ∷ 55 ∷ 0 ∷ 56 ∷ 0 ∷ [])
+row-235 = calls answered 11 (1 ∷ 0x2000 ∷ 0 ∷ 0 ∷ 0 ∷ []) (54 ∷ 3 ∷ 55 ∷ 0x10000003 ∷ 56 ∷ 2 ∷ []) 0x8 (0 ∷ 0x10000003 ∷ 1 ∷ 2 ∷ []) (54 ∷ 0 ∷ [])
 
 abbrev row-236 : Bool
-row-236 = calls started 10 (0x15 ∷ 7 ∷ 0x4000000 ∷ 0x70201f ∷ 4 ∷ []) ([]) 0x8 (0 ∷ 0x10000003 ∷ 1 ∷ 1 ∷ []) ([])
+row-236 = calls answered 11 (1 ∷ 0x2000 ∷ 0 ∷ 0 ∷ 0 ∷ []) (54 ∷ 3 ∷ 55 ∷ 0x10000003 ∷ 56 ∷ 4 ∷ []) 0x8 (0 ∷ 0x10000003 ∷ 1 ∷ 4 ∷ []) (54 ∷ 0 ∷ [])
 
 abbrev row-237 : Bool
-row-237 = calls started 10 (0x17 ∷ 6 ∷ 0xc400000000000000 ∷ 0x70201f ∷ 4 ∷ []) ([]) 0x8 (0 ∷ 0x1000000000000002 ∷ 1 ∷ 2 ∷ []) ([])
+row-237 = calls started 10 (0x15 ∷ 7 ∷ 0x4000000 ∷ 0x13 ∷ 4 ∷ []) ([]) 0x8 (0 ∷ 0x10000003 ∷ 1 ∷ 1 ∷ []) ([])
 
 abbrev row-238 : Bool
-row-238 = calls answered 11 (1 ∷ 0x70201f ∷ 0 ∷ 0 ∷ 0 ∷ []) (54 ∷ 3 ∷ 55 ∷ 0x10000003 ∷ 56 ∷ 1 ∷ []) 0x105 ([]) (54 ∷ 0 ∷ 55 ∷ 0 ∷ 56 ∷ 0 ∷ [])
+row-238 = calls started 10 (0x17 ∷ 6 ∷ 0xc400000000000000 ∷ 0x13 ∷ 4 ∷ []) ([]) 0x8 (0 ∷ 0x1000000000000002 ∷ 1 ∷ 2 ∷ []) ([])
 
 abbrev row-239 : Bool
-row-239 = calls answered 11 (1 ∷ 0x70201f ∷ 0 ∷ 0 ∷ 0 ∷ []) (54 ∷ 3 ∷ 55 ∷ 0x10000003 ∷ 56 ∷ 2 ∷ []) 0x105 ([]) (54 ∷ 0 ∷ 55 ∷ 0 ∷ 56 ∷ 0 ∷ [])
+row-239 = calls answered 11 (1 ∷ 0x13 ∷ 0 ∷ 0 ∷ 0 ∷ []) (54 ∷ 3 ∷ 55 ∷ 0x10000003 ∷ 56 ∷ 1 ∷ []) 0x8 (0 ∷ 0x10000003 ∷ 1 ∷ 1 ∷ []) (54 ∷ 0 ∷ [])
 
 abbrev row-240 : Bool
-row-240 = calls answered 11 (1 ∷ 0x70201f ∷ 0 ∷ 0 ∷ 0 ∷ []) (54 ∷ 3 ∷ 55 ∷ 0x10000003 ∷ 56 ∷ 4 ∷ []) 0x105 ([]) (54 ∷ 0 ∷ 55 ∷ 0 ∷ 56 ∷ 0 ∷ [])
+row-240 = calls answered 11 (1 ∷ 0x13 ∷ 0 ∷ 0 ∷ 0 ∷ []) (54 ∷ 3 ∷ 55 ∷ 0x10000003 ∷ 56 ∷ 2 ∷ []) 0x8 (0 ∷ 0x10000003 ∷ 1 ∷ 2 ∷ []) (54 ∷ 0 ∷ [])
 
 abbrev row-241 : Bool
-row-241 = calls started 10 (0x15 ∷ 7 ∷ 0x4000000 ∷ 0x70207f ∷ 4 ∷ []) ([]) 0x8 (0 ∷ 0x10000003 ∷ 1 ∷ 1 ∷ []) ([])
+row-241 = calls answered 11 (1 ∷ 0x13 ∷ 0 ∷ 0 ∷ 0 ∷ []) (54 ∷ 3 ∷ 55 ∷ 0x10000003 ∷ 56 ∷ 4 ∷ []) 0x8 (0 ∷ 0x10000003 ∷ 1 ∷ 4 ∷ []) (54 ∷ 0 ∷ [])
 
 abbrev row-242 : Bool
-row-242 = calls started 10 (0x17 ∷ 6 ∷ 0xc400000000000000 ∷ 0x70207f ∷ 4 ∷ []) ([]) 0x8 (0 ∷ 0x1000000000000002 ∷ 1 ∷ 2 ∷ []) ([])
+row-242 = calls started 10 (0x15 ∷ 7 ∷ 0x4000000 ∷ 0x70201f ∷ 4 ∷ []) ([]) 0x8 (0 ∷ 0x10000003 ∷ 1 ∷ 1 ∷ []) ([])
 
 abbrev row-243 : Bool
-row-243 = calls answered 11 (1 ∷ 0x70207f ∷ 0 ∷ 0 ∷ 0 ∷ []) (54 ∷ 3 ∷ 55 ∷ 0x10000003 ∷ 56 ∷ 1 ∷ []) 0x105 ([]) (54 ∷ 0 ∷ 55 ∷ 0 ∷ 56 ∷ 0 ∷ [])
+row-243 = calls started 10 (0x17 ∷ 6 ∷ 0xc400000000000000 ∷ 0x70201f ∷ 4 ∷ []) ([]) 0x8 (0 ∷ 0x1000000000000002 ∷ 1 ∷ 2 ∷ []) ([])
 
 abbrev row-244 : Bool
-row-244 = calls answered 11 (1 ∷ 0x70207f ∷ 0 ∷ 0 ∷ 0 ∷ []) (54 ∷ 3 ∷ 55 ∷ 0x10000003 ∷ 56 ∷ 2 ∷ []) 0x105 ([]) (54 ∷ 0 ∷ 55 ∷ 0 ∷ 56 ∷ 0 ∷ [])
+row-244 = calls answered 11 (1 ∷ 0x70201f ∷ 0 ∷ 0 ∷ 0 ∷ []) (54 ∷ 3 ∷ 55 ∷ 0x10000003 ∷ 56 ∷ 1 ∷ []) 0x105 ([]) (54 ∷ 0 ∷ [])
 
 abbrev row-245 : Bool
-row-245 = calls answered 11 (1 ∷ 0x70207f ∷ 0 ∷ 0 ∷ 0 ∷ []) (54 ∷ 3 ∷ 55 ∷ 0x10000003 ∷ 56 ∷ 4 ∷ []) 0x105 ([]) (54 ∷ 0 ∷ 55 ∷ 0 ∷ 56 ∷ 0 ∷ [])
+row-245 = calls answered 11 (1 ∷ 0x70201f ∷ 0 ∷ 0 ∷ 0 ∷ []) (54 ∷ 3 ∷ 55 ∷ 0x10000003 ∷ 56 ∷ 2 ∷ []) 0x105 ([]) (54 ∷ 0 ∷ [])
 
 abbrev row-246 : Bool
-row-246 = calls started 10 (0x15 ∷ 7 ∷ 0x4000000 ∷ 0xffffffff ∷ 4 ∷ []) ([]) 0x8 (0 ∷ 0x10000003 ∷ 1 ∷ 1 ∷ []) ([])
+row-246 = calls answered 11 (1 ∷ 0x70201f ∷ 0 ∷ 0 ∷ 0 ∷ []) (54 ∷ 3 ∷ 55 ∷ 0x10000003 ∷ 56 ∷ 4 ∷ []) 0x105 ([]) (54 ∷ 0 ∷ [])
 
 abbrev row-247 : Bool
-row-247 = calls started 10 (0x17 ∷ 6 ∷ 0xc400000000000000 ∷ 0xffffffff ∷ 4 ∷ []) ([]) 0x8 (0 ∷ 0x1000000000000002 ∷ 1 ∷ 2 ∷ []) ([])
+row-247 = calls started 10 (0x15 ∷ 7 ∷ 0x4000000 ∷ 0x70207f ∷ 4 ∷ []) ([]) 0x8 (0 ∷ 0x10000003 ∷ 1 ∷ 1 ∷ []) ([])
 
 abbrev row-248 : Bool
-row-248 = calls answered 11 (1 ∷ 0xffffffff ∷ 0 ∷ 0 ∷ 0 ∷ []) (54 ∷ 3 ∷ 55 ∷ 0x10000003 ∷ 56 ∷ 1 ∷ []) 0x105 ([]) (54 ∷ 0 ∷ 55 ∷ 0 ∷ 56 ∷ 0 ∷ [])
+row-248 = calls started 10 (0x17 ∷ 6 ∷ 0xc400000000000000 ∷ 0x70207f ∷ 4 ∷ []) ([]) 0x8 (0 ∷ 0x1000000000000002 ∷ 1 ∷ 2 ∷ []) ([])
 
 abbrev row-249 : Bool
-row-249 = calls answered 11 (1 ∷ 0xffffffff ∷ 0 ∷ 0 ∷ 0 ∷ []) (54 ∷ 3 ∷ 55 ∷ 0x10000003 ∷ 56 ∷ 2 ∷ []) 0x105 ([]) (54 ∷ 0 ∷ 55 ∷ 0 ∷ 56 ∷ 0 ∷ [])
+row-249 = calls answered 11 (1 ∷ 0x70207f ∷ 0 ∷ 0 ∷ 0 ∷ []) (54 ∷ 3 ∷ 55 ∷ 0x10000003 ∷ 56 ∷ 1 ∷ []) 0x105 ([]) (54 ∷ 0 ∷ [])
 
 abbrev row-250 : Bool
-row-250 = calls answered 11 (1 ∷ 0xffffffff ∷ 0 ∷ 0 ∷ 0 ∷ []) (54 ∷ 3 ∷ 55 ∷ 0x10000003 ∷ 56 ∷ 4 ∷ []) 0x105 ([]) (54 ∷ 0 ∷ 55 ∷ 0 ∷ 56 ∷ 0 ∷ [])
+row-250 = calls answered 11 (1 ∷ 0x70207f ∷ 0 ∷ 0 ∷ 0 ∷ []) (54 ∷ 3 ∷ 55 ∷ 0x10000003 ∷ 56 ∷ 2 ∷ []) 0x105 ([]) (54 ∷ 0 ∷ [])
 
 abbrev row-251 : Bool
-row-251 = calls started 10 (0x15 ∷ 7 ∷ 0x4000000 ∷ 0x700483 ∷ 4 ∷ []) ([]) 0x9 (0 ∷ 0x10000003 ∷ 1 ∷ 1 ∷ []) (32 ∷ 0x258bf258bf258bd3 ∷ 54 ∷ 1 ∷ 55 ∷ 9 ∷ 56 ∷ 1 ∷ 57 ∷ 1 ∷ [])
+row-251 = calls answered 11 (1 ∷ 0x70207f ∷ 0 ∷ 0 ∷ 0 ∷ []) (54 ∷ 3 ∷ 55 ∷ 0x10000003 ∷ 56 ∷ 4 ∷ []) 0x105 ([]) (54 ∷ 0 ∷ [])
 
 abbrev row-252 : Bool
-row-252 = calls started 10 (0x17 ∷ 6 ∷ 0xc400000000000000 ∷ 0x700483 ∷ 4 ∷ []) ([]) 0x8 (0 ∷ 0x1000000000000002 ∷ 1 ∷ 2 ∷ []) ([])
+row-252 = calls started 10 (0x15 ∷ 7 ∷ 0x4000000 ∷ 0xffffffff ∷ 4 ∷ []) ([]) 0x8 (0 ∷ 0x10000003 ∷ 1 ∷ 1 ∷ []) ([])
 
 abbrev row-253 : Bool
-row-253 = calls answered 11 (1 ∷ 0x700483 ∷ 0 ∷ 0 ∷ 0 ∷ []) (54 ∷ 3 ∷ 55 ∷ 0x10000003 ∷ 56 ∷ 1 ∷ []) 0x9 (0 ∷ 0x10000003 ∷ 1 ∷ 1 ∷ []) (32 ∷ 0x258bf258bf258bd3 ∷ 54 ∷ 1 ∷ 55 ∷ 9 ∷ 57 ∷ 1 ∷ [])
+row-253 = calls started 10 (0x17 ∷ 6 ∷ 0xc400000000000000 ∷ 0xffffffff ∷ 4 ∷ []) ([]) 0x8 (0 ∷ 0x1000000000000002 ∷ 1 ∷ 2 ∷ []) ([])
 
 abbrev row-254 : Bool
-row-254 = calls answered 11 (1 ∷ 0x700483 ∷ 0 ∷ 0 ∷ 0 ∷ []) (54 ∷ 3 ∷ 55 ∷ 0x10000003 ∷ 56 ∷ 2 ∷ []) 0x8 (0 ∷ 0x10000003 ∷ 1 ∷ 2 ∷ []) (54 ∷ 0 ∷ 55 ∷ 0 ∷ 56 ∷ 0 ∷ [])
+row-254 = calls answered 11 (1 ∷ 0xffffffff ∷ 0 ∷ 0 ∷ 0 ∷ []) (54 ∷ 3 ∷ 55 ∷ 0x10000003 ∷ 56 ∷ 1 ∷ []) 0x105 ([]) (54 ∷ 0 ∷ [])
 
 abbrev row-255 : Bool
-row-255 = calls answered 11 (1 ∷ 0x700483 ∷ 0 ∷ 0 ∷ 0 ∷ []) (54 ∷ 3 ∷ 55 ∷ 0x10000003 ∷ 56 ∷ 4 ∷ []) 0x8 (0 ∷ 0x10000003 ∷ 1 ∷ 4 ∷ []) (54 ∷ 0 ∷ 55 ∷ 0 ∷ 56 ∷ 0 ∷ [])
+row-255 = calls answered 11 (1 ∷ 0xffffffff ∷ 0 ∷ 0 ∷ 0 ∷ []) (54 ∷ 3 ∷ 55 ∷ 0x10000003 ∷ 56 ∷ 2 ∷ []) 0x105 ([]) (54 ∷ 0 ∷ [])
 
 abbrev row-256 : Bool
-row-256 = calls started 10 (0x15 ∷ 7 ∷ 0x4000000 ∷ 0x7004a3 ∷ 4 ∷ []) ([]) 0x8 (0 ∷ 0x10000003 ∷ 1 ∷ 1 ∷ []) ([])
+row-256 = calls answered 11 (1 ∷ 0xffffffff ∷ 0 ∷ 0 ∷ 0 ∷ []) (54 ∷ 3 ∷ 55 ∷ 0x10000003 ∷ 56 ∷ 4 ∷ []) 0x105 ([]) (54 ∷ 0 ∷ [])
 
 abbrev row-257 : Bool
-row-257 = calls started 10 (0x17 ∷ 6 ∷ 0xc400000000000000 ∷ 0x7004a3 ∷ 4 ∷ []) ([]) 0xa (0 ∷ 0x1000000000000002 ∷ 1 ∷ 1 ∷ 2 ∷ 0x78 ∷ []) (32 ∷ 0x258bf258bf258bd3 ∷ [])
+row-257 = calls started 10 (0x15 ∷ 7 ∷ 0x4000000 ∷ 0x700483 ∷ 4 ∷ []) ([]) 0x9 (0 ∷ 0x10000003 ∷ 1 ∷ 1 ∷ []) (32 ∷ 0x258bf258bf258bd3 ∷ 54 ∷ 1 ∷ 55 ∷ 9 ∷ 56 ∷ 1 ∷ 57 ∷ 1 ∷ [])
 
 abbrev row-258 : Bool
-row-258 = calls answered 11 (1 ∷ 0x7004a3 ∷ 0 ∷ 0 ∷ 0 ∷ []) (54 ∷ 3 ∷ 55 ∷ 0x10000003 ∷ 56 ∷ 1 ∷ []) 0x8 (0 ∷ 0x10000003 ∷ 1 ∷ 1 ∷ []) (54 ∷ 0 ∷ 55 ∷ 0 ∷ 56 ∷ 0 ∷ [])
+row-258 = calls started 10 (0x17 ∷ 6 ∷ 0xc400000000000000 ∷ 0x700483 ∷ 4 ∷ []) ([]) 0x8 (0 ∷ 0x1000000000000002 ∷ 1 ∷ 2 ∷ []) ([])
 
 abbrev row-259 : Bool
-row-259 = calls answered 11 (1 ∷ 0x7004a3 ∷ 0 ∷ 0 ∷ 0 ∷ []) (54 ∷ 3 ∷ 55 ∷ 0x10000003 ∷ 56 ∷ 2 ∷ []) 0xa (0 ∷ 0x10000003 ∷ 1 ∷ 1 ∷ 2 ∷ 0x78 ∷ []) (32 ∷ 0x258bf258bf258bd3 ∷ 54 ∷ 0 ∷ 55 ∷ 0 ∷ 56 ∷ 0 ∷ [])
+row-259 = calls answered 11 (1 ∷ 0x700483 ∷ 0 ∷ 0 ∷ 0 ∷ []) (54 ∷ 3 ∷ 55 ∷ 0x10000003 ∷ 56 ∷ 1 ∷ []) 0x9 (0 ∷ 0x10000003 ∷ 1 ∷ 1 ∷ []) (32 ∷ 0x258bf258bf258bd3 ∷ 54 ∷ 1 ∷ 55 ∷ 9 ∷ 57 ∷ 1 ∷ [])
 
 abbrev row-260 : Bool
-row-260 = calls answered 11 (1 ∷ 0x7004a3 ∷ 0 ∷ 0 ∷ 0 ∷ []) (54 ∷ 3 ∷ 55 ∷ 0x10000003 ∷ 56 ∷ 4 ∷ []) 0x8 (0 ∷ 0x10000003 ∷ 1 ∷ 4 ∷ []) (54 ∷ 0 ∷ 55 ∷ 0 ∷ 56 ∷ 0 ∷ [])
+row-260 = calls answered 11 (1 ∷ 0x700483 ∷ 0 ∷ 0 ∷ 0 ∷ []) (54 ∷ 3 ∷ 55 ∷ 0x10000003 ∷ 56 ∷ 2 ∷ []) 0x8 (0 ∷ 0x10000003 ∷ 1 ∷ 2 ∷ []) (54 ∷ 0 ∷ [])
 
 abbrev row-261 : Bool
-row-261 = calls started 10 (0x15 ∷ 7 ∷ 0x4000000 ∷ 0x701483 ∷ 4 ∷ []) ([]) 0x9 (0 ∷ 0x10000003 ∷ 1 ∷ 2 ∷ []) (32 ∷ 0x258bf258bf258bd3 ∷ 54 ∷ 1 ∷ 55 ∷ 9 ∷ 56 ∷ 2 ∷ 57 ∷ 1 ∷ [])
+row-261 = calls answered 11 (1 ∷ 0x700483 ∷ 0 ∷ 0 ∷ 0 ∷ []) (54 ∷ 3 ∷ 55 ∷ 0x10000003 ∷ 56 ∷ 4 ∷ []) 0x8 (0 ∷ 0x10000003 ∷ 1 ∷ 4 ∷ []) (54 ∷ 0 ∷ [])
 
 abbrev row-262 : Bool
-row-262 = calls started 10 (0x17 ∷ 6 ∷ 0xc400000000000000 ∷ 0x701483 ∷ 4 ∷ []) ([]) 0x8 (0 ∷ 0x1000000000000002 ∷ 1 ∷ 2 ∷ []) ([])
+row-262 = calls started 10 (0x15 ∷ 7 ∷ 0x4000000 ∷ 0x7004a3 ∷ 4 ∷ []) ([]) 0x8 (0 ∷ 0x10000003 ∷ 1 ∷ 1 ∷ []) ([])
 
 abbrev row-263 : Bool
-row-263 = calls answered 11 (1 ∷ 0x701483 ∷ 0 ∷ 0 ∷ 0 ∷ []) (54 ∷ 3 ∷ 55 ∷ 0x10000003 ∷ 56 ∷ 1 ∷ []) 0x9 (0 ∷ 0x10000003 ∷ 1 ∷ 2 ∷ []) (32 ∷ 0x258bf258bf258bd3 ∷ 54 ∷ 1 ∷ 55 ∷ 9 ∷ 56 ∷ 2 ∷ 57 ∷ 1 ∷ [])
+row-263 = calls started 10 (0x17 ∷ 6 ∷ 0xc400000000000000 ∷ 0x7004a3 ∷ 4 ∷ []) ([]) 0xa (0 ∷ 0x1000000000000002 ∷ 1 ∷ 1 ∷ 2 ∷ 0x78 ∷ []) (32 ∷ 0x258bf258bf258bd3 ∷ [])
 
 abbrev row-264 : Bool
-row-264 = calls answered 11 (1 ∷ 0x701483 ∷ 0 ∷ 0 ∷ 0 ∷ []) (54 ∷ 3 ∷ 55 ∷ 0x10000003 ∷ 56 ∷ 2 ∷ []) 0x8 (0 ∷ 0x10000003 ∷ 1 ∷ 2 ∷ []) (54 ∷ 0 ∷ 55 ∷ 0 ∷ 56 ∷ 0 ∷ [])
+row-264 = calls answered 11 (1 ∷ 0x7004a3 ∷ 0 ∷ 0 ∷ 0 ∷ []) (54 ∷ 3 ∷ 55 ∷ 0x10000003 ∷ 56 ∷ 1 ∷ []) 0x8 (0 ∷ 0x10000003 ∷ 1 ∷ 1 ∷ []) (54 ∷ 0 ∷ [])
 
 abbrev row-265 : Bool
-row-265 = calls answered 11 (1 ∷ 0x701483 ∷ 0 ∷ 0 ∷ 0 ∷ []) (54 ∷ 3 ∷ 55 ∷ 0x10000003 ∷ 56 ∷ 4 ∷ []) 0x8 (0 ∷ 0x10000003 ∷ 1 ∷ 4 ∷ []) (54 ∷ 0 ∷ 55 ∷ 0 ∷ 56 ∷ 0 ∷ [])
+row-265 = calls answered 11 (1 ∷ 0x7004a3 ∷ 0 ∷ 0 ∷ 0 ∷ []) (54 ∷ 3 ∷ 55 ∷ 0x10000003 ∷ 56 ∷ 2 ∷ []) 0xa (0 ∷ 0x10000003 ∷ 1 ∷ 1 ∷ 2 ∷ 0x78 ∷ []) (32 ∷ 0x258bf258bf258bd3 ∷ 54 ∷ 0 ∷ [])
 
 abbrev row-266 : Bool
-row-266 = calls started 10 (0x15 ∷ 7 ∷ 0x4000000 ∷ 0x7014a3 ∷ 4 ∷ []) ([]) 0x8 (0 ∷ 0x10000003 ∷ 1 ∷ 1 ∷ []) ([])
+row-266 = calls answered 11 (1 ∷ 0x7004a3 ∷ 0 ∷ 0 ∷ 0 ∷ []) (54 ∷ 3 ∷ 55 ∷ 0x10000003 ∷ 56 ∷ 4 ∷ []) 0x8 (0 ∷ 0x10000003 ∷ 1 ∷ 4 ∷ []) (54 ∷ 0 ∷ [])
 
 abbrev row-267 : Bool
-row-267 = calls started 10 (0x17 ∷ 6 ∷ 0xc400000000000000 ∷ 0x7014a3 ∷ 4 ∷ []) ([]) 0xa (0 ∷ 0x1000000000000002 ∷ 1 ∷ 2 ∷ 2 ∷ 0x6f78 ∷ []) (32 ∷ 0x258bf258bf258bd3 ∷ [])
+row-267 = calls started 10 (0x15 ∷ 7 ∷ 0x4000000 ∷ 0x701483 ∷ 4 ∷ []) ([]) 0x9 (0 ∷ 0x10000003 ∷ 1 ∷ 2 ∷ []) (32 ∷ 0x258bf258bf258bd3 ∷ 54 ∷ 1 ∷ 55 ∷ 9 ∷ 56 ∷ 2 ∷ 57 ∷ 1 ∷ [])
 
 abbrev row-268 : Bool
-row-268 = calls answered 11 (1 ∷ 0x7014a3 ∷ 0 ∷ 0 ∷ 0 ∷ []) (54 ∷ 3 ∷ 55 ∷ 0x10000003 ∷ 56 ∷ 1 ∷ []) 0x8 (0 ∷ 0x10000003 ∷ 1 ∷ 1 ∷ []) (54 ∷ 0 ∷ 55 ∷ 0 ∷ 56 ∷ 0 ∷ [])
+row-268 = calls started 10 (0x17 ∷ 6 ∷ 0xc400000000000000 ∷ 0x701483 ∷ 4 ∷ []) ([]) 0x8 (0 ∷ 0x1000000000000002 ∷ 1 ∷ 2 ∷ []) ([])
 
 abbrev row-269 : Bool
-row-269 = calls answered 11 (1 ∷ 0x7014a3 ∷ 0 ∷ 0 ∷ 0 ∷ []) (54 ∷ 3 ∷ 55 ∷ 0x10000003 ∷ 56 ∷ 2 ∷ []) 0xa (0 ∷ 0x10000003 ∷ 1 ∷ 2 ∷ 2 ∷ 0x6f78 ∷ []) (32 ∷ 0x258bf258bf258bd3 ∷ 54 ∷ 0 ∷ 55 ∷ 0 ∷ 56 ∷ 0 ∷ [])
+row-269 = calls answered 11 (1 ∷ 0x701483 ∷ 0 ∷ 0 ∷ 0 ∷ []) (54 ∷ 3 ∷ 55 ∷ 0x10000003 ∷ 56 ∷ 1 ∷ []) 0x9 (0 ∷ 0x10000003 ∷ 1 ∷ 2 ∷ []) (32 ∷ 0x258bf258bf258bd3 ∷ 54 ∷ 1 ∷ 55 ∷ 9 ∷ 56 ∷ 2 ∷ 57 ∷ 1 ∷ [])
 
 abbrev row-270 : Bool
-row-270 = calls answered 11 (1 ∷ 0x7014a3 ∷ 0 ∷ 0 ∷ 0 ∷ []) (54 ∷ 3 ∷ 55 ∷ 0x10000003 ∷ 56 ∷ 4 ∷ []) 0x8 (0 ∷ 0x10000003 ∷ 1 ∷ 4 ∷ []) (54 ∷ 0 ∷ 55 ∷ 0 ∷ 56 ∷ 0 ∷ [])
+row-270 = calls answered 11 (1 ∷ 0x701483 ∷ 0 ∷ 0 ∷ 0 ∷ []) (54 ∷ 3 ∷ 55 ∷ 0x10000003 ∷ 56 ∷ 2 ∷ []) 0x8 (0 ∷ 0x10000003 ∷ 1 ∷ 2 ∷ []) (54 ∷ 0 ∷ [])
 
 abbrev row-271 : Bool
-row-271 = calls started 10 (0x15 ∷ 7 ∷ 0x4000000 ∷ 0x702483 ∷ 4 ∷ []) ([]) 0x9 (0 ∷ 0x10000003 ∷ 1 ∷ 4 ∷ []) (32 ∷ 0x258bf258bf258bd3 ∷ 54 ∷ 1 ∷ 55 ∷ 9 ∷ 56 ∷ 4 ∷ 57 ∷ 1 ∷ [])
+row-271 = calls answered 11 (1 ∷ 0x701483 ∷ 0 ∷ 0 ∷ 0 ∷ []) (54 ∷ 3 ∷ 55 ∷ 0x10000003 ∷ 56 ∷ 4 ∷ []) 0x8 (0 ∷ 0x10000003 ∷ 1 ∷ 4 ∷ []) (54 ∷ 0 ∷ [])
 
 abbrev row-272 : Bool
-row-272 = calls started 10 (0x17 ∷ 6 ∷ 0xc400000000000000 ∷ 0x702483 ∷ 4 ∷ []) ([]) 0x8 (0 ∷ 0x1000000000000002 ∷ 1 ∷ 2 ∷ []) ([])
+row-272 = calls started 10 (0x15 ∷ 7 ∷ 0x4000000 ∷ 0x7014a3 ∷ 4 ∷ []) ([]) 0x8 (0 ∷ 0x10000003 ∷ 1 ∷ 1 ∷ []) ([])
 
 abbrev row-273 : Bool
-row-273 = calls answered 11 (1 ∷ 0x702483 ∷ 0 ∷ 0 ∷ 0 ∷ []) (54 ∷ 3 ∷ 55 ∷ 0x10000003 ∷ 56 ∷ 1 ∷ []) 0x9 (0 ∷ 0x10000003 ∷ 1 ∷ 4 ∷ []) (32 ∷ 0x258bf258bf258bd3 ∷ 54 ∷ 1 ∷ 55 ∷ 9 ∷ 56 ∷ 4 ∷ 57 ∷ 1 ∷ [])
+row-273 = calls started 10 (0x17 ∷ 6 ∷ 0xc400000000000000 ∷ 0x7014a3 ∷ 4 ∷ []) ([]) 0xa (0 ∷ 0x1000000000000002 ∷ 1 ∷ 2 ∷ 2 ∷ 0x6f78 ∷ []) (32 ∷ 0x258bf258bf258bd3 ∷ [])
 
 abbrev row-274 : Bool
-row-274 = calls answered 11 (1 ∷ 0x702483 ∷ 0 ∷ 0 ∷ 0 ∷ []) (54 ∷ 3 ∷ 55 ∷ 0x10000003 ∷ 56 ∷ 2 ∷ []) 0x8 (0 ∷ 0x10000003 ∷ 1 ∷ 2 ∷ []) (54 ∷ 0 ∷ 55 ∷ 0 ∷ 56 ∷ 0 ∷ [])
+row-274 = calls answered 11 (1 ∷ 0x7014a3 ∷ 0 ∷ 0 ∷ 0 ∷ []) (54 ∷ 3 ∷ 55 ∷ 0x10000003 ∷ 56 ∷ 1 ∷ []) 0x8 (0 ∷ 0x10000003 ∷ 1 ∷ 1 ∷ []) (54 ∷ 0 ∷ [])
 
 abbrev row-275 : Bool
-row-275 = calls answered 11 (1 ∷ 0x702483 ∷ 0 ∷ 0 ∷ 0 ∷ []) (54 ∷ 3 ∷ 55 ∷ 0x10000003 ∷ 56 ∷ 4 ∷ []) 0x8 (0 ∷ 0x10000003 ∷ 1 ∷ 4 ∷ []) (54 ∷ 0 ∷ 55 ∷ 0 ∷ 56 ∷ 0 ∷ [])
+row-275 = calls answered 11 (1 ∷ 0x7014a3 ∷ 0 ∷ 0 ∷ 0 ∷ []) (54 ∷ 3 ∷ 55 ∷ 0x10000003 ∷ 56 ∷ 2 ∷ []) 0xa (0 ∷ 0x10000003 ∷ 1 ∷ 2 ∷ 2 ∷ 0x6f78 ∷ []) (32 ∷ 0x258bf258bf258bd3 ∷ 54 ∷ 0 ∷ [])
 
 abbrev row-276 : Bool
-row-276 = calls started 10 (0x15 ∷ 7 ∷ 0x4000000 ∷ 0x7024a3 ∷ 4 ∷ []) ([]) 0x8 (0 ∷ 0x10000003 ∷ 1 ∷ 1 ∷ []) ([])
+row-276 = calls answered 11 (1 ∷ 0x7014a3 ∷ 0 ∷ 0 ∷ 0 ∷ []) (54 ∷ 3 ∷ 55 ∷ 0x10000003 ∷ 56 ∷ 4 ∷ []) 0x8 (0 ∷ 0x10000003 ∷ 1 ∷ 4 ∷ []) (54 ∷ 0 ∷ [])
 
 abbrev row-277 : Bool
-row-277 = calls started 10 (0x17 ∷ 6 ∷ 0xc400000000000000 ∷ 0x7024a3 ∷ 4 ∷ []) ([]) 0xa (0 ∷ 0x1000000000000002 ∷ 1 ∷ 4 ∷ 2 ∷ 0x4d5e6f78 ∷ []) (32 ∷ 0x258bf258bf258bd3 ∷ [])
+row-277 = calls started 10 (0x15 ∷ 7 ∷ 0x4000000 ∷ 0x702483 ∷ 4 ∷ []) ([]) 0x9 (0 ∷ 0x10000003 ∷ 1 ∷ 4 ∷ []) (32 ∷ 0x258bf258bf258bd3 ∷ 54 ∷ 1 ∷ 55 ∷ 9 ∷ 56 ∷ 4 ∷ 57 ∷ 1 ∷ [])
 
 abbrev row-278 : Bool
-row-278 = calls answered 11 (1 ∷ 0x7024a3 ∷ 0 ∷ 0 ∷ 0 ∷ []) (54 ∷ 3 ∷ 55 ∷ 0x10000003 ∷ 56 ∷ 1 ∷ []) 0x8 (0 ∷ 0x10000003 ∷ 1 ∷ 1 ∷ []) (54 ∷ 0 ∷ 55 ∷ 0 ∷ 56 ∷ 0 ∷ [])
+row-278 = calls started 10 (0x17 ∷ 6 ∷ 0xc400000000000000 ∷ 0x702483 ∷ 4 ∷ []) ([]) 0x8 (0 ∷ 0x1000000000000002 ∷ 1 ∷ 2 ∷ []) ([])
 
 abbrev row-279 : Bool
-row-279 = calls answered 11 (1 ∷ 0x7024a3 ∷ 0 ∷ 0 ∷ 0 ∷ []) (54 ∷ 3 ∷ 55 ∷ 0x10000003 ∷ 56 ∷ 2 ∷ []) 0xa (0 ∷ 0x10000003 ∷ 1 ∷ 4 ∷ 2 ∷ 0x4d5e6f78 ∷ []) (32 ∷ 0x258bf258bf258bd3 ∷ 54 ∷ 0 ∷ 55 ∷ 0 ∷ 56 ∷ 0 ∷ [])
+row-279 = calls answered 11 (1 ∷ 0x702483 ∷ 0 ∷ 0 ∷ 0 ∷ []) (54 ∷ 3 ∷ 55 ∷ 0x10000003 ∷ 56 ∷ 1 ∷ []) 0x9 (0 ∷ 0x10000003 ∷ 1 ∷ 4 ∷ []) (32 ∷ 0x258bf258bf258bd3 ∷ 54 ∷ 1 ∷ 55 ∷ 9 ∷ 56 ∷ 4 ∷ 57 ∷ 1 ∷ [])
 
 abbrev row-280 : Bool
-row-280 = calls answered 11 (1 ∷ 0x7024a3 ∷ 0 ∷ 0 ∷ 0 ∷ []) (54 ∷ 3 ∷ 55 ∷ 0x10000003 ∷ 56 ∷ 4 ∷ []) 0x8 (0 ∷ 0x10000003 ∷ 1 ∷ 4 ∷ []) (54 ∷ 0 ∷ 55 ∷ 0 ∷ 56 ∷ 0 ∷ [])
+row-280 = calls answered 11 (1 ∷ 0x702483 ∷ 0 ∷ 0 ∷ 0 ∷ []) (54 ∷ 3 ∷ 55 ∷ 0x10000003 ∷ 56 ∷ 2 ∷ []) 0x8 (0 ∷ 0x10000003 ∷ 1 ∷ 2 ∷ []) (54 ∷ 0 ∷ [])
 
 abbrev row-281 : Bool
-row-281 = calls started 10 (0x15 ∷ 7 ∷ 0x4000000 ∷ 0x703483 ∷ 4 ∷ []) ([]) 0x9 (0 ∷ 0x10000003 ∷ 1 ∷ 8 ∷ []) (32 ∷ 0x258bf258bf258bd3 ∷ 54 ∷ 1 ∷ 55 ∷ 9 ∷ 56 ∷ 8 ∷ 57 ∷ 1 ∷ [])
+row-281 = calls answered 11 (1 ∷ 0x702483 ∷ 0 ∷ 0 ∷ 0 ∷ []) (54 ∷ 3 ∷ 55 ∷ 0x10000003 ∷ 56 ∷ 4 ∷ []) 0x8 (0 ∷ 0x10000003 ∷ 1 ∷ 4 ∷ []) (54 ∷ 0 ∷ [])
 
 abbrev row-282 : Bool
-row-282 = calls started 10 (0x17 ∷ 6 ∷ 0xc400000000000000 ∷ 0x703483 ∷ 4 ∷ []) ([]) 0x8 (0 ∷ 0x1000000000000002 ∷ 1 ∷ 2 ∷ []) ([])
+row-282 = calls started 10 (0x15 ∷ 7 ∷ 0x4000000 ∷ 0x7024a3 ∷ 4 ∷ []) ([]) 0x8 (0 ∷ 0x10000003 ∷ 1 ∷ 1 ∷ []) ([])
 
 abbrev row-283 : Bool
-row-283 = calls answered 11 (1 ∷ 0x703483 ∷ 0 ∷ 0 ∷ 0 ∷ []) (54 ∷ 3 ∷ 55 ∷ 0x10000003 ∷ 56 ∷ 1 ∷ []) 0x9 (0 ∷ 0x10000003 ∷ 1 ∷ 8 ∷ []) (32 ∷ 0x258bf258bf258bd3 ∷ 54 ∷ 1 ∷ 55 ∷ 9 ∷ 56 ∷ 8 ∷ 57 ∷ 1 ∷ [])
+row-283 = calls started 10 (0x17 ∷ 6 ∷ 0xc400000000000000 ∷ 0x7024a3 ∷ 4 ∷ []) ([]) 0xa (0 ∷ 0x1000000000000002 ∷ 1 ∷ 4 ∷ 2 ∷ 0x4d5e6f78 ∷ []) (32 ∷ 0x258bf258bf258bd3 ∷ [])
 
 abbrev row-284 : Bool
-row-284 = calls answered 11 (1 ∷ 0x703483 ∷ 0 ∷ 0 ∷ 0 ∷ []) (54 ∷ 3 ∷ 55 ∷ 0x10000003 ∷ 56 ∷ 2 ∷ []) 0x8 (0 ∷ 0x10000003 ∷ 1 ∷ 2 ∷ []) (54 ∷ 0 ∷ 55 ∷ 0 ∷ 56 ∷ 0 ∷ [])
+row-284 = calls answered 11 (1 ∷ 0x7024a3 ∷ 0 ∷ 0 ∷ 0 ∷ []) (54 ∷ 3 ∷ 55 ∷ 0x10000003 ∷ 56 ∷ 1 ∷ []) 0x8 (0 ∷ 0x10000003 ∷ 1 ∷ 1 ∷ []) (54 ∷ 0 ∷ [])
 
 abbrev row-285 : Bool
-row-285 = calls answered 11 (1 ∷ 0x703483 ∷ 0 ∷ 0 ∷ 0 ∷ []) (54 ∷ 3 ∷ 55 ∷ 0x10000003 ∷ 56 ∷ 4 ∷ []) 0x8 (0 ∷ 0x10000003 ∷ 1 ∷ 4 ∷ []) (54 ∷ 0 ∷ 55 ∷ 0 ∷ 56 ∷ 0 ∷ [])
+row-285 = calls answered 11 (1 ∷ 0x7024a3 ∷ 0 ∷ 0 ∷ 0 ∷ []) (54 ∷ 3 ∷ 55 ∷ 0x10000003 ∷ 56 ∷ 2 ∷ []) 0xa (0 ∷ 0x10000003 ∷ 1 ∷ 4 ∷ 2 ∷ 0x4d5e6f78 ∷ []) (32 ∷ 0x258bf258bf258bd3 ∷ 54 ∷ 0 ∷ [])
 
 abbrev row-286 : Bool
-row-286 = calls started 10 (0x15 ∷ 7 ∷ 0x4000000 ∷ 0x7034a3 ∷ 4 ∷ []) ([]) 0x8 (0 ∷ 0x10000003 ∷ 1 ∷ 1 ∷ []) ([])
+row-286 = calls answered 11 (1 ∷ 0x7024a3 ∷ 0 ∷ 0 ∷ 0 ∷ []) (54 ∷ 3 ∷ 55 ∷ 0x10000003 ∷ 56 ∷ 4 ∷ []) 0x8 (0 ∷ 0x10000003 ∷ 1 ∷ 4 ∷ []) (54 ∷ 0 ∷ [])
 
 abbrev row-287 : Bool
-row-287 = calls started 10 (0x17 ∷ 6 ∷ 0xc400000000000000 ∷ 0x7034a3 ∷ 4 ∷ []) ([]) 0xa (0 ∷ 0x1000000000000002 ∷ 1 ∷ 8 ∷ 2 ∷ 0x91a2b3c4d5e6f78 ∷ []) (32 ∷ 0x258bf258bf258bd3 ∷ [])
+row-287 = calls started 10 (0x15 ∷ 7 ∷ 0x4000000 ∷ 0x703483 ∷ 4 ∷ []) ([]) 0x9 (0 ∷ 0x10000003 ∷ 1 ∷ 8 ∷ []) (32 ∷ 0x258bf258bf258bd3 ∷ 54 ∷ 1 ∷ 55 ∷ 9 ∷ 56 ∷ 8 ∷ 57 ∷ 1 ∷ [])
 
 abbrev row-288 : Bool
-row-288 = calls answered 11 (1 ∷ 0x7034a3 ∷ 0 ∷ 0 ∷ 0 ∷ []) (54 ∷ 3 ∷ 55 ∷ 0x10000003 ∷ 56 ∷ 1 ∷ []) 0x8 (0 ∷ 0x10000003 ∷ 1 ∷ 1 ∷ []) (54 ∷ 0 ∷ 55 ∷ 0 ∷ 56 ∷ 0 ∷ [])
+row-288 = calls started 10 (0x17 ∷ 6 ∷ 0xc400000000000000 ∷ 0x703483 ∷ 4 ∷ []) ([]) 0x8 (0 ∷ 0x1000000000000002 ∷ 1 ∷ 2 ∷ []) ([])
 
 abbrev row-289 : Bool
-row-289 = calls answered 11 (1 ∷ 0x7034a3 ∷ 0 ∷ 0 ∷ 0 ∷ []) (54 ∷ 3 ∷ 55 ∷ 0x10000003 ∷ 56 ∷ 2 ∷ []) 0xa (0 ∷ 0x10000003 ∷ 1 ∷ 8 ∷ 2 ∷ 0x91a2b3c4d5e6f78 ∷ []) (32 ∷ 0x258bf258bf258bd3 ∷ 54 ∷ 0 ∷ 55 ∷ 0 ∷ 56 ∷ 0 ∷ [])
+row-289 = calls answered 11 (1 ∷ 0x703483 ∷ 0 ∷ 0 ∷ 0 ∷ []) (54 ∷ 3 ∷ 55 ∷ 0x10000003 ∷ 56 ∷ 1 ∷ []) 0x9 (0 ∷ 0x10000003 ∷ 1 ∷ 8 ∷ []) (32 ∷ 0x258bf258bf258bd3 ∷ 54 ∷ 1 ∷ 55 ∷ 9 ∷ 56 ∷ 8 ∷ 57 ∷ 1 ∷ [])
 
 abbrev row-290 : Bool
-row-290 = calls answered 11 (1 ∷ 0x7034a3 ∷ 0 ∷ 0 ∷ 0 ∷ []) (54 ∷ 3 ∷ 55 ∷ 0x10000003 ∷ 56 ∷ 4 ∷ []) 0x8 (0 ∷ 0x10000003 ∷ 1 ∷ 4 ∷ []) (54 ∷ 0 ∷ 55 ∷ 0 ∷ 56 ∷ 0 ∷ [])
+row-290 = calls answered 11 (1 ∷ 0x703483 ∷ 0 ∷ 0 ∷ 0 ∷ []) (54 ∷ 3 ∷ 55 ∷ 0x10000003 ∷ 56 ∷ 2 ∷ []) 0x8 (0 ∷ 0x10000003 ∷ 1 ∷ 2 ∷ []) (54 ∷ 0 ∷ [])
 
 abbrev row-291 : Bool
-row-291 = calls started 10 (0x15 ∷ 7 ∷ 0x4000000 ∷ 0x704483 ∷ 4 ∷ []) ([]) 0x9 (0 ∷ 0x10000003 ∷ 1 ∷ 1 ∷ []) (32 ∷ 0x258bf258bf258bd3 ∷ 54 ∷ 1 ∷ 55 ∷ 9 ∷ 56 ∷ 1 ∷ [])
+row-291 = calls answered 11 (1 ∷ 0x703483 ∷ 0 ∷ 0 ∷ 0 ∷ []) (54 ∷ 3 ∷ 55 ∷ 0x10000003 ∷ 56 ∷ 4 ∷ []) 0x8 (0 ∷ 0x10000003 ∷ 1 ∷ 4 ∷ []) (54 ∷ 0 ∷ [])
 
 abbrev row-292 : Bool
-row-292 = calls started 10 (0x17 ∷ 6 ∷ 0xc400000000000000 ∷ 0x704483 ∷ 4 ∷ []) ([]) 0x8 (0 ∷ 0x1000000000000002 ∷ 1 ∷ 2 ∷ []) ([])
+row-292 = calls started 10 (0x15 ∷ 7 ∷ 0x4000000 ∷ 0x7034a3 ∷ 4 ∷ []) ([]) 0x8 (0 ∷ 0x10000003 ∷ 1 ∷ 1 ∷ []) ([])
 
 abbrev row-293 : Bool
-row-293 = calls answered 11 (1 ∷ 0x704483 ∷ 0 ∷ 0 ∷ 0 ∷ []) (54 ∷ 3 ∷ 55 ∷ 0x10000003 ∷ 56 ∷ 1 ∷ []) 0x9 (0 ∷ 0x10000003 ∷ 1 ∷ 1 ∷ []) (32 ∷ 0x258bf258bf258bd3 ∷ 54 ∷ 1 ∷ 55 ∷ 9 ∷ [])
+row-293 = calls started 10 (0x17 ∷ 6 ∷ 0xc400000000000000 ∷ 0x7034a3 ∷ 4 ∷ []) ([]) 0xa (0 ∷ 0x1000000000000002 ∷ 1 ∷ 8 ∷ 2 ∷ 0x91a2b3c4d5e6f78 ∷ []) (32 ∷ 0x258bf258bf258bd3 ∷ [])
 
 abbrev row-294 : Bool
-row-294 = calls answered 11 (1 ∷ 0x704483 ∷ 0 ∷ 0 ∷ 0 ∷ []) (54 ∷ 3 ∷ 55 ∷ 0x10000003 ∷ 56 ∷ 2 ∷ []) 0x8 (0 ∷ 0x10000003 ∷ 1 ∷ 2 ∷ []) (54 ∷ 0 ∷ 55 ∷ 0 ∷ 56 ∷ 0 ∷ [])
+row-294 = calls answered 11 (1 ∷ 0x7034a3 ∷ 0 ∷ 0 ∷ 0 ∷ []) (54 ∷ 3 ∷ 55 ∷ 0x10000003 ∷ 56 ∷ 1 ∷ []) 0x8 (0 ∷ 0x10000003 ∷ 1 ∷ 1 ∷ []) (54 ∷ 0 ∷ [])
 
 abbrev row-295 : Bool
-row-295 = calls answered 11 (1 ∷ 0x704483 ∷ 0 ∷ 0 ∷ 0 ∷ []) (54 ∷ 3 ∷ 55 ∷ 0x10000003 ∷ 56 ∷ 4 ∷ []) 0x8 (0 ∷ 0x10000003 ∷ 1 ∷ 4 ∷ []) (54 ∷ 0 ∷ 55 ∷ 0 ∷ 56 ∷ 0 ∷ [])
+row-295 = calls answered 11 (1 ∷ 0x7034a3 ∷ 0 ∷ 0 ∷ 0 ∷ []) (54 ∷ 3 ∷ 55 ∷ 0x10000003 ∷ 56 ∷ 2 ∷ []) 0xa (0 ∷ 0x10000003 ∷ 1 ∷ 8 ∷ 2 ∷ 0x91a2b3c4d5e6f78 ∷ []) (32 ∷ 0x258bf258bf258bd3 ∷ 54 ∷ 0 ∷ [])
 
 abbrev row-296 : Bool
-row-296 = calls started 10 (0x15 ∷ 7 ∷ 0x4000000 ∷ 0x7044a3 ∷ 4 ∷ []) ([]) 0x8 (0 ∷ 0x10000003 ∷ 1 ∷ 1 ∷ []) ([])
+row-296 = calls answered 11 (1 ∷ 0x7034a3 ∷ 0 ∷ 0 ∷ 0 ∷ []) (54 ∷ 3 ∷ 55 ∷ 0x10000003 ∷ 56 ∷ 4 ∷ []) 0x8 (0 ∷ 0x10000003 ∷ 1 ∷ 4 ∷ []) (54 ∷ 0 ∷ [])
 
 abbrev row-297 : Bool
-row-297 = calls started 10 (0x17 ∷ 6 ∷ 0xc400000000000000 ∷ 0x7044a3 ∷ 4 ∷ []) ([]) 0x8 (0 ∷ 0x1000000000000002 ∷ 1 ∷ 2 ∷ []) ([])
+row-297 = calls started 10 (0x15 ∷ 7 ∷ 0x4000000 ∷ 0x704483 ∷ 4 ∷ []) ([]) 0x9 (0 ∷ 0x10000003 ∷ 1 ∷ 1 ∷ []) (32 ∷ 0x258bf258bf258bd3 ∷ 54 ∷ 1 ∷ 55 ∷ 9 ∷ 56 ∷ 1 ∷ 57 ∷ 0 ∷ [])
 
 abbrev row-298 : Bool
-row-298 = calls answered 11 (1 ∷ 0x7044a3 ∷ 0 ∷ 0 ∷ 0 ∷ []) (54 ∷ 3 ∷ 55 ∷ 0x10000003 ∷ 56 ∷ 1 ∷ []) 0x8 (0 ∷ 0x10000003 ∷ 1 ∷ 1 ∷ []) (54 ∷ 0 ∷ 55 ∷ 0 ∷ 56 ∷ 0 ∷ [])
+row-298 = calls started 10 (0x17 ∷ 6 ∷ 0xc400000000000000 ∷ 0x704483 ∷ 4 ∷ []) ([]) 0x8 (0 ∷ 0x1000000000000002 ∷ 1 ∷ 2 ∷ []) ([])
 
 abbrev row-299 : Bool
-row-299 = calls answered 11 (1 ∷ 0x7044a3 ∷ 0 ∷ 0 ∷ 0 ∷ []) (54 ∷ 3 ∷ 55 ∷ 0x10000003 ∷ 56 ∷ 2 ∷ []) 0x8 (0 ∷ 0x10000003 ∷ 1 ∷ 2 ∷ []) (54 ∷ 0 ∷ 55 ∷ 0 ∷ 56 ∷ 0 ∷ [])
+row-299 = calls answered 11 (1 ∷ 0x704483 ∷ 0 ∷ 0 ∷ 0 ∷ []) (54 ∷ 3 ∷ 55 ∷ 0x10000003 ∷ 56 ∷ 1 ∷ []) 0x9 (0 ∷ 0x10000003 ∷ 1 ∷ 1 ∷ []) (32 ∷ 0x258bf258bf258bd3 ∷ 54 ∷ 1 ∷ 55 ∷ 9 ∷ 57 ∷ 0 ∷ [])
 
 abbrev row-300 : Bool
-row-300 = calls answered 11 (1 ∷ 0x7044a3 ∷ 0 ∷ 0 ∷ 0 ∷ []) (54 ∷ 3 ∷ 55 ∷ 0x10000003 ∷ 56 ∷ 4 ∷ []) 0x8 (0 ∷ 0x10000003 ∷ 1 ∷ 4 ∷ []) (54 ∷ 0 ∷ 55 ∷ 0 ∷ 56 ∷ 0 ∷ [])
+row-300 = calls answered 11 (1 ∷ 0x704483 ∷ 0 ∷ 0 ∷ 0 ∷ []) (54 ∷ 3 ∷ 55 ∷ 0x10000003 ∷ 56 ∷ 2 ∷ []) 0x8 (0 ∷ 0x10000003 ∷ 1 ∷ 2 ∷ []) (54 ∷ 0 ∷ [])
 
 abbrev row-301 : Bool
-row-301 = calls started 10 (0x15 ∷ 7 ∷ 0x4000000 ∷ 0x705483 ∷ 4 ∷ []) ([]) 0x9 (0 ∷ 0x10000003 ∷ 1 ∷ 2 ∷ []) (32 ∷ 0x258bf258bf258bd3 ∷ 54 ∷ 1 ∷ 55 ∷ 9 ∷ 56 ∷ 2 ∷ [])
+row-301 = calls answered 11 (1 ∷ 0x704483 ∷ 0 ∷ 0 ∷ 0 ∷ []) (54 ∷ 3 ∷ 55 ∷ 0x10000003 ∷ 56 ∷ 4 ∷ []) 0x8 (0 ∷ 0x10000003 ∷ 1 ∷ 4 ∷ []) (54 ∷ 0 ∷ [])
 
 abbrev row-302 : Bool
-row-302 = calls started 10 (0x17 ∷ 6 ∷ 0xc400000000000000 ∷ 0x705483 ∷ 4 ∷ []) ([]) 0x8 (0 ∷ 0x1000000000000002 ∷ 1 ∷ 2 ∷ []) ([])
+row-302 = calls started 10 (0x15 ∷ 7 ∷ 0x4000000 ∷ 0x7044a3 ∷ 4 ∷ []) ([]) 0x8 (0 ∷ 0x10000003 ∷ 1 ∷ 1 ∷ []) ([])
 
 abbrev row-303 : Bool
-row-303 = calls answered 11 (1 ∷ 0x705483 ∷ 0 ∷ 0 ∷ 0 ∷ []) (54 ∷ 3 ∷ 55 ∷ 0x10000003 ∷ 56 ∷ 1 ∷ []) 0x9 (0 ∷ 0x10000003 ∷ 1 ∷ 2 ∷ []) (32 ∷ 0x258bf258bf258bd3 ∷ 54 ∷ 1 ∷ 55 ∷ 9 ∷ 56 ∷ 2 ∷ [])
+row-303 = calls started 10 (0x17 ∷ 6 ∷ 0xc400000000000000 ∷ 0x7044a3 ∷ 4 ∷ []) ([]) 0x8 (0 ∷ 0x1000000000000002 ∷ 1 ∷ 2 ∷ []) ([])
 
 abbrev row-304 : Bool
-row-304 = calls answered 11 (1 ∷ 0x705483 ∷ 0 ∷ 0 ∷ 0 ∷ []) (54 ∷ 3 ∷ 55 ∷ 0x10000003 ∷ 56 ∷ 2 ∷ []) 0x8 (0 ∷ 0x10000003 ∷ 1 ∷ 2 ∷ []) (54 ∷ 0 ∷ 55 ∷ 0 ∷ 56 ∷ 0 ∷ [])
+row-304 = calls answered 11 (1 ∷ 0x7044a3 ∷ 0 ∷ 0 ∷ 0 ∷ []) (54 ∷ 3 ∷ 55 ∷ 0x10000003 ∷ 56 ∷ 1 ∷ []) 0x8 (0 ∷ 0x10000003 ∷ 1 ∷ 1 ∷ []) (54 ∷ 0 ∷ [])
 
 abbrev row-305 : Bool
-row-305 = calls answered 11 (1 ∷ 0x705483 ∷ 0 ∷ 0 ∷ 0 ∷ []) (54 ∷ 3 ∷ 55 ∷ 0x10000003 ∷ 56 ∷ 4 ∷ []) 0x8 (0 ∷ 0x10000003 ∷ 1 ∷ 4 ∷ []) (54 ∷ 0 ∷ 55 ∷ 0 ∷ 56 ∷ 0 ∷ [])
+row-305 = calls answered 11 (1 ∷ 0x7044a3 ∷ 0 ∷ 0 ∷ 0 ∷ []) (54 ∷ 3 ∷ 55 ∷ 0x10000003 ∷ 56 ∷ 2 ∷ []) 0x8 (0 ∷ 0x10000003 ∷ 1 ∷ 2 ∷ []) (54 ∷ 0 ∷ [])
 
 abbrev row-306 : Bool
-row-306 = calls started 10 (0x15 ∷ 7 ∷ 0x4000000 ∷ 0x7054a3 ∷ 4 ∷ []) ([]) 0x8 (0 ∷ 0x10000003 ∷ 1 ∷ 1 ∷ []) ([])
+row-306 = calls answered 11 (1 ∷ 0x7044a3 ∷ 0 ∷ 0 ∷ 0 ∷ []) (54 ∷ 3 ∷ 55 ∷ 0x10000003 ∷ 56 ∷ 4 ∷ []) 0x8 (0 ∷ 0x10000003 ∷ 1 ∷ 4 ∷ []) (54 ∷ 0 ∷ [])
 
 abbrev row-307 : Bool
-row-307 = calls started 10 (0x17 ∷ 6 ∷ 0xc400000000000000 ∷ 0x7054a3 ∷ 4 ∷ []) ([]) 0x8 (0 ∷ 0x1000000000000002 ∷ 1 ∷ 2 ∷ []) ([])
+row-307 = calls started 10 (0x15 ∷ 7 ∷ 0x4000000 ∷ 0x705483 ∷ 4 ∷ []) ([]) 0x9 (0 ∷ 0x10000003 ∷ 1 ∷ 2 ∷ []) (32 ∷ 0x258bf258bf258bd3 ∷ 54 ∷ 1 ∷ 55 ∷ 9 ∷ 56 ∷ 2 ∷ 57 ∷ 0 ∷ [])
 
 abbrev row-308 : Bool
-row-308 = calls answered 11 (1 ∷ 0x7054a3 ∷ 0 ∷ 0 ∷ 0 ∷ []) (54 ∷ 3 ∷ 55 ∷ 0x10000003 ∷ 56 ∷ 1 ∷ []) 0x8 (0 ∷ 0x10000003 ∷ 1 ∷ 1 ∷ []) (54 ∷ 0 ∷ 55 ∷ 0 ∷ 56 ∷ 0 ∷ [])
+row-308 = calls started 10 (0x17 ∷ 6 ∷ 0xc400000000000000 ∷ 0x705483 ∷ 4 ∷ []) ([]) 0x8 (0 ∷ 0x1000000000000002 ∷ 1 ∷ 2 ∷ []) ([])
 
 abbrev row-309 : Bool
-row-309 = calls answered 11 (1 ∷ 0x7054a3 ∷ 0 ∷ 0 ∷ 0 ∷ []) (54 ∷ 3 ∷ 55 ∷ 0x10000003 ∷ 56 ∷ 2 ∷ []) 0x8 (0 ∷ 0x10000003 ∷ 1 ∷ 2 ∷ []) (54 ∷ 0 ∷ 55 ∷ 0 ∷ 56 ∷ 0 ∷ [])
+row-309 = calls answered 11 (1 ∷ 0x705483 ∷ 0 ∷ 0 ∷ 0 ∷ []) (54 ∷ 3 ∷ 55 ∷ 0x10000003 ∷ 56 ∷ 1 ∷ []) 0x9 (0 ∷ 0x10000003 ∷ 1 ∷ 2 ∷ []) (32 ∷ 0x258bf258bf258bd3 ∷ 54 ∷ 1 ∷ 55 ∷ 9 ∷ 56 ∷ 2 ∷ 57 ∷ 0 ∷ [])
 
 abbrev row-310 : Bool
-row-310 = calls answered 11 (1 ∷ 0x7054a3 ∷ 0 ∷ 0 ∷ 0 ∷ []) (54 ∷ 3 ∷ 55 ∷ 0x10000003 ∷ 56 ∷ 4 ∷ []) 0x8 (0 ∷ 0x10000003 ∷ 1 ∷ 4 ∷ []) (54 ∷ 0 ∷ 55 ∷ 0 ∷ 56 ∷ 0 ∷ [])
+row-310 = calls answered 11 (1 ∷ 0x705483 ∷ 0 ∷ 0 ∷ 0 ∷ []) (54 ∷ 3 ∷ 55 ∷ 0x10000003 ∷ 56 ∷ 2 ∷ []) 0x8 (0 ∷ 0x10000003 ∷ 1 ∷ 2 ∷ []) (54 ∷ 0 ∷ [])
 
 abbrev row-311 : Bool
-row-311 = calls started 10 (0x15 ∷ 7 ∷ 0x4000000 ∷ 0x706483 ∷ 4 ∷ []) ([]) 0x9 (0 ∷ 0x10000003 ∷ 1 ∷ 4 ∷ []) (32 ∷ 0x258bf258bf258bd3 ∷ 54 ∷ 1 ∷ 55 ∷ 9 ∷ 56 ∷ 4 ∷ [])
+row-311 = calls answered 11 (1 ∷ 0x705483 ∷ 0 ∷ 0 ∷ 0 ∷ []) (54 ∷ 3 ∷ 55 ∷ 0x10000003 ∷ 56 ∷ 4 ∷ []) 0x8 (0 ∷ 0x10000003 ∷ 1 ∷ 4 ∷ []) (54 ∷ 0 ∷ [])
 
 abbrev row-312 : Bool
-row-312 = calls started 10 (0x17 ∷ 6 ∷ 0xc400000000000000 ∷ 0x706483 ∷ 4 ∷ []) ([]) 0x8 (0 ∷ 0x1000000000000002 ∷ 1 ∷ 2 ∷ []) ([])
+row-312 = calls started 10 (0x15 ∷ 7 ∷ 0x4000000 ∷ 0x7054a3 ∷ 4 ∷ []) ([]) 0x8 (0 ∷ 0x10000003 ∷ 1 ∷ 1 ∷ []) ([])
 
 abbrev row-313 : Bool
-row-313 = calls answered 11 (1 ∷ 0x706483 ∷ 0 ∷ 0 ∷ 0 ∷ []) (54 ∷ 3 ∷ 55 ∷ 0x10000003 ∷ 56 ∷ 1 ∷ []) 0x9 (0 ∷ 0x10000003 ∷ 1 ∷ 4 ∷ []) (32 ∷ 0x258bf258bf258bd3 ∷ 54 ∷ 1 ∷ 55 ∷ 9 ∷ 56 ∷ 4 ∷ [])
+row-313 = calls started 10 (0x17 ∷ 6 ∷ 0xc400000000000000 ∷ 0x7054a3 ∷ 4 ∷ []) ([]) 0x8 (0 ∷ 0x1000000000000002 ∷ 1 ∷ 2 ∷ []) ([])
 
 abbrev row-314 : Bool
-row-314 = calls answered 11 (1 ∷ 0x706483 ∷ 0 ∷ 0 ∷ 0 ∷ []) (54 ∷ 3 ∷ 55 ∷ 0x10000003 ∷ 56 ∷ 2 ∷ []) 0x8 (0 ∷ 0x10000003 ∷ 1 ∷ 2 ∷ []) (54 ∷ 0 ∷ 55 ∷ 0 ∷ 56 ∷ 0 ∷ [])
+row-314 = calls answered 11 (1 ∷ 0x7054a3 ∷ 0 ∷ 0 ∷ 0 ∷ []) (54 ∷ 3 ∷ 55 ∷ 0x10000003 ∷ 56 ∷ 1 ∷ []) 0x8 (0 ∷ 0x10000003 ∷ 1 ∷ 1 ∷ []) (54 ∷ 0 ∷ [])
 
 abbrev row-315 : Bool
-row-315 = calls answered 11 (1 ∷ 0x706483 ∷ 0 ∷ 0 ∷ 0 ∷ []) (54 ∷ 3 ∷ 55 ∷ 0x10000003 ∷ 56 ∷ 4 ∷ []) 0x8 (0 ∷ 0x10000003 ∷ 1 ∷ 4 ∷ []) (54 ∷ 0 ∷ 55 ∷ 0 ∷ 56 ∷ 0 ∷ [])
+row-315 = calls answered 11 (1 ∷ 0x7054a3 ∷ 0 ∷ 0 ∷ 0 ∷ []) (54 ∷ 3 ∷ 55 ∷ 0x10000003 ∷ 56 ∷ 2 ∷ []) 0x8 (0 ∷ 0x10000003 ∷ 1 ∷ 2 ∷ []) (54 ∷ 0 ∷ [])
 
 abbrev row-316 : Bool
-row-316 = calls started 10 (0x15 ∷ 7 ∷ 0x4000000 ∷ 0x7064a3 ∷ 4 ∷ []) ([]) 0x8 (0 ∷ 0x10000003 ∷ 1 ∷ 1 ∷ []) ([])
+row-316 = calls answered 11 (1 ∷ 0x7054a3 ∷ 0 ∷ 0 ∷ 0 ∷ []) (54 ∷ 3 ∷ 55 ∷ 0x10000003 ∷ 56 ∷ 4 ∷ []) 0x8 (0 ∷ 0x10000003 ∷ 1 ∷ 4 ∷ []) (54 ∷ 0 ∷ [])
 
 abbrev row-317 : Bool
-row-317 = calls started 10 (0x17 ∷ 6 ∷ 0xc400000000000000 ∷ 0x7064a3 ∷ 4 ∷ []) ([]) 0x8 (0 ∷ 0x1000000000000002 ∷ 1 ∷ 2 ∷ []) ([])
+row-317 = calls started 10 (0x15 ∷ 7 ∷ 0x4000000 ∷ 0x706483 ∷ 4 ∷ []) ([]) 0x9 (0 ∷ 0x10000003 ∷ 1 ∷ 4 ∷ []) (32 ∷ 0x258bf258bf258bd3 ∷ 54 ∷ 1 ∷ 55 ∷ 9 ∷ 56 ∷ 4 ∷ 57 ∷ 0 ∷ [])
 
 abbrev row-318 : Bool
-row-318 = calls answered 11 (1 ∷ 0x7064a3 ∷ 0 ∷ 0 ∷ 0 ∷ []) (54 ∷ 3 ∷ 55 ∷ 0x10000003 ∷ 56 ∷ 1 ∷ []) 0x8 (0 ∷ 0x10000003 ∷ 1 ∷ 1 ∷ []) (54 ∷ 0 ∷ 55 ∷ 0 ∷ 56 ∷ 0 ∷ [])
+row-318 = calls started 10 (0x17 ∷ 6 ∷ 0xc400000000000000 ∷ 0x706483 ∷ 4 ∷ []) ([]) 0x8 (0 ∷ 0x1000000000000002 ∷ 1 ∷ 2 ∷ []) ([])
 
 abbrev row-319 : Bool
-row-319 = calls answered 11 (1 ∷ 0x7064a3 ∷ 0 ∷ 0 ∷ 0 ∷ []) (54 ∷ 3 ∷ 55 ∷ 0x10000003 ∷ 56 ∷ 2 ∷ []) 0x8 (0 ∷ 0x10000003 ∷ 1 ∷ 2 ∷ []) (54 ∷ 0 ∷ 55 ∷ 0 ∷ 56 ∷ 0 ∷ [])
+row-319 = calls answered 11 (1 ∷ 0x706483 ∷ 0 ∷ 0 ∷ 0 ∷ []) (54 ∷ 3 ∷ 55 ∷ 0x10000003 ∷ 56 ∷ 1 ∷ []) 0x9 (0 ∷ 0x10000003 ∷ 1 ∷ 4 ∷ []) (32 ∷ 0x258bf258bf258bd3 ∷ 54 ∷ 1 ∷ 55 ∷ 9 ∷ 56 ∷ 4 ∷ 57 ∷ 0 ∷ [])
 
 abbrev row-320 : Bool
-row-320 = calls answered 11 (1 ∷ 0x7064a3 ∷ 0 ∷ 0 ∷ 0 ∷ []) (54 ∷ 3 ∷ 55 ∷ 0x10000003 ∷ 56 ∷ 4 ∷ []) 0x8 (0 ∷ 0x10000003 ∷ 1 ∷ 4 ∷ []) (54 ∷ 0 ∷ 55 ∷ 0 ∷ 56 ∷ 0 ∷ [])
+row-320 = calls answered 11 (1 ∷ 0x706483 ∷ 0 ∷ 0 ∷ 0 ∷ []) (54 ∷ 3 ∷ 55 ∷ 0x10000003 ∷ 56 ∷ 2 ∷ []) 0x8 (0 ∷ 0x10000003 ∷ 1 ∷ 2 ∷ []) (54 ∷ 0 ∷ [])
 
 abbrev row-321 : Bool
-row-321 = calls started 10 (0x15 ∷ 7 ∷ 0x4000000 ∷ 0x707483 ∷ 4 ∷ []) ([]) 0x8 (0 ∷ 0x10000003 ∷ 1 ∷ 1 ∷ []) ([])
+row-321 = calls answered 11 (1 ∷ 0x706483 ∷ 0 ∷ 0 ∷ 0 ∷ []) (54 ∷ 3 ∷ 55 ∷ 0x10000003 ∷ 56 ∷ 4 ∷ []) 0x8 (0 ∷ 0x10000003 ∷ 1 ∷ 4 ∷ []) (54 ∷ 0 ∷ [])
 
 abbrev row-322 : Bool
-row-322 = calls started 10 (0x17 ∷ 6 ∷ 0xc400000000000000 ∷ 0x707483 ∷ 4 ∷ []) ([]) 0x8 (0 ∷ 0x1000000000000002 ∷ 1 ∷ 2 ∷ []) ([])
+row-322 = calls started 10 (0x15 ∷ 7 ∷ 0x4000000 ∷ 0x7064a3 ∷ 4 ∷ []) ([]) 0x8 (0 ∷ 0x10000003 ∷ 1 ∷ 1 ∷ []) ([])
 
 abbrev row-323 : Bool
-row-323 = calls answered 11 (1 ∷ 0x707483 ∷ 0 ∷ 0 ∷ 0 ∷ []) (54 ∷ 3 ∷ 55 ∷ 0x10000003 ∷ 56 ∷ 1 ∷ []) 0x8 (0 ∷ 0x10000003 ∷ 1 ∷ 1 ∷ []) (54 ∷ 0 ∷ 55 ∷ 0 ∷ 56 ∷ 0 ∷ [])
+row-323 = calls started 10 (0x17 ∷ 6 ∷ 0xc400000000000000 ∷ 0x7064a3 ∷ 4 ∷ []) ([]) 0x8 (0 ∷ 0x1000000000000002 ∷ 1 ∷ 2 ∷ []) ([])
 
 abbrev row-324 : Bool
-row-324 = calls answered 11 (1 ∷ 0x707483 ∷ 0 ∷ 0 ∷ 0 ∷ []) (54 ∷ 3 ∷ 55 ∷ 0x10000003 ∷ 56 ∷ 2 ∷ []) 0x8 (0 ∷ 0x10000003 ∷ 1 ∷ 2 ∷ []) (54 ∷ 0 ∷ 55 ∷ 0 ∷ 56 ∷ 0 ∷ [])
+row-324 = calls answered 11 (1 ∷ 0x7064a3 ∷ 0 ∷ 0 ∷ 0 ∷ []) (54 ∷ 3 ∷ 55 ∷ 0x10000003 ∷ 56 ∷ 1 ∷ []) 0x8 (0 ∷ 0x10000003 ∷ 1 ∷ 1 ∷ []) (54 ∷ 0 ∷ [])
 
 abbrev row-325 : Bool
-row-325 = calls answered 11 (1 ∷ 0x707483 ∷ 0 ∷ 0 ∷ 0 ∷ []) (54 ∷ 3 ∷ 55 ∷ 0x10000003 ∷ 56 ∷ 4 ∷ []) 0x8 (0 ∷ 0x10000003 ∷ 1 ∷ 4 ∷ []) (54 ∷ 0 ∷ 55 ∷ 0 ∷ 56 ∷ 0 ∷ [])
+row-325 = calls answered 11 (1 ∷ 0x7064a3 ∷ 0 ∷ 0 ∷ 0 ∷ []) (54 ∷ 3 ∷ 55 ∷ 0x10000003 ∷ 56 ∷ 2 ∷ []) 0x8 (0 ∷ 0x10000003 ∷ 1 ∷ 2 ∷ []) (54 ∷ 0 ∷ [])
 
 abbrev row-326 : Bool
-row-326 = calls started 10 (0x15 ∷ 7 ∷ 0x4000000 ∷ 0x7074a3 ∷ 4 ∷ []) ([]) 0x8 (0 ∷ 0x10000003 ∷ 1 ∷ 1 ∷ []) ([])
+row-326 = calls answered 11 (1 ∷ 0x7064a3 ∷ 0 ∷ 0 ∷ 0 ∷ []) (54 ∷ 3 ∷ 55 ∷ 0x10000003 ∷ 56 ∷ 4 ∷ []) 0x8 (0 ∷ 0x10000003 ∷ 1 ∷ 4 ∷ []) (54 ∷ 0 ∷ [])
 
 abbrev row-327 : Bool
-row-327 = calls started 10 (0x17 ∷ 6 ∷ 0xc400000000000000 ∷ 0x7074a3 ∷ 4 ∷ []) ([]) 0x8 (0 ∷ 0x1000000000000002 ∷ 1 ∷ 2 ∷ []) ([])
+row-327 = calls started 10 (0x15 ∷ 7 ∷ 0x4000000 ∷ 0x707483 ∷ 4 ∷ []) ([]) 0x8 (0 ∷ 0x10000003 ∷ 1 ∷ 1 ∷ []) ([])
 
 abbrev row-328 : Bool
-row-328 = calls answered 11 (1 ∷ 0x7074a3 ∷ 0 ∷ 0 ∷ 0 ∷ []) (54 ∷ 3 ∷ 55 ∷ 0x10000003 ∷ 56 ∷ 1 ∷ []) 0x8 (0 ∷ 0x10000003 ∷ 1 ∷ 1 ∷ []) (54 ∷ 0 ∷ 55 ∷ 0 ∷ 56 ∷ 0 ∷ [])
+row-328 = calls started 10 (0x17 ∷ 6 ∷ 0xc400000000000000 ∷ 0x707483 ∷ 4 ∷ []) ([]) 0x8 (0 ∷ 0x1000000000000002 ∷ 1 ∷ 2 ∷ []) ([])
 
 abbrev row-329 : Bool
-row-329 = calls answered 11 (1 ∷ 0x7074a3 ∷ 0 ∷ 0 ∷ 0 ∷ []) (54 ∷ 3 ∷ 55 ∷ 0x10000003 ∷ 56 ∷ 2 ∷ []) 0x8 (0 ∷ 0x10000003 ∷ 1 ∷ 2 ∷ []) (54 ∷ 0 ∷ 55 ∷ 0 ∷ 56 ∷ 0 ∷ [])
+row-329 = calls answered 11 (1 ∷ 0x707483 ∷ 0 ∷ 0 ∷ 0 ∷ []) (54 ∷ 3 ∷ 55 ∷ 0x10000003 ∷ 56 ∷ 1 ∷ []) 0x8 (0 ∷ 0x10000003 ∷ 1 ∷ 1 ∷ []) (54 ∷ 0 ∷ [])
 
 abbrev row-330 : Bool
-row-330 = calls answered 11 (1 ∷ 0x7074a3 ∷ 0 ∷ 0 ∷ 0 ∷ []) (54 ∷ 3 ∷ 55 ∷ 0x10000003 ∷ 56 ∷ 4 ∷ []) 0x8 (0 ∷ 0x10000003 ∷ 1 ∷ 4 ∷ []) (54 ∷ 0 ∷ 55 ∷ 0 ∷ 56 ∷ 0 ∷ [])
+row-330 = calls answered 11 (1 ∷ 0x707483 ∷ 0 ∷ 0 ∷ 0 ∷ []) (54 ∷ 3 ∷ 55 ∷ 0x10000003 ∷ 56 ∷ 2 ∷ []) 0x8 (0 ∷ 0x10000003 ∷ 1 ∷ 2 ∷ []) (54 ∷ 0 ∷ [])
 
 abbrev row-331 : Bool
-row-331 = calls started 10 (0x15 ∷ 7 ∷ 0x4000000 ∷ 0x702481 ∷ 4 ∷ []) ([]) 0x9 (0 ∷ 0x10000003 ∷ 1 ∷ 4 ∷ []) (32 ∷ 0x258bf258bf258bd1 ∷ 54 ∷ 1 ∷ 55 ∷ 9 ∷ 56 ∷ 4 ∷ 57 ∷ 1 ∷ [])
+row-331 = calls answered 11 (1 ∷ 0x707483 ∷ 0 ∷ 0 ∷ 0 ∷ []) (54 ∷ 3 ∷ 55 ∷ 0x10000003 ∷ 56 ∷ 4 ∷ []) 0x8 (0 ∷ 0x10000003 ∷ 1 ∷ 4 ∷ []) (54 ∷ 0 ∷ [])
 
 abbrev row-332 : Bool
-row-332 = calls started 10 (0x17 ∷ 6 ∷ 0xc400000000000000 ∷ 0x702481 ∷ 4 ∷ []) ([]) 0x8 (0 ∷ 0x1000000000000002 ∷ 1 ∷ 2 ∷ []) ([])
+row-332 = calls started 10 (0x15 ∷ 7 ∷ 0x4000000 ∷ 0x7074a3 ∷ 4 ∷ []) ([]) 0x8 (0 ∷ 0x10000003 ∷ 1 ∷ 1 ∷ []) ([])
 
 abbrev row-333 : Bool
-row-333 = calls answered 11 (1 ∷ 0x702481 ∷ 0 ∷ 0 ∷ 0 ∷ []) (54 ∷ 3 ∷ 55 ∷ 0x10000003 ∷ 56 ∷ 1 ∷ []) 0x8 (0 ∷ 0x10000003 ∷ 1 ∷ 1 ∷ []) (54 ∷ 0 ∷ 55 ∷ 0 ∷ 56 ∷ 0 ∷ [])
+row-333 = calls started 10 (0x17 ∷ 6 ∷ 0xc400000000000000 ∷ 0x7074a3 ∷ 4 ∷ []) ([]) 0x8 (0 ∷ 0x1000000000000002 ∷ 1 ∷ 2 ∷ []) ([])
 
 abbrev row-334 : Bool
-row-334 = calls answered 11 (1 ∷ 0x702481 ∷ 0 ∷ 0 ∷ 0 ∷ []) (54 ∷ 3 ∷ 55 ∷ 0x10000003 ∷ 56 ∷ 2 ∷ []) 0x8 (0 ∷ 0x10000003 ∷ 1 ∷ 2 ∷ []) (54 ∷ 0 ∷ 55 ∷ 0 ∷ 56 ∷ 0 ∷ [])
+row-334 = calls answered 11 (1 ∷ 0x7074a3 ∷ 0 ∷ 0 ∷ 0 ∷ []) (54 ∷ 3 ∷ 55 ∷ 0x10000003 ∷ 56 ∷ 1 ∷ []) 0x8 (0 ∷ 0x10000003 ∷ 1 ∷ 1 ∷ []) (54 ∷ 0 ∷ [])
 
 abbrev row-335 : Bool
-row-335 = calls answered 11 (1 ∷ 0x702481 ∷ 0 ∷ 0 ∷ 0 ∷ []) (54 ∷ 3 ∷ 55 ∷ 0x10000003 ∷ 56 ∷ 4 ∷ []) 0x8 (0 ∷ 0x10000003 ∷ 1 ∷ 4 ∷ []) (54 ∷ 0 ∷ 55 ∷ 0 ∷ 56 ∷ 0 ∷ [])
+row-335 = calls answered 11 (1 ∷ 0x7074a3 ∷ 0 ∷ 0 ∷ 0 ∷ []) (54 ∷ 3 ∷ 55 ∷ 0x10000003 ∷ 56 ∷ 2 ∷ []) 0x8 (0 ∷ 0x10000003 ∷ 1 ∷ 2 ∷ []) (54 ∷ 0 ∷ [])
 
 abbrev row-336 : Bool
-row-336 = calls started 10 (0x15 ∷ 7 ∷ 0x4000000 ∷ 0x7024a1 ∷ 4 ∷ []) ([]) 0x8 (0 ∷ 0x10000003 ∷ 1 ∷ 1 ∷ []) ([])
+row-336 = calls answered 11 (1 ∷ 0x7074a3 ∷ 0 ∷ 0 ∷ 0 ∷ []) (54 ∷ 3 ∷ 55 ∷ 0x10000003 ∷ 56 ∷ 4 ∷ []) 0x8 (0 ∷ 0x10000003 ∷ 1 ∷ 4 ∷ []) (54 ∷ 0 ∷ [])
 
 abbrev row-337 : Bool
-row-337 = calls started 10 (0x17 ∷ 6 ∷ 0xc400000000000000 ∷ 0x7024a1 ∷ 4 ∷ []) ([]) 0xa (0 ∷ 0x1000000000000002 ∷ 1 ∷ 4 ∷ 2 ∷ 0x4d5e6f78 ∷ []) (32 ∷ 0x258bf258bf258bd1 ∷ [])
+row-337 = calls started 10 (0x15 ∷ 7 ∷ 0x4000000 ∷ 0x702481 ∷ 4 ∷ []) ([]) 0x9 (0 ∷ 0x10000003 ∷ 1 ∷ 4 ∷ []) (32 ∷ 0x258bf258bf258bd1 ∷ 54 ∷ 1 ∷ 55 ∷ 9 ∷ 56 ∷ 4 ∷ 57 ∷ 1 ∷ [])
 
 abbrev row-338 : Bool
-row-338 = calls answered 11 (1 ∷ 0x7024a1 ∷ 0 ∷ 0 ∷ 0 ∷ []) (54 ∷ 3 ∷ 55 ∷ 0x10000003 ∷ 56 ∷ 1 ∷ []) 0x8 (0 ∷ 0x10000003 ∷ 1 ∷ 1 ∷ []) (54 ∷ 0 ∷ 55 ∷ 0 ∷ 56 ∷ 0 ∷ [])
+row-338 = calls started 10 (0x17 ∷ 6 ∷ 0xc400000000000000 ∷ 0x702481 ∷ 4 ∷ []) ([]) 0x8 (0 ∷ 0x1000000000000002 ∷ 1 ∷ 2 ∷ []) ([])
 
 abbrev row-339 : Bool
-row-339 = calls answered 11 (1 ∷ 0x7024a1 ∷ 0 ∷ 0 ∷ 0 ∷ []) (54 ∷ 3 ∷ 55 ∷ 0x10000003 ∷ 56 ∷ 2 ∷ []) 0x8 (0 ∷ 0x10000003 ∷ 1 ∷ 2 ∷ []) (54 ∷ 0 ∷ 55 ∷ 0 ∷ 56 ∷ 0 ∷ [])
+row-339 = calls answered 11 (1 ∷ 0x702481 ∷ 0 ∷ 0 ∷ 0 ∷ []) (54 ∷ 3 ∷ 55 ∷ 0x10000003 ∷ 56 ∷ 1 ∷ []) 0x8 (0 ∷ 0x10000003 ∷ 1 ∷ 1 ∷ []) (54 ∷ 0 ∷ [])
 
 abbrev row-340 : Bool
-row-340 = calls answered 11 (1 ∷ 0x7024a1 ∷ 0 ∷ 0 ∷ 0 ∷ []) (54 ∷ 3 ∷ 55 ∷ 0x10000003 ∷ 56 ∷ 4 ∷ []) 0x8 (0 ∷ 0x10000003 ∷ 1 ∷ 4 ∷ []) (54 ∷ 0 ∷ 55 ∷ 0 ∷ 56 ∷ 0 ∷ [])
+row-340 = calls answered 11 (1 ∷ 0x702481 ∷ 0 ∷ 0 ∷ 0 ∷ []) (54 ∷ 3 ∷ 55 ∷ 0x10000003 ∷ 56 ∷ 2 ∷ []) 0x8 (0 ∷ 0x10000003 ∷ 1 ∷ 2 ∷ []) (54 ∷ 0 ∷ [])
 
 abbrev row-341 : Bool
-row-341 = calls started 10 (0x15 ∷ 7 ∷ 0x4000000 ∷ 0x2403 ∷ 4 ∷ []) ([]) 0x9 (0 ∷ 0x10000003 ∷ 1 ∷ 4 ∷ []) (32 ∷ 0x258bf258bf258bd3 ∷ 54 ∷ 1 ∷ 55 ∷ 8 ∷ 56 ∷ 4 ∷ 57 ∷ 1 ∷ [])
+row-341 = calls answered 11 (1 ∷ 0x702481 ∷ 0 ∷ 0 ∷ 0 ∷ []) (54 ∷ 3 ∷ 55 ∷ 0x10000003 ∷ 56 ∷ 4 ∷ []) 0x8 (0 ∷ 0x10000003 ∷ 1 ∷ 4 ∷ []) (54 ∷ 0 ∷ [])
 
 abbrev row-342 : Bool
-row-342 = calls started 10 (0x17 ∷ 6 ∷ 0xc400000000000000 ∷ 0x2403 ∷ 4 ∷ []) ([]) 0x8 (0 ∷ 0x1000000000000002 ∷ 1 ∷ 2 ∷ []) ([])
+row-342 = calls started 10 (0x15 ∷ 7 ∷ 0x4000000 ∷ 0x7024a1 ∷ 4 ∷ []) ([]) 0x8 (0 ∷ 0x10000003 ∷ 1 ∷ 1 ∷ []) ([])
 
 abbrev row-343 : Bool
-row-343 = calls answered 11 (1 ∷ 0x2403 ∷ 0 ∷ 0 ∷ 0 ∷ []) (54 ∷ 3 ∷ 55 ∷ 0x10000003 ∷ 56 ∷ 1 ∷ []) 0x9 (0 ∷ 0x10000003 ∷ 1 ∷ 4 ∷ []) (32 ∷ 0x258bf258bf258bd3 ∷ 54 ∷ 1 ∷ 55 ∷ 8 ∷ 56 ∷ 4 ∷ 57 ∷ 1 ∷ [])
+row-343 = calls started 10 (0x17 ∷ 6 ∷ 0xc400000000000000 ∷ 0x7024a1 ∷ 4 ∷ []) ([]) 0xa (0 ∷ 0x1000000000000002 ∷ 1 ∷ 4 ∷ 2 ∷ 0x4d5e6f78 ∷ []) (32 ∷ 0x258bf258bf258bd1 ∷ [])
 
 abbrev row-344 : Bool
-row-344 = calls answered 11 (1 ∷ 0x2403 ∷ 0 ∷ 0 ∷ 0 ∷ []) (54 ∷ 3 ∷ 55 ∷ 0x10000003 ∷ 56 ∷ 2 ∷ []) 0x8 (0 ∷ 0x10000003 ∷ 1 ∷ 2 ∷ []) (54 ∷ 0 ∷ 55 ∷ 0 ∷ 56 ∷ 0 ∷ [])
+row-344 = calls answered 11 (1 ∷ 0x7024a1 ∷ 0 ∷ 0 ∷ 0 ∷ []) (54 ∷ 3 ∷ 55 ∷ 0x10000003 ∷ 56 ∷ 1 ∷ []) 0x8 (0 ∷ 0x10000003 ∷ 1 ∷ 1 ∷ []) (54 ∷ 0 ∷ [])
 
 abbrev row-345 : Bool
-row-345 = calls answered 11 (1 ∷ 0x2403 ∷ 0 ∷ 0 ∷ 0 ∷ []) (54 ∷ 3 ∷ 55 ∷ 0x10000003 ∷ 56 ∷ 4 ∷ []) 0x8 (0 ∷ 0x10000003 ∷ 1 ∷ 4 ∷ []) (54 ∷ 0 ∷ 55 ∷ 0 ∷ 56 ∷ 0 ∷ [])
+row-345 = calls answered 11 (1 ∷ 0x7024a1 ∷ 0 ∷ 0 ∷ 0 ∷ []) (54 ∷ 3 ∷ 55 ∷ 0x10000003 ∷ 56 ∷ 2 ∷ []) 0x8 (0 ∷ 0x10000003 ∷ 1 ∷ 2 ∷ []) (54 ∷ 0 ∷ [])
 
 abbrev row-346 : Bool
-row-346 = calls started 10 (0x15 ∷ 7 ∷ 0x4000000 ∷ 0x2023 ∷ 4 ∷ []) ([]) 0x8 (0 ∷ 0x10000003 ∷ 1 ∷ 1 ∷ []) ([])
+row-346 = calls answered 11 (1 ∷ 0x7024a1 ∷ 0 ∷ 0 ∷ 0 ∷ []) (54 ∷ 3 ∷ 55 ∷ 0x10000003 ∷ 56 ∷ 4 ∷ []) 0x8 (0 ∷ 0x10000003 ∷ 1 ∷ 4 ∷ []) (54 ∷ 0 ∷ [])
 
 abbrev row-347 : Bool
-row-347 = calls started 10 (0x17 ∷ 6 ∷ 0xc400000000000000 ∷ 0x2023 ∷ 4 ∷ []) ([]) 0xa (0 ∷ 0x1000000000000002 ∷ 1 ∷ 4 ∷ []) (32 ∷ 0x258bf258bf258bd3 ∷ [])
+row-347 = calls started 10 (0x15 ∷ 7 ∷ 0x4000000 ∷ 0x2403 ∷ 4 ∷ []) ([]) 0x9 (0 ∷ 0x10000003 ∷ 1 ∷ 4 ∷ []) (32 ∷ 0x258bf258bf258bd3 ∷ 54 ∷ 1 ∷ 55 ∷ 8 ∷ 56 ∷ 4 ∷ 57 ∷ 1 ∷ [])
 
 abbrev row-348 : Bool
-row-348 = calls answered 11 (1 ∷ 0x2023 ∷ 0 ∷ 0 ∷ 0 ∷ []) (54 ∷ 3 ∷ 55 ∷ 0x10000003 ∷ 56 ∷ 1 ∷ []) 0x8 (0 ∷ 0x10000003 ∷ 1 ∷ 1 ∷ []) (54 ∷ 0 ∷ 55 ∷ 0 ∷ 56 ∷ 0 ∷ [])
+row-348 = calls started 10 (0x17 ∷ 6 ∷ 0xc400000000000000 ∷ 0x2403 ∷ 4 ∷ []) ([]) 0x8 (0 ∷ 0x1000000000000002 ∷ 1 ∷ 2 ∷ []) ([])
 
 abbrev row-349 : Bool
-row-349 = calls answered 11 (1 ∷ 0x2023 ∷ 0 ∷ 0 ∷ 0 ∷ []) (54 ∷ 3 ∷ 55 ∷ 0x10000003 ∷ 56 ∷ 2 ∷ []) 0xa (0 ∷ 0x10000003 ∷ 1 ∷ 4 ∷ []) (32 ∷ 0x258bf258bf258bd3 ∷ 54 ∷ 0 ∷ 55 ∷ 0 ∷ 56 ∷ 0 ∷ [])
+row-349 = calls answered 11 (1 ∷ 0x2403 ∷ 0 ∷ 0 ∷ 0 ∷ []) (54 ∷ 3 ∷ 55 ∷ 0x10000003 ∷ 56 ∷ 1 ∷ []) 0x9 (0 ∷ 0x10000003 ∷ 1 ∷ 4 ∷ []) (32 ∷ 0x258bf258bf258bd3 ∷ 54 ∷ 1 ∷ 55 ∷ 8 ∷ 56 ∷ 4 ∷ 57 ∷ 1 ∷ [])
 
 abbrev row-350 : Bool
-row-350 = calls answered 11 (1 ∷ 0x2023 ∷ 0 ∷ 0 ∷ 0 ∷ []) (54 ∷ 3 ∷ 55 ∷ 0x10000003 ∷ 56 ∷ 4 ∷ []) 0x8 (0 ∷ 0x10000003 ∷ 1 ∷ 4 ∷ []) (54 ∷ 0 ∷ 55 ∷ 0 ∷ 56 ∷ 0 ∷ [])
+row-350 = calls answered 11 (1 ∷ 0x2403 ∷ 0 ∷ 0 ∷ 0 ∷ []) (54 ∷ 3 ∷ 55 ∷ 0x10000003 ∷ 56 ∷ 2 ∷ []) 0x8 (0 ∷ 0x10000003 ∷ 1 ∷ 2 ∷ []) (54 ∷ 0 ∷ [])
 
 abbrev row-351 : Bool
-row-351 = calls started 10 (0x15 ∷ 7 ∷ 0x4000000 ∷ 0x1f02f83 ∷ 4 ∷ []) ([]) 0x9 (0 ∷ 0x10000003 ∷ 1 ∷ 4 ∷ []) (32 ∷ 0x258bf258bf258bd3 ∷ 54 ∷ 1 ∷ 55 ∷ 0x1f ∷ 56 ∷ 4 ∷ 57 ∷ 1 ∷ [])
+row-351 = calls answered 11 (1 ∷ 0x2403 ∷ 0 ∷ 0 ∷ 0 ∷ []) (54 ∷ 3 ∷ 55 ∷ 0x10000003 ∷ 56 ∷ 4 ∷ []) 0x8 (0 ∷ 0x10000003 ∷ 1 ∷ 4 ∷ []) (54 ∷ 0 ∷ [])
 
 abbrev row-352 : Bool
-row-352 = calls started 10 (0x17 ∷ 6 ∷ 0xc400000000000000 ∷ 0x1f02f83 ∷ 4 ∷ []) ([]) 0x8 (0 ∷ 0x1000000000000002 ∷ 1 ∷ 2 ∷ []) ([])
+row-352 = calls started 10 (0x15 ∷ 7 ∷ 0x4000000 ∷ 0x2023 ∷ 4 ∷ []) ([]) 0x8 (0 ∷ 0x10000003 ∷ 1 ∷ 1 ∷ []) ([])
 
 abbrev row-353 : Bool
-row-353 = calls answered 11 (1 ∷ 0x1f02f83 ∷ 0 ∷ 0 ∷ 0 ∷ []) (54 ∷ 3 ∷ 55 ∷ 0x10000003 ∷ 56 ∷ 1 ∷ []) 0x9 (0 ∷ 0x10000003 ∷ 1 ∷ 4 ∷ []) (32 ∷ 0x258bf258bf258bd3 ∷ 54 ∷ 1 ∷ 55 ∷ 0x1f ∷ 56 ∷ 4 ∷ 57 ∷ 1 ∷ [])
+row-353 = calls started 10 (0x17 ∷ 6 ∷ 0xc400000000000000 ∷ 0x2023 ∷ 4 ∷ []) ([]) 0xa (0 ∷ 0x1000000000000002 ∷ 1 ∷ 4 ∷ []) (32 ∷ 0x258bf258bf258bd3 ∷ [])
 
 abbrev row-354 : Bool
-row-354 = calls answered 11 (1 ∷ 0x1f02f83 ∷ 0 ∷ 0 ∷ 0 ∷ []) (54 ∷ 3 ∷ 55 ∷ 0x10000003 ∷ 56 ∷ 2 ∷ []) 0x8 (0 ∷ 0x10000003 ∷ 1 ∷ 2 ∷ []) (54 ∷ 0 ∷ 55 ∷ 0 ∷ 56 ∷ 0 ∷ [])
+row-354 = calls answered 11 (1 ∷ 0x2023 ∷ 0 ∷ 0 ∷ 0 ∷ []) (54 ∷ 3 ∷ 55 ∷ 0x10000003 ∷ 56 ∷ 1 ∷ []) 0x8 (0 ∷ 0x10000003 ∷ 1 ∷ 1 ∷ []) (54 ∷ 0 ∷ [])
 
 abbrev row-355 : Bool
-row-355 = calls answered 11 (1 ∷ 0x1f02f83 ∷ 0 ∷ 0 ∷ 0 ∷ []) (54 ∷ 3 ∷ 55 ∷ 0x10000003 ∷ 56 ∷ 4 ∷ []) 0x8 (0 ∷ 0x10000003 ∷ 1 ∷ 4 ∷ []) (54 ∷ 0 ∷ 55 ∷ 0 ∷ 56 ∷ 0 ∷ [])
+row-355 = calls answered 11 (1 ∷ 0x2023 ∷ 0 ∷ 0 ∷ 0 ∷ []) (54 ∷ 3 ∷ 55 ∷ 0x10000003 ∷ 56 ∷ 2 ∷ []) 0xa (0 ∷ 0x10000003 ∷ 1 ∷ 4 ∷ []) (32 ∷ 0x258bf258bf258bd3 ∷ 54 ∷ 0 ∷ [])
 
 abbrev row-356 : Bool
-row-356 = calls started 10 (0x15 ∷ 7 ∷ 0x4000000 ∷ 0x1f02fa3 ∷ 4 ∷ []) ([]) 0x8 (0 ∷ 0x10000003 ∷ 1 ∷ 1 ∷ []) ([])
+row-356 = calls answered 11 (1 ∷ 0x2023 ∷ 0 ∷ 0 ∷ 0 ∷ []) (54 ∷ 3 ∷ 55 ∷ 0x10000003 ∷ 56 ∷ 4 ∷ []) 0x8 (0 ∷ 0x10000003 ∷ 1 ∷ 4 ∷ []) (54 ∷ 0 ∷ [])
 
 abbrev row-357 : Bool
-row-357 = calls started 10 (0x17 ∷ 6 ∷ 0xc400000000000000 ∷ 0x1f02fa3 ∷ 4 ∷ []) ([]) 0xa (0 ∷ 0x1000000000000002 ∷ 1 ∷ 4 ∷ 2 ∷ 0x3579bde0 ∷ []) (32 ∷ 0x258bf258bf258bd3 ∷ [])
+row-357 = calls started 10 (0x15 ∷ 7 ∷ 0x4000000 ∷ 0x1f02f83 ∷ 4 ∷ []) ([]) 0x9 (0 ∷ 0x10000003 ∷ 1 ∷ 4 ∷ []) (32 ∷ 0x258bf258bf258bd3 ∷ 54 ∷ 1 ∷ 55 ∷ 0x1f ∷ 56 ∷ 4 ∷ 57 ∷ 1 ∷ [])
 
 abbrev row-358 : Bool
-row-358 = calls answered 11 (1 ∷ 0x1f02fa3 ∷ 0 ∷ 0 ∷ 0 ∷ []) (54 ∷ 3 ∷ 55 ∷ 0x10000003 ∷ 56 ∷ 1 ∷ []) 0x8 (0 ∷ 0x10000003 ∷ 1 ∷ 1 ∷ []) (54 ∷ 0 ∷ 55 ∷ 0 ∷ 56 ∷ 0 ∷ [])
+row-358 = calls started 10 (0x17 ∷ 6 ∷ 0xc400000000000000 ∷ 0x1f02f83 ∷ 4 ∷ []) ([]) 0x8 (0 ∷ 0x1000000000000002 ∷ 1 ∷ 2 ∷ []) ([])
 
 abbrev row-359 : Bool
-row-359 = calls answered 11 (1 ∷ 0x1f02fa3 ∷ 0 ∷ 0 ∷ 0 ∷ []) (54 ∷ 3 ∷ 55 ∷ 0x10000003 ∷ 56 ∷ 2 ∷ []) 0xa (0 ∷ 0x10000003 ∷ 1 ∷ 4 ∷ 2 ∷ 0x3579bde0 ∷ []) (32 ∷ 0x258bf258bf258bd3 ∷ 54 ∷ 0 ∷ 55 ∷ 0 ∷ 56 ∷ 0 ∷ [])
+row-359 = calls answered 11 (1 ∷ 0x1f02f83 ∷ 0 ∷ 0 ∷ 0 ∷ []) (54 ∷ 3 ∷ 55 ∷ 0x10000003 ∷ 56 ∷ 1 ∷ []) 0x9 (0 ∷ 0x10000003 ∷ 1 ∷ 4 ∷ []) (32 ∷ 0x258bf258bf258bd3 ∷ 54 ∷ 1 ∷ 55 ∷ 0x1f ∷ 56 ∷ 4 ∷ 57 ∷ 1 ∷ [])
 
 abbrev row-360 : Bool
-row-360 = calls answered 11 (1 ∷ 0x1f02fa3 ∷ 0 ∷ 0 ∷ 0 ∷ []) (54 ∷ 3 ∷ 55 ∷ 0x10000003 ∷ 56 ∷ 4 ∷ []) 0x8 (0 ∷ 0x10000003 ∷ 1 ∷ 4 ∷ []) (54 ∷ 0 ∷ 55 ∷ 0 ∷ 56 ∷ 0 ∷ [])
+row-360 = calls answered 11 (1 ∷ 0x1f02f83 ∷ 0 ∷ 0 ∷ 0 ∷ []) (54 ∷ 3 ∷ 55 ∷ 0x10000003 ∷ 56 ∷ 2 ∷ []) 0x8 (0 ∷ 0x10000003 ∷ 1 ∷ 2 ∷ []) (54 ∷ 0 ∷ [])
 
 abbrev row-361 : Bool
-row-361 = calls started 10 (0 ∷ 0 ∷ 0 ∷ 0 ∷ 0 ∷ []) ([]) 0x103 ([]) ([])
+row-361 = calls answered 11 (1 ∷ 0x1f02f83 ∷ 0 ∷ 0 ∷ 0 ∷ []) (54 ∷ 3 ∷ 55 ∷ 0x10000003 ∷ 56 ∷ 4 ∷ []) 0x8 (0 ∷ 0x10000003 ∷ 1 ∷ 4 ∷ []) (54 ∷ 0 ∷ [])
 
 abbrev row-362 : Bool
-row-362 = calls started 10 (0x8000000000000000 ∷ 0 ∷ 0 ∷ 0 ∷ 0 ∷ []) ([]) 0x103 ([]) ([])
+row-362 = calls started 10 (0x15 ∷ 7 ∷ 0x4000000 ∷ 0x1f02fa3 ∷ 4 ∷ []) ([]) 0x8 (0 ∷ 0x10000003 ∷ 1 ∷ 1 ∷ []) ([])
 
 abbrev row-363 : Bool
-row-363 = calls started 10 (1 ∷ 0 ∷ 0 ∷ 0 ∷ 0 ∷ []) ([]) 0x103 ([]) ([])
+row-363 = calls started 10 (0x17 ∷ 6 ∷ 0xc400000000000000 ∷ 0x1f02fa3 ∷ 4 ∷ []) ([]) 0xa (0 ∷ 0x1000000000000002 ∷ 1 ∷ 4 ∷ 2 ∷ 0x3579bde0 ∷ []) (32 ∷ 0x258bf258bf258bd3 ∷ [])
 
 abbrev row-364 : Bool
-row-364 = calls started 10 (0x8000000000000001 ∷ 0 ∷ 0 ∷ 0 ∷ 0 ∷ []) ([]) 0x1 (0 ∷ 0x8000000000000001 ∷ []) ([])
+row-364 = calls answered 11 (1 ∷ 0x1f02fa3 ∷ 0 ∷ 0 ∷ 0 ∷ []) (54 ∷ 3 ∷ 55 ∷ 0x10000003 ∷ 56 ∷ 1 ∷ []) 0x8 (0 ∷ 0x10000003 ∷ 1 ∷ 1 ∷ []) (54 ∷ 0 ∷ [])
 
 abbrev row-365 : Bool
-row-365 = calls started 10 (2 ∷ 0 ∷ 0 ∷ 0 ∷ 0 ∷ []) ([]) 0x103 ([]) ([])
+row-365 = calls answered 11 (1 ∷ 0x1f02fa3 ∷ 0 ∷ 0 ∷ 0 ∷ []) (54 ∷ 3 ∷ 55 ∷ 0x10000003 ∷ 56 ∷ 2 ∷ []) 0xa (0 ∷ 0x10000003 ∷ 1 ∷ 4 ∷ 2 ∷ 0x3579bde0 ∷ []) (32 ∷ 0x258bf258bf258bd3 ∷ 54 ∷ 0 ∷ [])
 
 abbrev row-366 : Bool
-row-366 = calls started 10 (0x8000000000000002 ∷ 0 ∷ 0 ∷ 0 ∷ 0 ∷ []) ([]) 0x103 ([]) ([])
+row-366 = calls answered 11 (1 ∷ 0x1f02fa3 ∷ 0 ∷ 0 ∷ 0 ∷ []) (54 ∷ 3 ∷ 55 ∷ 0x10000003 ∷ 56 ∷ 4 ∷ []) 0x8 (0 ∷ 0x10000003 ∷ 1 ∷ 4 ∷ []) (54 ∷ 0 ∷ [])
 
 abbrev row-367 : Bool
-row-367 = calls started 10 (3 ∷ 0 ∷ 0 ∷ 0 ∷ 0 ∷ []) ([]) 0x103 ([]) ([])
+row-367 = calls started 10 (0 ∷ 0 ∷ 0 ∷ 0 ∷ 0 ∷ []) ([]) 0x103 ([]) ([])
 
 abbrev row-368 : Bool
-row-368 = calls started 10 (0x8000000000000003 ∷ 0 ∷ 0 ∷ 0 ∷ 0 ∷ []) ([]) 0x103 ([]) ([])
+row-368 = calls started 10 (0x8000000000000000 ∷ 0 ∷ 0 ∷ 0 ∷ 0 ∷ []) ([]) 0x103 ([]) ([])
 
 abbrev row-369 : Bool
-row-369 = calls started 10 (4 ∷ 0 ∷ 0 ∷ 0 ∷ 0 ∷ []) ([]) 0x103 ([]) ([])
+row-369 = calls started 10 (1 ∷ 0 ∷ 0 ∷ 0 ∷ 0 ∷ []) ([]) 0x103 ([]) ([])
 
 abbrev row-370 : Bool
-row-370 = calls started 10 (0x8000000000000004 ∷ 0 ∷ 0 ∷ 0 ∷ 0 ∷ []) ([]) 0x103 ([]) ([])
+row-370 = calls started 10 (0x8000000000000001 ∷ 0 ∷ 0 ∷ 0 ∷ 0 ∷ []) ([]) 0x1 (0 ∷ 0x8000000000000001 ∷ []) ([])
 
 abbrev row-371 : Bool
-row-371 = calls started 10 (5 ∷ 0 ∷ 0 ∷ 0 ∷ 0 ∷ []) ([]) 0x103 ([]) ([])
+row-371 = calls started 10 (2 ∷ 0 ∷ 0 ∷ 0 ∷ 0 ∷ []) ([]) 0x103 ([]) ([])
 
 abbrev row-372 : Bool
-row-372 = calls started 10 (0x8000000000000005 ∷ 0 ∷ 0 ∷ 0 ∷ 0 ∷ []) ([]) 0x1 (0 ∷ 0x8000000000000005 ∷ []) ([])
+row-372 = calls started 10 (0x8000000000000002 ∷ 0 ∷ 0 ∷ 0 ∷ 0 ∷ []) ([]) 0x103 ([]) ([])
 
 abbrev row-373 : Bool
-row-373 = calls started 10 (6 ∷ 0 ∷ 0 ∷ 0 ∷ 0 ∷ []) ([]) 0x103 ([]) ([])
+row-373 = calls started 10 (3 ∷ 0 ∷ 0 ∷ 0 ∷ 0 ∷ []) ([]) 0x103 ([]) ([])
 
 abbrev row-374 : Bool
-row-374 = calls started 10 (0x8000000000000006 ∷ 0 ∷ 0 ∷ 0 ∷ 0 ∷ []) ([]) 0x103 ([]) ([])
+row-374 = calls started 10 (0x8000000000000003 ∷ 0 ∷ 0 ∷ 0 ∷ 0 ∷ []) ([]) 0x103 ([]) ([])
 
 abbrev row-375 : Bool
-row-375 = calls started 10 (7 ∷ 0 ∷ 0 ∷ 0 ∷ 0 ∷ []) ([]) 0x103 ([]) ([])
+row-375 = calls started 10 (4 ∷ 0 ∷ 0 ∷ 0 ∷ 0 ∷ []) ([]) 0x103 ([]) ([])
 
 abbrev row-376 : Bool
-row-376 = calls started 10 (0x8000000000000007 ∷ 0 ∷ 0 ∷ 0 ∷ 0 ∷ []) ([]) 0x103 ([]) ([])
+row-376 = calls started 10 (0x8000000000000004 ∷ 0 ∷ 0 ∷ 0 ∷ 0 ∷ []) ([]) 0x103 ([]) ([])
 
 abbrev row-377 : Bool
-row-377 = calls started 10 (8 ∷ 0 ∷ 0 ∷ 0 ∷ 0 ∷ []) ([]) 0x103 ([]) ([])
+row-377 = calls started 10 (5 ∷ 0 ∷ 0 ∷ 0 ∷ 0 ∷ []) ([]) 0x103 ([]) ([])
 
 abbrev row-378 : Bool
-row-378 = calls started 10 (0x8000000000000008 ∷ 0 ∷ 0 ∷ 0 ∷ 0 ∷ []) ([]) 0x103 ([]) ([])
+row-378 = calls started 10 (0x8000000000000005 ∷ 0 ∷ 0 ∷ 0 ∷ 0 ∷ []) ([]) 0x1 (0 ∷ 0x8000000000000005 ∷ []) ([])
 
 abbrev row-379 : Bool
-row-379 = calls started 10 (9 ∷ 0 ∷ 0 ∷ 0 ∷ 0 ∷ []) ([]) 0x103 ([]) ([])
+row-379 = calls started 10 (6 ∷ 0 ∷ 0 ∷ 0 ∷ 0 ∷ []) ([]) 0x103 ([]) ([])
 
 abbrev row-380 : Bool
-row-380 = calls started 10 (0x8000000000000009 ∷ 0 ∷ 0 ∷ 0 ∷ 0 ∷ []) ([]) 0x1 (0 ∷ 0x8000000000000009 ∷ []) ([])
+row-380 = calls started 10 (0x8000000000000006 ∷ 0 ∷ 0 ∷ 0 ∷ 0 ∷ []) ([]) 0x103 ([]) ([])
 
 abbrev row-381 : Bool
-row-381 = calls started 10 (0xa ∷ 0 ∷ 0 ∷ 0 ∷ 0 ∷ []) ([]) 0x29 (0 ∷ 0x147ae147ae147ace ∷ 1 ∷ 0x13579be02468acdf ∷ 2 ∷ 0xc83fb72ea61d945 ∷ 3 ∷ 0xda740da740da734 ∷ 4 ∷ 0xeca8641fdb97523 ∷ 5 ∷ 0xfedcba987654312 ∷ 6 ∷ 0x1111111111111101 ∷ 7 ∷ 0x123456789abcdef0 ∷ []) (54 ∷ 0xc ∷ [])
+row-381 = calls started 10 (7 ∷ 0 ∷ 0 ∷ 0 ∷ 0 ∷ []) ([]) 0x103 ([]) ([])
 
 abbrev row-382 : Bool
-row-382 = calls started 10 (0x800000000000000a ∷ 0 ∷ 0 ∷ 0 ∷ 0 ∷ []) ([]) 0x103 ([]) ([])
+row-382 = calls started 10 (0x8000000000000007 ∷ 0 ∷ 0 ∷ 0 ∷ 0 ∷ []) ([]) 0x103 ([]) ([])
 
 abbrev row-383 : Bool
-row-383 = calls started 10 (0xb ∷ 0 ∷ 0 ∷ 0 ∷ 0 ∷ []) ([]) 0x103 ([]) ([])
+row-383 = calls started 10 (8 ∷ 0 ∷ 0 ∷ 0 ∷ 0 ∷ []) ([]) 0x103 ([]) ([])
 
 abbrev row-384 : Bool
-row-384 = calls started 10 (0x800000000000000b ∷ 0 ∷ 0 ∷ 0 ∷ 0 ∷ []) ([]) 0x103 ([]) ([])
+row-384 = calls started 10 (0x8000000000000008 ∷ 0 ∷ 0 ∷ 0 ∷ 0 ∷ []) ([]) 0x103 ([]) ([])
 
 abbrev row-385 : Bool
-row-385 = calls started 10 (0xc ∷ 0 ∷ 0 ∷ 0 ∷ 0 ∷ []) ([]) 0x103 ([]) ([])
+row-385 = calls started 10 (9 ∷ 0 ∷ 0 ∷ 0 ∷ 0 ∷ []) ([]) 0x103 ([]) ([])
 
 abbrev row-386 : Bool
-row-386 = calls started 10 (0x800000000000000c ∷ 0 ∷ 0 ∷ 0 ∷ 0 ∷ []) ([]) 0x103 ([]) ([])
+row-386 = calls started 10 (0x8000000000000009 ∷ 0 ∷ 0 ∷ 0 ∷ 0 ∷ []) ([]) 0x1 (0 ∷ 0x8000000000000009 ∷ []) ([])
 
 abbrev row-387 : Bool
-row-387 = calls started 10 (0xd ∷ 0 ∷ 0 ∷ 0 ∷ 0 ∷ []) ([]) 0x103 ([]) ([])
+row-387 = calls started 10 (0xa ∷ 0 ∷ 0 ∷ 0 ∷ 0 ∷ []) ([]) 0x29 (0 ∷ 0x147ae147ae147ace ∷ 1 ∷ 0x13579be02468acdf ∷ 2 ∷ 0xc83fb72ea61d945 ∷ 3 ∷ 0xda740da740da734 ∷ 4 ∷ 0xeca8641fdb97523 ∷ 5 ∷ 0xfedcba987654312 ∷ 6 ∷ 0x1111111111111101 ∷ 7 ∷ 0x123456789abcdef0 ∷ []) (54 ∷ 0xc ∷ [])
 
 abbrev row-388 : Bool
-row-388 = calls started 10 (0x800000000000000d ∷ 0 ∷ 0 ∷ 0 ∷ 0 ∷ []) ([]) 0x104 ([]) ([])
+row-388 = calls started 10 (0x800000000000000a ∷ 0 ∷ 0 ∷ 0 ∷ 0 ∷ []) ([]) 0x103 ([]) ([])
 
 abbrev row-389 : Bool
-row-389 = calls started 10 (0xe ∷ 0 ∷ 0 ∷ 0 ∷ 0 ∷ []) ([]) 0x104 ([]) ([])
+row-389 = calls started 10 (0xb ∷ 0 ∷ 0 ∷ 0 ∷ 0 ∷ []) ([]) 0x103 ([]) ([])
 
 abbrev row-390 : Bool
-row-390 = calls started 10 (0x800000000000000e ∷ 0 ∷ 0 ∷ 0 ∷ 0 ∷ []) ([]) 0x104 ([]) ([])
+row-390 = calls started 10 (0x800000000000000b ∷ 0 ∷ 0 ∷ 0 ∷ 0 ∷ []) ([]) 0x103 ([]) ([])
 
 abbrev row-391 : Bool
-row-391 = calls started 10 (0xf ∷ 0 ∷ 0 ∷ 0 ∷ 0 ∷ []) ([]) 0x103 ([]) ([])
+row-391 = calls started 10 (0xc ∷ 0 ∷ 0 ∷ 0 ∷ 0 ∷ []) ([]) 0x103 ([]) ([])
 
 abbrev row-392 : Bool
-row-392 = calls started 10 (0x800000000000000f ∷ 0 ∷ 0 ∷ 0 ∷ 0 ∷ []) ([]) 0x104 ([]) ([])
+row-392 = calls started 10 (0x800000000000000c ∷ 0 ∷ 0 ∷ 0 ∷ 0 ∷ []) ([]) 0x103 ([]) ([])
 
 abbrev row-393 : Bool
-row-393 = calls started 10 (0x10 ∷ 0 ∷ 0 ∷ 0 ∷ 0 ∷ []) ([]) 0x104 ([]) ([])
+row-393 = calls started 10 (0xd ∷ 0 ∷ 0 ∷ 0 ∷ 0 ∷ []) ([]) 0x103 ([]) ([])
 
 abbrev row-394 : Bool
-row-394 = calls started 10 (0x8000000000000010 ∷ 0 ∷ 0 ∷ 0 ∷ 0 ∷ []) ([]) 0x104 ([]) ([])
+row-394 = calls started 10 (0x800000000000000d ∷ 0 ∷ 0 ∷ 0 ∷ 0 ∷ []) ([]) 0x104 ([]) ([])
 
 abbrev row-395 : Bool
-row-395 = calls started 10 (0x11 ∷ 0 ∷ 0 ∷ 0 ∷ 0 ∷ []) ([]) 0x104 ([]) ([])
+row-395 = calls started 10 (0xe ∷ 0 ∷ 0 ∷ 0 ∷ 0 ∷ []) ([]) 0x104 ([]) ([])
 
 abbrev row-396 : Bool
-row-396 = calls started 10 (0x8000000000000011 ∷ 0 ∷ 0 ∷ 0 ∷ 0 ∷ []) ([]) 0x104 ([]) ([])
+row-396 = calls started 10 (0x800000000000000e ∷ 0 ∷ 0 ∷ 0 ∷ 0 ∷ []) ([]) 0x104 ([]) ([])
 
 abbrev row-397 : Bool
-row-397 = calls started 10 (0x12 ∷ 0 ∷ 0 ∷ 0 ∷ 0 ∷ []) ([]) 0x104 ([]) ([])
+row-397 = calls started 10 (0xf ∷ 0 ∷ 0 ∷ 0 ∷ 0 ∷ []) ([]) 0x103 ([]) ([])
 
 abbrev row-398 : Bool
-row-398 = calls started 10 (0x8000000000000012 ∷ 0 ∷ 0 ∷ 0 ∷ 0 ∷ []) ([]) 0x104 ([]) ([])
+row-398 = calls started 10 (0x800000000000000f ∷ 0 ∷ 0 ∷ 0 ∷ 0 ∷ []) ([]) 0x104 ([]) ([])
 
 abbrev row-399 : Bool
-row-399 = calls started 10 (0x13 ∷ 0 ∷ 0 ∷ 0 ∷ 0 ∷ []) ([]) 0x104 ([]) ([])
+row-399 = calls started 10 (0x10 ∷ 0 ∷ 0 ∷ 0 ∷ 0 ∷ []) ([]) 0x104 ([]) ([])
 
 abbrev row-400 : Bool
-row-400 = calls started 10 (0x8000000000000013 ∷ 0 ∷ 0 ∷ 0 ∷ 0 ∷ []) ([]) 0x104 ([]) ([])
+row-400 = calls started 10 (0x8000000000000010 ∷ 0 ∷ 0 ∷ 0 ∷ 0 ∷ []) ([]) 0x104 ([]) ([])
 
 abbrev row-401 : Bool
-row-401 = calls started 10 (0x14 ∷ 0 ∷ 0 ∷ 0 ∷ 0 ∷ []) ([]) 0x103 ([]) ([])
+row-401 = calls started 10 (0x11 ∷ 0 ∷ 0 ∷ 0 ∷ 0 ∷ []) ([]) 0x104 ([]) ([])
 
 abbrev row-402 : Bool
-row-402 = calls started 10 (0x8000000000000014 ∷ 0 ∷ 0 ∷ 0 ∷ 0 ∷ []) ([]) 0x104 ([]) ([])
+row-402 = calls started 10 (0x8000000000000011 ∷ 0 ∷ 0 ∷ 0 ∷ 0 ∷ []) ([]) 0x104 ([]) ([])
 
 abbrev row-403 : Bool
-row-403 = calls started 10 (0x15 ∷ 0 ∷ 0 ∷ 0 ∷ 0 ∷ []) ([]) 0x21 (0 ∷ 0x258bf258bf258bcf ∷ 1 ∷ 1 ∷ []) (54 ∷ 3 ∷ 56 ∷ 1 ∷ [])
+row-403 = calls started 10 (0x12 ∷ 0 ∷ 0 ∷ 0 ∷ 0 ∷ []) ([]) 0x104 ([]) ([])
 
 abbrev row-404 : Bool
-row-404 = calls started 10 (0x8000000000000015 ∷ 0 ∷ 0 ∷ 0 ∷ 0 ∷ []) ([]) 0x104 ([]) ([])
+row-404 = calls started 10 (0x8000000000000012 ∷ 0 ∷ 0 ∷ 0 ∷ 0 ∷ []) ([]) 0x104 ([]) ([])
 
 abbrev row-405 : Bool
-row-405 = calls started 10 (0x16 ∷ 0 ∷ 0 ∷ 0 ∷ 0 ∷ []) ([]) 0x21 (0 ∷ 0x258bf258bf258bcf ∷ 1 ∷ 1 ∷ []) (54 ∷ 2 ∷ [])
+row-405 = calls started 10 (0x13 ∷ 0 ∷ 0 ∷ 0 ∷ 0 ∷ []) ([]) 0x104 ([]) ([])
 
 abbrev row-406 : Bool
-row-406 = calls started 10 (0x8000000000000016 ∷ 0 ∷ 0 ∷ 0 ∷ 0 ∷ []) ([]) 0x104 ([]) ([])
+row-406 = calls started 10 (0x8000000000000013 ∷ 0 ∷ 0 ∷ 0 ∷ 0 ∷ []) ([]) 0x104 ([]) ([])
 
 abbrev row-407 : Bool
-row-407 = calls started 10 (0x17 ∷ 0 ∷ 0 ∷ 0 ∷ 0 ∷ []) ([]) 0x21 (0 ∷ 0x258bf258bf258bcf ∷ 1 ∷ 1 ∷ []) (54 ∷ 3 ∷ 56 ∷ 2 ∷ [])
+row-407 = calls started 10 (0x14 ∷ 0 ∷ 0 ∷ 0 ∷ 0 ∷ []) ([]) 0x103 ([]) ([])
 
 abbrev row-408 : Bool
-row-408 = calls started 10 (0x8000000000000017 ∷ 0 ∷ 0 ∷ 0 ∷ 0 ∷ []) ([]) 0x104 ([]) ([])
+row-408 = calls started 10 (0x8000000000000014 ∷ 0 ∷ 0 ∷ 0 ∷ 0 ∷ []) ([]) 0x104 ([]) ([])
 
 abbrev row-409 : Bool
-row-409 = calls started 10 (0x18 ∷ 0 ∷ 0 ∷ 0 ∷ 0 ∷ []) ([]) 0x104 ([]) ([])
+row-409 = calls started 10 (0x15 ∷ 0 ∷ 0 ∷ 0 ∷ 0 ∷ []) ([]) 0x21 (0 ∷ 0x258bf258bf258bcf ∷ 1 ∷ 1 ∷ []) (54 ∷ 3 ∷ 55 ∷ 0 ∷ 56 ∷ 1 ∷ [])
 
 abbrev row-410 : Bool
-row-410 = calls started 10 (0x8000000000000018 ∷ 0 ∷ 0 ∷ 0 ∷ 0 ∷ []) ([]) 0x104 ([]) ([])
+row-410 = calls started 10 (0x8000000000000015 ∷ 0 ∷ 0 ∷ 0 ∷ 0 ∷ []) ([]) 0x104 ([]) ([])
 
 abbrev row-411 : Bool
-row-411 = calls started 10 (0x19 ∷ 0 ∷ 0 ∷ 0 ∷ 0 ∷ []) ([]) 0x104 ([]) ([])
+row-411 = calls started 10 (0x16 ∷ 0 ∷ 0 ∷ 0 ∷ 0 ∷ []) ([]) 0x21 (0 ∷ 0x258bf258bf258bcf ∷ 1 ∷ 1 ∷ []) (54 ∷ 2 ∷ [])
 
 abbrev row-412 : Bool
-row-412 = calls started 10 (0x8000000000000019 ∷ 0 ∷ 0 ∷ 0 ∷ 0 ∷ []) ([]) 0x104 ([]) ([])
+row-412 = calls started 10 (0x8000000000000016 ∷ 0 ∷ 0 ∷ 0 ∷ 0 ∷ []) ([]) 0x104 ([]) ([])
 
 abbrev row-413 : Bool
-row-413 = calls started 10 (0x1a ∷ 0 ∷ 0 ∷ 0 ∷ 0 ∷ []) ([]) 0x104 ([]) ([])
+row-413 = calls started 10 (0x17 ∷ 0 ∷ 0 ∷ 0 ∷ 0 ∷ []) ([]) 0x21 (0 ∷ 0x258bf258bf258bcf ∷ 1 ∷ 1 ∷ []) (54 ∷ 3 ∷ 55 ∷ 0 ∷ 56 ∷ 2 ∷ [])
 
 abbrev row-414 : Bool
-row-414 = calls started 10 (0x800000000000001a ∷ 0 ∷ 0 ∷ 0 ∷ 0 ∷ []) ([]) 0x104 ([]) ([])
+row-414 = calls started 10 (0x8000000000000017 ∷ 0 ∷ 0 ∷ 0 ∷ 0 ∷ []) ([]) 0x104 ([]) ([])
 
 abbrev row-415 : Bool
-row-415 = gives (printed 13 (0 ∷ 0 ∷ 0 ∷ 0 ∷ 0 ∷ [])) (55 ∷ 5 ∷ 56 ∷ 4 ∷ 57 ∷ 1 ∷ []) 0x41 ([]) (55 ∷ 0 ∷ 56 ∷ 0 ∷ 57 ∷ 0 ∷ [])
+row-415 = calls started 10 (0x18 ∷ 0 ∷ 0 ∷ 0 ∷ 0 ∷ []) ([]) 0x104 ([]) ([])
 
 abbrev row-416 : Bool
-row-416 = calls called 12 (0x123456789abcdef0 ∷ 0 ∷ 0 ∷ 0 ∷ 0 ∷ []) (55 ∷ 5 ∷ 56 ∷ 4 ∷ 57 ∷ 1 ∷ []) 0x102 ([]) (55 ∷ 0 ∷ 56 ∷ 0 ∷ 57 ∷ 0 ∷ [])
+row-416 = calls started 10 (0x8000000000000018 ∷ 0 ∷ 0 ∷ 0 ∷ 0 ∷ []) ([]) 0x104 ([]) ([])
 
 abbrev row-417 : Bool
-row-417 = calls started 10 (0xa ∷ 0 ∷ 0 ∷ 0 ∷ 0 ∷ []) (55 ∷ 5 ∷ 56 ∷ 4 ∷ 57 ∷ 1 ∷ []) 0x29 (0 ∷ 0x147ae147ae147ace ∷ 1 ∷ 0x13579be02468acdf ∷ 2 ∷ 0xc83fb72ea61d945 ∷ 3 ∷ 0xda740da740da734 ∷ 4 ∷ 0xeca8641fdb97523 ∷ 5 ∷ 0xfedcba987654312 ∷ 6 ∷ 0x1111111111111101 ∷ 7 ∷ 0x123456789abcdef0 ∷ []) (54 ∷ 0xc ∷ 55 ∷ 0 ∷ 56 ∷ 0 ∷ 57 ∷ 0 ∷ [])
+row-417 = calls started 10 (0x19 ∷ 0 ∷ 0 ∷ 0 ∷ 0 ∷ []) ([]) 0x104 ([]) ([])
 
 abbrev row-418 : Bool
-row-418 = calls called 1 (0 ∷ 0 ∷ 0 ∷ 0 ∷ 0 ∷ []) (55 ∷ 5 ∷ 56 ∷ 4 ∷ 57 ∷ 1 ∷ []) 0x40 ([]) (33 ∷ 0x2100 ∷ 34 ∷ 0x200000180 ∷ 40 ∷ 0xffffffffffffffff ∷ 41 ∷ 0x444 ∷ 42 ∷ 0 ∷ 43 ∷ 0 ∷ 55 ∷ 0 ∷ 56 ∷ 0 ∷ 57 ∷ 0 ∷ [])
+row-418 = calls started 10 (0x8000000000000019 ∷ 0 ∷ 0 ∷ 0 ∷ 0 ∷ []) ([]) 0x104 ([]) ([])
 
 abbrev row-419 : Bool
-row-419 = calls answered 11 (0 ∷ 5 ∷ 2 ∷ 0 ∷ 0 ∷ []) (55 ∷ 5 ∷ 56 ∷ 4 ∷ 57 ∷ 1 ∷ []) 0x101 ([]) (55 ∷ 0 ∷ 56 ∷ 0 ∷ 57 ∷ 0 ∷ [])
+row-419 = calls started 10 (0x1a ∷ 0 ∷ 0 ∷ 0 ∷ 0 ∷ []) ([]) 0x104 ([]) ([])
 
 abbrev row-420 : Bool
-row-420 = calls answered 11 (9 ∷ 5 ∷ 2 ∷ 0 ∷ 0 ∷ []) (55 ∷ 5 ∷ 56 ∷ 4 ∷ 57 ∷ 1 ∷ []) 0x107 ([]) (55 ∷ 0 ∷ 56 ∷ 0 ∷ 57 ∷ 0 ∷ [])
+row-420 = calls started 10 (0x800000000000001a ∷ 0 ∷ 0 ∷ 0 ∷ 0 ∷ []) ([]) 0x104 ([]) ([])
 
 abbrev row-421 : Bool
-row-421 = calls answered 11 (1 ∷ 5 ∷ 2 ∷ 0 ∷ 0 ∷ []) (55 ∷ 5 ∷ 56 ∷ 4 ∷ 57 ∷ 1 ∷ []) 0x107 ([]) (55 ∷ 0 ∷ 56 ∷ 0 ∷ 57 ∷ 0 ∷ [])
+row-421 = calls printed 13 (5 ∷ 0 ∷ 0 ∷ 0 ∷ 0 ∷ []) (55 ∷ 5 ∷ 56 ∷ 4 ∷ 57 ∷ 1 ∷ []) 0x41 ([]) ([])
 
 abbrev row-422 : Bool
-row-422 = calls answered 11 (0xa ∷ 5 ∷ 2 ∷ 0 ∷ 0 ∷ []) (55 ∷ 5 ∷ 56 ∷ 4 ∷ 57 ∷ 1 ∷ []) 0x101 ([]) (55 ∷ 0 ∷ 56 ∷ 0 ∷ 57 ∷ 0 ∷ [])
+row-422 = calls called 12 (0x123456789abcdef0 ∷ 0 ∷ 0 ∷ 0 ∷ 0 ∷ []) (55 ∷ 5 ∷ 56 ∷ 4 ∷ 57 ∷ 1 ∷ []) 0x102 ([]) ([])
 
 abbrev row-423 : Bool
-row-423 = gives (printed 13 (0 ∷ 0 ∷ 0 ∷ 0 ∷ 0 ∷ [])) (54 ∷ 1 ∷ 55 ∷ 5 ∷ 56 ∷ 4 ∷ 57 ∷ 1 ∷ []) 0x41 ([]) ([])
+row-423 = calls started 10 (0xa ∷ 0 ∷ 0 ∷ 0 ∷ 0 ∷ []) (55 ∷ 5 ∷ 56 ∷ 4 ∷ 57 ∷ 1 ∷ []) 0x29 (0 ∷ 0x147ae147ae147ace ∷ 1 ∷ 0x13579be02468acdf ∷ 2 ∷ 0xc83fb72ea61d945 ∷ 3 ∷ 0xda740da740da734 ∷ 4 ∷ 0xeca8641fdb97523 ∷ 5 ∷ 0xfedcba987654312 ∷ 6 ∷ 0x1111111111111101 ∷ 7 ∷ 0x123456789abcdef0 ∷ []) (54 ∷ 0xc ∷ [])
 
 abbrev row-424 : Bool
-row-424 = calls called 12 (0x123456789abcdef0 ∷ 0 ∷ 0 ∷ 0 ∷ 0 ∷ []) (54 ∷ 1 ∷ 55 ∷ 5 ∷ 56 ∷ 4 ∷ 57 ∷ 1 ∷ []) 0x40 ([]) (5 ∷ 0xffffffff9abcdef0 ∷ 54 ∷ 0 ∷ 55 ∷ 0 ∷ 56 ∷ 0 ∷ 57 ∷ 0 ∷ [])
+row-424 = calls called 1 (0 ∷ 0 ∷ 0 ∷ 0 ∷ 0 ∷ []) (55 ∷ 5 ∷ 56 ∷ 4 ∷ 57 ∷ 1 ∷ []) 0x40 ([]) (33 ∷ 0x2100 ∷ 34 ∷ 0x200000180 ∷ 40 ∷ 0xffffffffffffffff ∷ 41 ∷ 0x444 ∷ 42 ∷ 0 ∷ 43 ∷ 0 ∷ [])
 
 abbrev row-425 : Bool
-row-425 = calls started 10 (0xa ∷ 0 ∷ 0 ∷ 0 ∷ 0 ∷ []) (54 ∷ 1 ∷ 55 ∷ 5 ∷ 56 ∷ 4 ∷ 57 ∷ 1 ∷ []) 0x102 ([]) ([])
+row-425 = calls answered 11 (0 ∷ 5 ∷ 2 ∷ 0 ∷ 0 ∷ []) (55 ∷ 5 ∷ 56 ∷ 4 ∷ 57 ∷ 1 ∷ []) 0x107 ([]) ([])
 
 abbrev row-426 : Bool
-row-426 = calls called 1 (0 ∷ 0 ∷ 0 ∷ 0 ∷ 0 ∷ []) (54 ∷ 1 ∷ 55 ∷ 5 ∷ 56 ∷ 4 ∷ 57 ∷ 1 ∷ []) 0x40 ([]) (33 ∷ 0x2100 ∷ 34 ∷ 0x200000180 ∷ 40 ∷ 0xffffffffffffffff ∷ 41 ∷ 0x444 ∷ 42 ∷ 0 ∷ 43 ∷ 0 ∷ [])
+row-426 = calls answered 11 (9 ∷ 5 ∷ 2 ∷ 0 ∷ 0 ∷ []) (55 ∷ 5 ∷ 56 ∷ 4 ∷ 57 ∷ 1 ∷ []) 0x107 ([]) ([])
 
 abbrev row-427 : Bool
-row-427 = calls answered 11 (0 ∷ 5 ∷ 2 ∷ 0 ∷ 0 ∷ []) (54 ∷ 1 ∷ 55 ∷ 5 ∷ 56 ∷ 4 ∷ 57 ∷ 1 ∷ []) 0x101 ([]) ([])
+row-427 = calls answered 11 (1 ∷ 5 ∷ 2 ∷ 0 ∷ 0 ∷ []) (55 ∷ 5 ∷ 56 ∷ 4 ∷ 57 ∷ 1 ∷ []) 0x107 ([]) ([])
 
 abbrev row-428 : Bool
-row-428 = calls answered 11 (9 ∷ 5 ∷ 2 ∷ 0 ∷ 0 ∷ []) (54 ∷ 1 ∷ 55 ∷ 5 ∷ 56 ∷ 4 ∷ 57 ∷ 1 ∷ []) 0x107 ([]) ([])
+row-428 = calls answered 11 (0xa ∷ 5 ∷ 2 ∷ 0 ∷ 0 ∷ []) (55 ∷ 5 ∷ 56 ∷ 4 ∷ 57 ∷ 1 ∷ []) 0x107 ([]) ([])
 
 abbrev row-429 : Bool
-row-429 = calls answered 11 (1 ∷ 5 ∷ 2 ∷ 0 ∷ 0 ∷ []) (54 ∷ 1 ∷ 55 ∷ 5 ∷ 56 ∷ 4 ∷ 57 ∷ 1 ∷ []) 0x107 ([]) ([])
+row-429 = calls answered 11 (0xffffffffffffffff ∷ 5 ∷ 2 ∷ 0 ∷ 0 ∷ []) (55 ∷ 5 ∷ 56 ∷ 4 ∷ 57 ∷ 1 ∷ []) 0x107 ([]) ([])
 
 abbrev row-430 : Bool
-row-430 = calls answered 11 (0xa ∷ 5 ∷ 2 ∷ 0 ∷ 0 ∷ []) (54 ∷ 1 ∷ 55 ∷ 5 ∷ 56 ∷ 4 ∷ 57 ∷ 1 ∷ []) 0x101 ([]) ([])
+row-430 = calls printed 13 (5 ∷ 0 ∷ 0 ∷ 0 ∷ 0 ∷ []) (54 ∷ 1 ∷ 55 ∷ 5 ∷ 56 ∷ 4 ∷ 57 ∷ 1 ∷ []) 0x41 ([]) ([])
 
 abbrev row-431 : Bool
-row-431 = gives (printed 13 (0 ∷ 0 ∷ 0 ∷ 0 ∷ 0 ∷ [])) (54 ∷ 2 ∷ 55 ∷ 5 ∷ 56 ∷ 4 ∷ 57 ∷ 1 ∷ []) 0x41 ([]) (55 ∷ 0 ∷ 56 ∷ 0 ∷ 57 ∷ 0 ∷ [])
+row-431 = calls called 12 (0x123456789abcdef0 ∷ 0 ∷ 0 ∷ 0 ∷ 0 ∷ []) (54 ∷ 1 ∷ 55 ∷ 5 ∷ 56 ∷ 4 ∷ 57 ∷ 1 ∷ []) 0x40 ([]) (5 ∷ 0xffffffff9abcdef0 ∷ 54 ∷ 0 ∷ [])
 
 abbrev row-432 : Bool
-row-432 = calls called 12 (0x123456789abcdef0 ∷ 0 ∷ 0 ∷ 0 ∷ 0 ∷ []) (54 ∷ 2 ∷ 55 ∷ 5 ∷ 56 ∷ 4 ∷ 57 ∷ 1 ∷ []) 0x102 ([]) (55 ∷ 0 ∷ 56 ∷ 0 ∷ 57 ∷ 0 ∷ [])
+row-432 = calls started 10 (0xa ∷ 0 ∷ 0 ∷ 0 ∷ 0 ∷ []) (54 ∷ 1 ∷ 55 ∷ 5 ∷ 56 ∷ 4 ∷ 57 ∷ 1 ∷ []) 0x102 ([]) ([])
 
 abbrev row-433 : Bool
-row-433 = calls started 10 (0xa ∷ 0 ∷ 0 ∷ 0 ∷ 0 ∷ []) (54 ∷ 2 ∷ 55 ∷ 5 ∷ 56 ∷ 4 ∷ 57 ∷ 1 ∷ []) 0x102 ([]) (55 ∷ 0 ∷ 56 ∷ 0 ∷ 57 ∷ 0 ∷ [])
+row-433 = calls called 1 (0 ∷ 0 ∷ 0 ∷ 0 ∷ 0 ∷ []) (54 ∷ 1 ∷ 55 ∷ 5 ∷ 56 ∷ 4 ∷ 57 ∷ 1 ∷ []) 0x40 ([]) (33 ∷ 0x2100 ∷ 34 ∷ 0x200000180 ∷ 40 ∷ 0xffffffffffffffff ∷ 41 ∷ 0x444 ∷ 42 ∷ 0 ∷ 43 ∷ 0 ∷ [])
 
 abbrev row-434 : Bool
-row-434 = calls called 1 (0 ∷ 0 ∷ 0 ∷ 0 ∷ 0 ∷ []) (54 ∷ 2 ∷ 55 ∷ 5 ∷ 56 ∷ 4 ∷ 57 ∷ 1 ∷ []) 0x102 ([]) (55 ∷ 0 ∷ 56 ∷ 0 ∷ 57 ∷ 0 ∷ [])
+row-434 = calls answered 11 (0 ∷ 5 ∷ 2 ∷ 0 ∷ 0 ∷ []) (54 ∷ 1 ∷ 55 ∷ 5 ∷ 56 ∷ 4 ∷ 57 ∷ 1 ∷ []) 0x107 ([]) ([])
 
 abbrev row-435 : Bool
-row-435 = calls answered 11 (1 ∷ 5 ∷ 2 ∷ 0 ∷ 0 ∷ []) (54 ∷ 2 ∷ 55 ∷ 5 ∷ 56 ∷ 4 ∷ 57 ∷ 1 ∷ []) 0x0 ([]) (32 ∷ 0x2a1907f6e5d4c388 ∷ 37 ∷ 0x258bf258bf258bcf ∷ 38 ∷ 1 ∷ 39 ∷ 5 ∷ 54 ∷ 0 ∷ 55 ∷ 0 ∷ 56 ∷ 0 ∷ 57 ∷ 0 ∷ [])
+row-435 = calls answered 11 (9 ∷ 5 ∷ 2 ∷ 0 ∷ 0 ∷ []) (54 ∷ 1 ∷ 55 ∷ 5 ∷ 56 ∷ 4 ∷ 57 ∷ 1 ∷ []) 0x107 ([]) ([])
 
 abbrev row-436 : Bool
-row-436 = calls answered 11 (1 ∷ 5 ∷ 2 ∷ 0 ∷ 0 ∷ []) (54 ∷ 2 ∷ 55 ∷ 5 ∷ 56 ∷ 4 ∷ 57 ∷ 1 ∷ []) 0x0 ([]) (32 ∷ 0x2a1907f6e5d4c388 ∷ 37 ∷ 0x258bf258bf258bcf ∷ 38 ∷ 1 ∷ 39 ∷ 5 ∷ 54 ∷ 0 ∷ 55 ∷ 0 ∷ 56 ∷ 0 ∷ 57 ∷ 0 ∷ [])
+row-436 = calls answered 11 (1 ∷ 5 ∷ 2 ∷ 0 ∷ 0 ∷ []) (54 ∷ 1 ∷ 55 ∷ 5 ∷ 56 ∷ 4 ∷ 57 ∷ 1 ∷ []) 0x107 ([]) ([])
 
 abbrev row-437 : Bool
-row-437 = calls answered 11 (2 ∷ 5 ∷ 2 ∷ 0 ∷ 0 ∷ []) (54 ∷ 2 ∷ 55 ∷ 5 ∷ 56 ∷ 4 ∷ 57 ∷ 1 ∷ []) 0x107 ([]) (55 ∷ 0 ∷ 56 ∷ 0 ∷ 57 ∷ 0 ∷ [])
+row-437 = calls answered 11 (0xa ∷ 5 ∷ 2 ∷ 0 ∷ 0 ∷ []) (54 ∷ 1 ∷ 55 ∷ 5 ∷ 56 ∷ 4 ∷ 57 ∷ 1 ∷ []) 0x107 ([]) ([])
 
 abbrev row-438 : Bool
-row-438 = calls answered 11 (0xa ∷ 5 ∷ 2 ∷ 0 ∷ 0 ∷ []) (54 ∷ 2 ∷ 55 ∷ 5 ∷ 56 ∷ 4 ∷ 57 ∷ 1 ∷ []) 0x101 ([]) (55 ∷ 0 ∷ 56 ∷ 0 ∷ 57 ∷ 0 ∷ [])
+row-438 = calls answered 11 (0xffffffffffffffff ∷ 5 ∷ 2 ∷ 0 ∷ 0 ∷ []) (54 ∷ 1 ∷ 55 ∷ 5 ∷ 56 ∷ 4 ∷ 57 ∷ 1 ∷ []) 0x107 ([]) ([])
 
 abbrev row-439 : Bool
-row-439 = gives (printed 13 (0 ∷ 0 ∷ 0 ∷ 0 ∷ 0 ∷ [])) (54 ∷ 3 ∷ 55 ∷ 5 ∷ 56 ∷ 4 ∷ 57 ∷ 1 ∷ []) 0x41 ([]) (57 ∷ 0 ∷ [])
+row-439 = calls printed 13 (5 ∷ 0 ∷ 0 ∷ 0 ∷ 0 ∷ []) (54 ∷ 2 ∷ 55 ∷ 5 ∷ 56 ∷ 4 ∷ 57 ∷ 1 ∷ []) 0x41 ([]) ([])
 
 abbrev row-440 : Bool
-row-440 = calls called 12 (0x123456789abcdef0 ∷ 0 ∷ 0 ∷ 0 ∷ 0 ∷ []) (54 ∷ 3 ∷ 55 ∷ 5 ∷ 56 ∷ 4 ∷ 57 ∷ 1 ∷ []) 0x102 ([]) (57 ∷ 0 ∷ [])
+row-440 = calls called 12 (0x123456789abcdef0 ∷ 0 ∷ 0 ∷ 0 ∷ 0 ∷ []) (54 ∷ 2 ∷ 55 ∷ 5 ∷ 56 ∷ 4 ∷ 57 ∷ 1 ∷ []) 0x102 ([]) ([])
 
 abbrev row-441 : Bool
-row-441 = calls started 10 (0xa ∷ 0 ∷ 0 ∷ 0 ∷ 0 ∷ []) (54 ∷ 3 ∷ 55 ∷ 5 ∷ 56 ∷ 4 ∷ 57 ∷ 1 ∷ []) 0x102 ([]) (57 ∷ 0 ∷ [])
+row-441 = calls started 10 (0xa ∷ 0 ∷ 0 ∷ 0 ∷ 0 ∷ []) (54 ∷ 2 ∷ 55 ∷ 5 ∷ 56 ∷ 4 ∷ 57 ∷ 1 ∷ []) 0x102 ([]) ([])
 
 abbrev row-442 : Bool
-row-442 = calls called 1 (0 ∷ 0 ∷ 0 ∷ 0 ∷ 0 ∷ []) (54 ∷ 3 ∷ 55 ∷ 5 ∷ 56 ∷ 4 ∷ 57 ∷ 1 ∷ []) 0x102 ([]) (57 ∷ 0 ∷ [])
+row-442 = calls called 1 (0 ∷ 0 ∷ 0 ∷ 0 ∷ 0 ∷ []) (54 ∷ 2 ∷ 55 ∷ 5 ∷ 56 ∷ 4 ∷ 57 ∷ 1 ∷ []) 0x102 ([]) ([])
 
 abbrev row-443 : Bool
-row-443 = calls answered 11 (1 ∷ 5 ∷ 2 ∷ 0 ∷ 0 ∷ []) (54 ∷ 3 ∷ 55 ∷ 5 ∷ 56 ∷ 4 ∷ 57 ∷ 1 ∷ []) 0x0 ([]) (32 ∷ 0x2a1907f6e5d4c388 ∷ 37 ∷ 0x258bf258bf258bcf ∷ 38 ∷ 1 ∷ 39 ∷ 5 ∷ 54 ∷ 0 ∷ 55 ∷ 0 ∷ 56 ∷ 0 ∷ 57 ∷ 0 ∷ [])
+row-443 = calls answered 11 (1 ∷ 5 ∷ 2 ∷ 0 ∷ 0 ∷ []) (54 ∷ 2 ∷ 55 ∷ 5 ∷ 56 ∷ 4 ∷ 57 ∷ 1 ∷ []) 0x0 ([]) (32 ∷ 0x2a1907f6e5d4c388 ∷ 37 ∷ 0x258bf258bf258bcf ∷ 38 ∷ 1 ∷ 39 ∷ 5 ∷ 54 ∷ 0 ∷ [])
 
 abbrev row-444 : Bool
-row-444 = calls answered 11 (1 ∷ 5 ∷ 2 ∷ 0 ∷ 0 ∷ []) (54 ∷ 3 ∷ 55 ∷ 5 ∷ 56 ∷ 4 ∷ 57 ∷ 1 ∷ []) 0x0 ([]) (32 ∷ 0x2a1907f6e5d4c388 ∷ 37 ∷ 0x258bf258bf258bcf ∷ 38 ∷ 1 ∷ 39 ∷ 5 ∷ 54 ∷ 0 ∷ 55 ∷ 0 ∷ 56 ∷ 0 ∷ 57 ∷ 0 ∷ [])
+row-444 = calls answered 11 (1 ∷ 5 ∷ 2 ∷ 0 ∷ 0 ∷ []) (54 ∷ 2 ∷ 55 ∷ 5 ∷ 56 ∷ 4 ∷ 57 ∷ 1 ∷ []) 0x0 ([]) (32 ∷ 0x2a1907f6e5d4c388 ∷ 37 ∷ 0x258bf258bf258bcf ∷ 38 ∷ 1 ∷ 39 ∷ 5 ∷ 54 ∷ 0 ∷ [])
 
 abbrev row-445 : Bool
-row-445 = calls answered 11 (2 ∷ 5 ∷ 2 ∷ 0 ∷ 0 ∷ []) (54 ∷ 3 ∷ 55 ∷ 5 ∷ 56 ∷ 4 ∷ 57 ∷ 1 ∷ []) 0x107 ([]) (57 ∷ 0 ∷ [])
+row-445 = calls answered 11 (2 ∷ 5 ∷ 2 ∷ 0 ∷ 0 ∷ []) (54 ∷ 2 ∷ 55 ∷ 5 ∷ 56 ∷ 4 ∷ 57 ∷ 1 ∷ []) 0x107 ([]) ([])
 
 abbrev row-446 : Bool
-row-446 = calls answered 11 (0xa ∷ 5 ∷ 2 ∷ 0 ∷ 0 ∷ []) (54 ∷ 3 ∷ 55 ∷ 5 ∷ 56 ∷ 4 ∷ 57 ∷ 1 ∷ []) 0x101 ([]) (57 ∷ 0 ∷ [])
+row-446 = calls answered 11 (0xa ∷ 5 ∷ 2 ∷ 0 ∷ 0 ∷ []) (54 ∷ 2 ∷ 55 ∷ 5 ∷ 56 ∷ 4 ∷ 57 ∷ 1 ∷ []) 0x107 ([]) ([])
 
 abbrev row-447 : Bool
-row-447 = gives (printed 13 (0 ∷ 0 ∷ 0 ∷ 0 ∷ 0 ∷ [])) (54 ∷ 4 ∷ 55 ∷ 5 ∷ 56 ∷ 4 ∷ 57 ∷ 1 ∷ []) 0x41 ([]) (55 ∷ 0 ∷ 56 ∷ 0 ∷ 57 ∷ 0 ∷ [])
+row-447 = calls answered 11 (0xffffffffffffffff ∷ 5 ∷ 2 ∷ 0 ∷ 0 ∷ []) (54 ∷ 2 ∷ 55 ∷ 5 ∷ 56 ∷ 4 ∷ 57 ∷ 1 ∷ []) 0x107 ([]) ([])
 
 abbrev row-448 : Bool
-row-448 = calls called 12 (0x123456789abcdef0 ∷ 0 ∷ 0 ∷ 0 ∷ 0 ∷ []) (54 ∷ 4 ∷ 55 ∷ 5 ∷ 56 ∷ 4 ∷ 57 ∷ 1 ∷ []) 0x102 ([]) (55 ∷ 0 ∷ 56 ∷ 0 ∷ 57 ∷ 0 ∷ [])
+row-448 = calls answered 11 (0 ∷ 5 ∷ 2 ∷ 0 ∷ 0 ∷ []) (54 ∷ 2 ∷ 55 ∷ 5 ∷ 56 ∷ 4 ∷ 57 ∷ 1 ∷ []) 0x107 ([]) ([])
 
 abbrev row-449 : Bool
-row-449 = calls started 10 (0xa ∷ 0 ∷ 0 ∷ 0 ∷ 0 ∷ []) (54 ∷ 4 ∷ 55 ∷ 5 ∷ 56 ∷ 4 ∷ 57 ∷ 1 ∷ []) 0x102 ([]) (55 ∷ 0 ∷ 56 ∷ 0 ∷ 57 ∷ 0 ∷ [])
+row-449 = calls printed 13 (5 ∷ 0 ∷ 0 ∷ 0 ∷ 0 ∷ []) (54 ∷ 3 ∷ 55 ∷ 5 ∷ 56 ∷ 4 ∷ 57 ∷ 1 ∷ []) 0x41 ([]) ([])
 
 abbrev row-450 : Bool
-row-450 = calls called 1 (0 ∷ 0 ∷ 0 ∷ 0 ∷ 0 ∷ []) (54 ∷ 4 ∷ 55 ∷ 5 ∷ 56 ∷ 4 ∷ 57 ∷ 1 ∷ []) 0x102 ([]) (55 ∷ 0 ∷ 56 ∷ 0 ∷ 57 ∷ 0 ∷ [])
+row-450 = calls called 12 (0x123456789abcdef0 ∷ 0 ∷ 0 ∷ 0 ∷ 0 ∷ []) (54 ∷ 3 ∷ 55 ∷ 5 ∷ 56 ∷ 4 ∷ 57 ∷ 1 ∷ []) 0x102 ([]) ([])
 
 abbrev row-451 : Bool
-row-451 = calls answered 11 (2 ∷ 5 ∷ 2 ∷ 0 ∷ 0 ∷ []) (54 ∷ 4 ∷ 55 ∷ 5 ∷ 56 ∷ 4 ∷ 57 ∷ 1 ∷ []) 0x0 ([]) (10 ∷ 0xffffffffffffffff ∷ 11 ∷ 0 ∷ 32 ∷ 0x258bf258bf258bd3 ∷ 54 ∷ 0 ∷ 55 ∷ 0 ∷ 56 ∷ 0 ∷ 57 ∷ 0 ∷ [])
+row-451 = calls started 10 (0xa ∷ 0 ∷ 0 ∷ 0 ∷ 0 ∷ []) (54 ∷ 3 ∷ 55 ∷ 5 ∷ 56 ∷ 4 ∷ 57 ∷ 1 ∷ []) 0x102 ([]) ([])
 
 abbrev row-452 : Bool
-row-452 = calls answered 11 (2 ∷ 5 ∷ 2 ∷ 0 ∷ 0 ∷ []) (54 ∷ 4 ∷ 55 ∷ 5 ∷ 56 ∷ 4 ∷ 57 ∷ 1 ∷ []) 0x0 ([]) (10 ∷ 0xffffffffffffffff ∷ 11 ∷ 0 ∷ 32 ∷ 0x258bf258bf258bd3 ∷ 54 ∷ 0 ∷ 55 ∷ 0 ∷ 56 ∷ 0 ∷ 57 ∷ 0 ∷ [])
+row-452 = calls called 1 (0 ∷ 0 ∷ 0 ∷ 0 ∷ 0 ∷ []) (54 ∷ 3 ∷ 55 ∷ 5 ∷ 56 ∷ 4 ∷ 57 ∷ 1 ∷ []) 0x102 ([]) ([])
 
 abbrev row-453 : Bool
-row-453 = calls answered 11 (3 ∷ 5 ∷ 2 ∷ 0 ∷ 0 ∷ []) (54 ∷ 4 ∷ 55 ∷ 5 ∷ 56 ∷ 4 ∷ 57 ∷ 1 ∷ []) 0x107 ([]) (55 ∷ 0 ∷ 56 ∷ 0 ∷ 57 ∷ 0 ∷ [])
+row-453 = calls answered 11 (1 ∷ 5 ∷ 2 ∷ 0 ∷ 0 ∷ []) (54 ∷ 3 ∷ 55 ∷ 5 ∷ 56 ∷ 4 ∷ 57 ∷ 1 ∷ []) 0x0 ([]) (32 ∷ 0x2a1907f6e5d4c388 ∷ 37 ∷ 0x258bf258bf258bcf ∷ 38 ∷ 1 ∷ 39 ∷ 5 ∷ 54 ∷ 0 ∷ [])
 
 abbrev row-454 : Bool
-row-454 = calls answered 11 (0xa ∷ 5 ∷ 2 ∷ 0 ∷ 0 ∷ []) (54 ∷ 4 ∷ 55 ∷ 5 ∷ 56 ∷ 4 ∷ 57 ∷ 1 ∷ []) 0x101 ([]) (55 ∷ 0 ∷ 56 ∷ 0 ∷ 57 ∷ 0 ∷ [])
+row-454 = calls answered 11 (1 ∷ 5 ∷ 2 ∷ 0 ∷ 0 ∷ []) (54 ∷ 3 ∷ 55 ∷ 5 ∷ 56 ∷ 4 ∷ 57 ∷ 1 ∷ []) 0x0 ([]) (32 ∷ 0x2a1907f6e5d4c388 ∷ 37 ∷ 0x258bf258bf258bcf ∷ 38 ∷ 1 ∷ 39 ∷ 5 ∷ 54 ∷ 0 ∷ [])
 
 abbrev row-455 : Bool
-row-455 = gives (printed 13 (0 ∷ 0 ∷ 0 ∷ 0 ∷ 0 ∷ [])) (54 ∷ 5 ∷ 55 ∷ 5 ∷ 56 ∷ 4 ∷ 57 ∷ 1 ∷ []) 0x41 ([]) (56 ∷ 0 ∷ 57 ∷ 0 ∷ [])
+row-455 = calls answered 11 (2 ∷ 5 ∷ 2 ∷ 0 ∷ 0 ∷ []) (54 ∷ 3 ∷ 55 ∷ 5 ∷ 56 ∷ 4 ∷ 57 ∷ 1 ∷ []) 0x107 ([]) ([])
 
 abbrev row-456 : Bool
-row-456 = calls called 12 (0x123456789abcdef0 ∷ 0 ∷ 0 ∷ 0 ∷ 0 ∷ []) (54 ∷ 5 ∷ 55 ∷ 5 ∷ 56 ∷ 4 ∷ 57 ∷ 1 ∷ []) 0x102 ([]) (56 ∷ 0 ∷ 57 ∷ 0 ∷ [])
+row-456 = calls answered 11 (0xa ∷ 5 ∷ 2 ∷ 0 ∷ 0 ∷ []) (54 ∷ 3 ∷ 55 ∷ 5 ∷ 56 ∷ 4 ∷ 57 ∷ 1 ∷ []) 0x107 ([]) ([])
 
 abbrev row-457 : Bool
-row-457 = calls started 10 (0xa ∷ 0 ∷ 0 ∷ 0 ∷ 0 ∷ []) (54 ∷ 5 ∷ 55 ∷ 5 ∷ 56 ∷ 4 ∷ 57 ∷ 1 ∷ []) 0x102 ([]) (56 ∷ 0 ∷ 57 ∷ 0 ∷ [])
+row-457 = calls answered 11 (0xffffffffffffffff ∷ 5 ∷ 2 ∷ 0 ∷ 0 ∷ []) (54 ∷ 3 ∷ 55 ∷ 5 ∷ 56 ∷ 4 ∷ 57 ∷ 1 ∷ []) 0x107 ([]) ([])
 
 abbrev row-458 : Bool
-row-458 = calls called 1 (0 ∷ 0 ∷ 0 ∷ 0 ∷ 0 ∷ []) (54 ∷ 5 ∷ 55 ∷ 5 ∷ 56 ∷ 4 ∷ 57 ∷ 1 ∷ []) 0x102 ([]) (56 ∷ 0 ∷ 57 ∷ 0 ∷ [])
+row-458 = calls answered 11 (0 ∷ 5 ∷ 2 ∷ 0 ∷ 0 ∷ []) (54 ∷ 3 ∷ 55 ∷ 5 ∷ 56 ∷ 4 ∷ 57 ∷ 1 ∷ []) 0x107 ([]) ([])
 
 abbrev row-459 : Bool
-row-459 = calls answered 11 (3 ∷ 5 ∷ 2 ∷ 0 ∷ 0 ∷ []) (54 ∷ 5 ∷ 55 ∷ 5 ∷ 56 ∷ 4 ∷ 57 ∷ 1 ∷ []) 0x24 (0 ∷ 5 ∷ []) (54 ∷ 6 ∷ 56 ∷ 0 ∷ 57 ∷ 0 ∷ [])
+row-459 = calls printed 13 (5 ∷ 0 ∷ 0 ∷ 0 ∷ 0 ∷ []) (54 ∷ 4 ∷ 55 ∷ 5 ∷ 56 ∷ 4 ∷ 57 ∷ 1 ∷ []) 0x41 ([]) ([])
 
 abbrev row-460 : Bool
-row-460 = calls answered 11 (3 ∷ 5 ∷ 2 ∷ 0 ∷ 0 ∷ []) (54 ∷ 5 ∷ 55 ∷ 5 ∷ 56 ∷ 4 ∷ 57 ∷ 1 ∷ []) 0x24 (0 ∷ 5 ∷ []) (54 ∷ 6 ∷ 56 ∷ 0 ∷ 57 ∷ 0 ∷ [])
+row-460 = calls called 12 (0x123456789abcdef0 ∷ 0 ∷ 0 ∷ 0 ∷ 0 ∷ []) (54 ∷ 4 ∷ 55 ∷ 5 ∷ 56 ∷ 4 ∷ 57 ∷ 1 ∷ []) 0x102 ([]) ([])
 
 abbrev row-461 : Bool
-row-461 = calls answered 11 (4 ∷ 5 ∷ 2 ∷ 0 ∷ 0 ∷ []) (54 ∷ 5 ∷ 55 ∷ 5 ∷ 56 ∷ 4 ∷ 57 ∷ 1 ∷ []) 0x107 ([]) (56 ∷ 0 ∷ 57 ∷ 0 ∷ [])
+row-461 = calls started 10 (0xa ∷ 0 ∷ 0 ∷ 0 ∷ 0 ∷ []) (54 ∷ 4 ∷ 55 ∷ 5 ∷ 56 ∷ 4 ∷ 57 ∷ 1 ∷ []) 0x102 ([]) ([])
 
 abbrev row-462 : Bool
-row-462 = calls answered 11 (0xa ∷ 5 ∷ 2 ∷ 0 ∷ 0 ∷ []) (54 ∷ 5 ∷ 55 ∷ 5 ∷ 56 ∷ 4 ∷ 57 ∷ 1 ∷ []) 0x101 ([]) (56 ∷ 0 ∷ 57 ∷ 0 ∷ [])
+row-462 = calls called 1 (0 ∷ 0 ∷ 0 ∷ 0 ∷ 0 ∷ []) (54 ∷ 4 ∷ 55 ∷ 5 ∷ 56 ∷ 4 ∷ 57 ∷ 1 ∷ []) 0x102 ([]) ([])
 
 abbrev row-463 : Bool
-row-463 = gives (printed 13 (0 ∷ 0 ∷ 0 ∷ 0 ∷ 0 ∷ [])) (54 ∷ 6 ∷ 55 ∷ 5 ∷ 56 ∷ 4 ∷ 57 ∷ 1 ∷ []) 0x41 (0 ∷ 5 ∷ []) (56 ∷ 0 ∷ 57 ∷ 0 ∷ [])
+row-463 = calls answered 11 (2 ∷ 5 ∷ 2 ∷ 0 ∷ 0 ∷ []) (54 ∷ 4 ∷ 55 ∷ 5 ∷ 56 ∷ 4 ∷ 57 ∷ 1 ∷ []) 0x0 ([]) (10 ∷ 0xffffffffffffffff ∷ 11 ∷ 0 ∷ 32 ∷ 0x258bf258bf258bd3 ∷ 54 ∷ 0 ∷ [])
 
 abbrev row-464 : Bool
-row-464 = calls called 12 (0x123456789abcdef0 ∷ 0 ∷ 0 ∷ 0 ∷ 0 ∷ []) (54 ∷ 6 ∷ 55 ∷ 5 ∷ 56 ∷ 4 ∷ 57 ∷ 1 ∷ []) 0x102 ([]) (56 ∷ 0 ∷ 57 ∷ 0 ∷ [])
+row-464 = calls answered 11 (2 ∷ 5 ∷ 2 ∷ 0 ∷ 0 ∷ []) (54 ∷ 4 ∷ 55 ∷ 5 ∷ 56 ∷ 4 ∷ 57 ∷ 1 ∷ []) 0x0 ([]) (10 ∷ 0xffffffffffffffff ∷ 11 ∷ 0 ∷ 32 ∷ 0x258bf258bf258bd3 ∷ 54 ∷ 0 ∷ [])
 
 abbrev row-465 : Bool
-row-465 = calls started 10 (0xa ∷ 0 ∷ 0 ∷ 0 ∷ 0 ∷ []) (54 ∷ 6 ∷ 55 ∷ 5 ∷ 56 ∷ 4 ∷ 57 ∷ 1 ∷ []) 0x102 ([]) (56 ∷ 0 ∷ 57 ∷ 0 ∷ [])
+row-465 = calls answered 11 (3 ∷ 5 ∷ 2 ∷ 0 ∷ 0 ∷ []) (54 ∷ 4 ∷ 55 ∷ 5 ∷ 56 ∷ 4 ∷ 57 ∷ 1 ∷ []) 0x107 ([]) ([])
 
 abbrev row-466 : Bool
-row-466 = calls called 1 (0 ∷ 0 ∷ 0 ∷ 0 ∷ 0 ∷ []) (54 ∷ 6 ∷ 55 ∷ 5 ∷ 56 ∷ 4 ∷ 57 ∷ 1 ∷ []) 0x102 ([]) (56 ∷ 0 ∷ 57 ∷ 0 ∷ [])
+row-466 = calls answered 11 (0xa ∷ 5 ∷ 2 ∷ 0 ∷ 0 ∷ []) (54 ∷ 4 ∷ 55 ∷ 5 ∷ 56 ∷ 4 ∷ 57 ∷ 1 ∷ []) 0x107 ([]) ([])
 
 abbrev row-467 : Bool
-row-467 = calls answered 11 (4 ∷ 5 ∷ 2 ∷ 0 ∷ 0 ∷ []) (54 ∷ 6 ∷ 55 ∷ 5 ∷ 56 ∷ 4 ∷ 57 ∷ 1 ∷ []) 0x0 ([]) (10 ∷ 5 ∷ 11 ∷ 2 ∷ 32 ∷ 0x258bf258bf258bd3 ∷ 54 ∷ 0 ∷ 55 ∷ 0 ∷ 56 ∷ 0 ∷ 57 ∷ 0 ∷ [])
+row-467 = calls answered 11 (0xffffffffffffffff ∷ 5 ∷ 2 ∷ 0 ∷ 0 ∷ []) (54 ∷ 4 ∷ 55 ∷ 5 ∷ 56 ∷ 4 ∷ 57 ∷ 1 ∷ []) 0x107 ([]) ([])
 
 abbrev row-468 : Bool
-row-468 = calls answered 11 (4 ∷ 5 ∷ 2 ∷ 0 ∷ 0 ∷ []) (54 ∷ 6 ∷ 55 ∷ 5 ∷ 56 ∷ 4 ∷ 57 ∷ 1 ∷ []) 0x0 ([]) (10 ∷ 5 ∷ 11 ∷ 2 ∷ 32 ∷ 0x258bf258bf258bd3 ∷ 54 ∷ 0 ∷ 55 ∷ 0 ∷ 56 ∷ 0 ∷ 57 ∷ 0 ∷ [])
+row-468 = calls answered 11 (0 ∷ 5 ∷ 2 ∷ 0 ∷ 0 ∷ []) (54 ∷ 4 ∷ 55 ∷ 5 ∷ 56 ∷ 4 ∷ 57 ∷ 1 ∷ []) 0x107 ([]) ([])
 
 abbrev row-469 : Bool
-row-469 = calls answered 11 (5 ∷ 5 ∷ 2 ∷ 0 ∷ 0 ∷ []) (54 ∷ 6 ∷ 55 ∷ 5 ∷ 56 ∷ 4 ∷ 57 ∷ 1 ∷ []) 0x107 ([]) (56 ∷ 0 ∷ 57 ∷ 0 ∷ [])
+row-469 = calls printed 13 (5 ∷ 0 ∷ 0 ∷ 0 ∷ 0 ∷ []) (54 ∷ 5 ∷ 55 ∷ 5 ∷ 56 ∷ 4 ∷ 57 ∷ 1 ∷ []) 0x41 ([]) ([])
 
 abbrev row-470 : Bool
-row-470 = calls answered 11 (0xa ∷ 5 ∷ 2 ∷ 0 ∷ 0 ∷ []) (54 ∷ 6 ∷ 55 ∷ 5 ∷ 56 ∷ 4 ∷ 57 ∷ 1 ∷ []) 0x101 ([]) (56 ∷ 0 ∷ 57 ∷ 0 ∷ [])
+row-470 = calls called 12 (0x123456789abcdef0 ∷ 0 ∷ 0 ∷ 0 ∷ 0 ∷ []) (54 ∷ 5 ∷ 55 ∷ 5 ∷ 56 ∷ 4 ∷ 57 ∷ 1 ∷ []) 0x102 ([]) ([])
 
 abbrev row-471 : Bool
-row-471 = gives (printed 13 (0 ∷ 0 ∷ 0 ∷ 0 ∷ 0 ∷ [])) (54 ∷ 7 ∷ 55 ∷ 5 ∷ 56 ∷ 4 ∷ 57 ∷ 1 ∷ []) 0x41 ([]) (57 ∷ 0 ∷ [])
+row-471 = calls started 10 (0xa ∷ 0 ∷ 0 ∷ 0 ∷ 0 ∷ []) (54 ∷ 5 ∷ 55 ∷ 5 ∷ 56 ∷ 4 ∷ 57 ∷ 1 ∷ []) 0x102 ([]) ([])
 
 abbrev row-472 : Bool
-row-472 = calls called 12 (0x123456789abcdef0 ∷ 0 ∷ 0 ∷ 0 ∷ 0 ∷ []) (54 ∷ 7 ∷ 55 ∷ 5 ∷ 56 ∷ 4 ∷ 57 ∷ 1 ∷ []) 0x102 ([]) (57 ∷ 0 ∷ [])
+row-472 = calls called 1 (0 ∷ 0 ∷ 0 ∷ 0 ∷ 0 ∷ []) (54 ∷ 5 ∷ 55 ∷ 5 ∷ 56 ∷ 4 ∷ 57 ∷ 1 ∷ []) 0x102 ([]) ([])
 
 abbrev row-473 : Bool
-row-473 = calls started 10 (0xa ∷ 0 ∷ 0 ∷ 0 ∷ 0 ∷ []) (54 ∷ 7 ∷ 55 ∷ 5 ∷ 56 ∷ 4 ∷ 57 ∷ 1 ∷ []) 0x102 ([]) (57 ∷ 0 ∷ [])
+row-473 = calls answered 11 (3 ∷ 5 ∷ 2 ∷ 0 ∷ 0 ∷ []) (54 ∷ 5 ∷ 55 ∷ 5 ∷ 56 ∷ 4 ∷ 57 ∷ 1 ∷ []) 0x24 (0 ∷ 5 ∷ []) (54 ∷ 6 ∷ [])
 
 abbrev row-474 : Bool
-row-474 = calls called 1 (0 ∷ 0 ∷ 0 ∷ 0 ∷ 0 ∷ []) (54 ∷ 7 ∷ 55 ∷ 5 ∷ 56 ∷ 4 ∷ 57 ∷ 1 ∷ []) 0x102 ([]) (57 ∷ 0 ∷ [])
+row-474 = calls answered 11 (3 ∷ 5 ∷ 2 ∷ 0 ∷ 0 ∷ []) (54 ∷ 5 ∷ 55 ∷ 5 ∷ 56 ∷ 4 ∷ 57 ∷ 1 ∷ []) 0x24 (0 ∷ 5 ∷ []) (54 ∷ 6 ∷ [])
 
 abbrev row-475 : Bool
-row-475 = calls answered 11 (5 ∷ 5 ∷ 2 ∷ 0 ∷ 0 ∷ []) (54 ∷ 7 ∷ 55 ∷ 5 ∷ 56 ∷ 4 ∷ 57 ∷ 1 ∷ []) 0x0 ([]) (10 ∷ 5 ∷ 11 ∷ 2 ∷ 32 ∷ 0x258bf258bf258bd3 ∷ 54 ∷ 0 ∷ 55 ∷ 0 ∷ 56 ∷ 0 ∷ 57 ∷ 0 ∷ [])
+row-475 = calls answered 11 (4 ∷ 5 ∷ 2 ∷ 0 ∷ 0 ∷ []) (54 ∷ 5 ∷ 55 ∷ 5 ∷ 56 ∷ 4 ∷ 57 ∷ 1 ∷ []) 0x107 ([]) ([])
 
 abbrev row-476 : Bool
-row-476 = calls answered 11 (5 ∷ 5 ∷ 2 ∷ 0 ∷ 0 ∷ []) (54 ∷ 7 ∷ 55 ∷ 5 ∷ 56 ∷ 4 ∷ 57 ∷ 1 ∷ []) 0x0 ([]) (10 ∷ 5 ∷ 11 ∷ 2 ∷ 32 ∷ 0x258bf258bf258bd3 ∷ 54 ∷ 0 ∷ 55 ∷ 0 ∷ 56 ∷ 0 ∷ 57 ∷ 0 ∷ [])
+row-476 = calls answered 11 (0xa ∷ 5 ∷ 2 ∷ 0 ∷ 0 ∷ []) (54 ∷ 5 ∷ 55 ∷ 5 ∷ 56 ∷ 4 ∷ 57 ∷ 1 ∷ []) 0x107 ([]) ([])
 
 abbrev row-477 : Bool
-row-477 = calls answered 11 (6 ∷ 5 ∷ 2 ∷ 0 ∷ 0 ∷ []) (54 ∷ 7 ∷ 55 ∷ 5 ∷ 56 ∷ 4 ∷ 57 ∷ 1 ∷ []) 0x107 ([]) (57 ∷ 0 ∷ [])
+row-477 = calls answered 11 (0xffffffffffffffff ∷ 5 ∷ 2 ∷ 0 ∷ 0 ∷ []) (54 ∷ 5 ∷ 55 ∷ 5 ∷ 56 ∷ 4 ∷ 57 ∷ 1 ∷ []) 0x107 ([]) ([])
 
 abbrev row-478 : Bool
-row-478 = calls answered 11 (0xa ∷ 5 ∷ 2 ∷ 0 ∷ 0 ∷ []) (54 ∷ 7 ∷ 55 ∷ 5 ∷ 56 ∷ 4 ∷ 57 ∷ 1 ∷ []) 0x101 ([]) (57 ∷ 0 ∷ [])
+row-478 = calls answered 11 (0 ∷ 5 ∷ 2 ∷ 0 ∷ 0 ∷ []) (54 ∷ 5 ∷ 55 ∷ 5 ∷ 56 ∷ 4 ∷ 57 ∷ 1 ∷ []) 0x107 ([]) ([])
 
 abbrev row-479 : Bool
-row-479 = gives (printed 13 (0 ∷ 0 ∷ 0 ∷ 0 ∷ 0 ∷ [])) (54 ∷ 8 ∷ 55 ∷ 5 ∷ 56 ∷ 4 ∷ 57 ∷ 1 ∷ []) 0x41 ([]) (56 ∷ 0 ∷ 57 ∷ 0 ∷ [])
+row-479 = calls printed 13 (0 ∷ 0 ∷ 0 ∷ 0 ∷ 0 ∷ []) (54 ∷ 6 ∷ 55 ∷ 5 ∷ 56 ∷ 4 ∷ 57 ∷ 1 ∷ []) 0x41 ([]) ([])
 
 abbrev row-480 : Bool
-row-480 = calls called 12 (0x123456789abcdef0 ∷ 0 ∷ 0 ∷ 0 ∷ 0 ∷ []) (54 ∷ 8 ∷ 55 ∷ 5 ∷ 56 ∷ 4 ∷ 57 ∷ 1 ∷ []) 0x102 ([]) (56 ∷ 0 ∷ 57 ∷ 0 ∷ [])
+row-480 = calls printed 13 (4 ∷ 0 ∷ 0 ∷ 0 ∷ 0 ∷ []) (54 ∷ 6 ∷ 55 ∷ 5 ∷ 56 ∷ 4 ∷ 57 ∷ 1 ∷ []) 0x41 ([]) ([])
 
 abbrev row-481 : Bool
-row-481 = calls started 10 (0xa ∷ 0 ∷ 0 ∷ 0 ∷ 0 ∷ []) (54 ∷ 8 ∷ 55 ∷ 5 ∷ 56 ∷ 4 ∷ 57 ∷ 1 ∷ []) 0x102 ([]) (56 ∷ 0 ∷ 57 ∷ 0 ∷ [])
+row-481 = calls printed 13 (5 ∷ 0 ∷ 0 ∷ 0 ∷ 0 ∷ []) (54 ∷ 6 ∷ 55 ∷ 5 ∷ 56 ∷ 4 ∷ 57 ∷ 1 ∷ []) 0x41 (0 ∷ 5 ∷ []) ([])
 
 abbrev row-482 : Bool
-row-482 = calls called 1 (0 ∷ 0 ∷ 0 ∷ 0 ∷ 0 ∷ []) (54 ∷ 8 ∷ 55 ∷ 5 ∷ 56 ∷ 4 ∷ 57 ∷ 1 ∷ []) 0x102 ([]) (56 ∷ 0 ∷ 57 ∷ 0 ∷ [])
+row-482 = calls printed 13 (6 ∷ 0 ∷ 0 ∷ 0 ∷ 0 ∷ []) (54 ∷ 6 ∷ 55 ∷ 5 ∷ 56 ∷ 4 ∷ 57 ∷ 1 ∷ []) 0x41 (0 ∷ 5 ∷ []) ([])
 
 abbrev row-483 : Bool
-row-483 = calls answered 11 (6 ∷ 5 ∷ 2 ∷ 0 ∷ 0 ∷ []) (54 ∷ 8 ∷ 55 ∷ 5 ∷ 56 ∷ 4 ∷ 57 ∷ 1 ∷ []) 0x0 ([]) (10 ∷ 0 ∷ 11 ∷ 5 ∷ 32 ∷ 0x258bf258bf258bd3 ∷ 54 ∷ 0 ∷ 55 ∷ 0 ∷ 56 ∷ 0 ∷ 57 ∷ 0 ∷ [])
+row-483 = calls printed 13 (0xffffffffffffffff ∷ 0 ∷ 0 ∷ 0 ∷ 0 ∷ []) (54 ∷ 6 ∷ 55 ∷ 5 ∷ 56 ∷ 4 ∷ 57 ∷ 1 ∷ []) 0x41 (0 ∷ 5 ∷ []) ([])
 
 abbrev row-484 : Bool
-row-484 = calls answered 11 (6 ∷ 5 ∷ 2 ∷ 0 ∷ 0 ∷ []) (54 ∷ 8 ∷ 55 ∷ 5 ∷ 56 ∷ 4 ∷ 57 ∷ 1 ∷ []) 0x0 ([]) (10 ∷ 0 ∷ 11 ∷ 5 ∷ 32 ∷ 0x258bf258bf258bd3 ∷ 54 ∷ 0 ∷ 55 ∷ 0 ∷ 56 ∷ 0 ∷ 57 ∷ 0 ∷ [])
+row-484 = calls called 12 (0x123456789abcdef0 ∷ 0 ∷ 0 ∷ 0 ∷ 0 ∷ []) (54 ∷ 6 ∷ 55 ∷ 5 ∷ 56 ∷ 4 ∷ 57 ∷ 1 ∷ []) 0x102 ([]) ([])
 
 abbrev row-485 : Bool
-row-485 = calls answered 11 (7 ∷ 5 ∷ 2 ∷ 0 ∷ 0 ∷ []) (54 ∷ 8 ∷ 55 ∷ 5 ∷ 56 ∷ 4 ∷ 57 ∷ 1 ∷ []) 0x107 ([]) (56 ∷ 0 ∷ 57 ∷ 0 ∷ [])
+row-485 = calls started 10 (0xa ∷ 0 ∷ 0 ∷ 0 ∷ 0 ∷ []) (54 ∷ 6 ∷ 55 ∷ 5 ∷ 56 ∷ 4 ∷ 57 ∷ 1 ∷ []) 0x102 ([]) ([])
 
 abbrev row-486 : Bool
-row-486 = calls answered 11 (0xa ∷ 5 ∷ 2 ∷ 0 ∷ 0 ∷ []) (54 ∷ 8 ∷ 55 ∷ 5 ∷ 56 ∷ 4 ∷ 57 ∷ 1 ∷ []) 0x101 ([]) (56 ∷ 0 ∷ 57 ∷ 0 ∷ [])
+row-486 = calls called 1 (0 ∷ 0 ∷ 0 ∷ 0 ∷ 0 ∷ []) (54 ∷ 6 ∷ 55 ∷ 5 ∷ 56 ∷ 4 ∷ 57 ∷ 1 ∷ []) 0x102 ([]) ([])
 
 abbrev row-487 : Bool
-row-487 = gives (printed 13 (0 ∷ 0 ∷ 0 ∷ 0 ∷ 0 ∷ [])) (54 ∷ 9 ∷ 55 ∷ 5 ∷ 56 ∷ 4 ∷ 57 ∷ 1 ∷ []) 0x41 ([]) (55 ∷ 0 ∷ 56 ∷ 0 ∷ 57 ∷ 0 ∷ [])
+row-487 = calls answered 11 (4 ∷ 5 ∷ 2 ∷ 0 ∷ 0 ∷ []) (54 ∷ 6 ∷ 55 ∷ 5 ∷ 56 ∷ 4 ∷ 57 ∷ 1 ∷ []) 0x0 ([]) (10 ∷ 5 ∷ 11 ∷ 2 ∷ 32 ∷ 0x258bf258bf258bd3 ∷ 54 ∷ 0 ∷ [])
 
 abbrev row-488 : Bool
-row-488 = calls called 12 (0x123456789abcdef0 ∷ 0 ∷ 0 ∷ 0 ∷ 0 ∷ []) (54 ∷ 9 ∷ 55 ∷ 5 ∷ 56 ∷ 4 ∷ 57 ∷ 1 ∷ []) 0x102 ([]) (55 ∷ 0 ∷ 56 ∷ 0 ∷ 57 ∷ 0 ∷ [])
+row-488 = calls answered 11 (4 ∷ 5 ∷ 2 ∷ 0 ∷ 0 ∷ []) (54 ∷ 6 ∷ 55 ∷ 5 ∷ 56 ∷ 4 ∷ 57 ∷ 1 ∷ []) 0x0 ([]) (10 ∷ 5 ∷ 11 ∷ 2 ∷ 32 ∷ 0x258bf258bf258bd3 ∷ 54 ∷ 0 ∷ [])
 
 abbrev row-489 : Bool
-row-489 = calls started 10 (0xa ∷ 0 ∷ 0 ∷ 0 ∷ 0 ∷ []) (54 ∷ 9 ∷ 55 ∷ 5 ∷ 56 ∷ 4 ∷ 57 ∷ 1 ∷ []) 0x102 ([]) (55 ∷ 0 ∷ 56 ∷ 0 ∷ 57 ∷ 0 ∷ [])
+row-489 = calls answered 11 (5 ∷ 5 ∷ 2 ∷ 0 ∷ 0 ∷ []) (54 ∷ 6 ∷ 55 ∷ 5 ∷ 56 ∷ 4 ∷ 57 ∷ 1 ∷ []) 0x107 ([]) ([])
 
 abbrev row-490 : Bool
-row-490 = calls called 1 (0 ∷ 0 ∷ 0 ∷ 0 ∷ 0 ∷ []) (54 ∷ 9 ∷ 55 ∷ 5 ∷ 56 ∷ 4 ∷ 57 ∷ 1 ∷ []) 0x102 ([]) (55 ∷ 0 ∷ 56 ∷ 0 ∷ 57 ∷ 0 ∷ [])
+row-490 = calls answered 11 (0xa ∷ 5 ∷ 2 ∷ 0 ∷ 0 ∷ []) (54 ∷ 6 ∷ 55 ∷ 5 ∷ 56 ∷ 4 ∷ 57 ∷ 1 ∷ []) 0x107 ([]) ([])
 
 abbrev row-491 : Bool
-row-491 = calls answered 11 (7 ∷ 5 ∷ 2 ∷ 0 ∷ 0 ∷ []) (54 ∷ 9 ∷ 55 ∷ 5 ∷ 56 ∷ 4 ∷ 57 ∷ 1 ∷ []) 0x0 ([]) (32 ∷ 0x258bf258bf258bd3 ∷ 54 ∷ 0 ∷ 55 ∷ 0 ∷ 56 ∷ 0 ∷ 57 ∷ 0 ∷ [])
+row-491 = calls answered 11 (0xffffffffffffffff ∷ 5 ∷ 2 ∷ 0 ∷ 0 ∷ []) (54 ∷ 6 ∷ 55 ∷ 5 ∷ 56 ∷ 4 ∷ 57 ∷ 1 ∷ []) 0x107 ([]) ([])
 
 abbrev row-492 : Bool
-row-492 = calls answered 11 (7 ∷ 5 ∷ 2 ∷ 0 ∷ 0 ∷ []) (54 ∷ 9 ∷ 55 ∷ 5 ∷ 56 ∷ 4 ∷ 57 ∷ 1 ∷ []) 0x0 ([]) (32 ∷ 0x258bf258bf258bd3 ∷ 54 ∷ 0 ∷ 55 ∷ 0 ∷ 56 ∷ 0 ∷ 57 ∷ 0 ∷ [])
+row-492 = calls answered 11 (0 ∷ 5 ∷ 2 ∷ 0 ∷ 0 ∷ []) (54 ∷ 6 ∷ 55 ∷ 5 ∷ 56 ∷ 4 ∷ 57 ∷ 1 ∷ []) 0x107 ([]) ([])
 
 abbrev row-493 : Bool
-row-493 = calls answered 11 (8 ∷ 5 ∷ 2 ∷ 0 ∷ 0 ∷ []) (54 ∷ 9 ∷ 55 ∷ 5 ∷ 56 ∷ 4 ∷ 57 ∷ 1 ∷ []) 0x107 ([]) (55 ∷ 0 ∷ 56 ∷ 0 ∷ 57 ∷ 0 ∷ [])
+row-493 = calls printed 13 (5 ∷ 0 ∷ 0 ∷ 0 ∷ 0 ∷ []) (54 ∷ 7 ∷ 55 ∷ 5 ∷ 56 ∷ 4 ∷ 57 ∷ 1 ∷ []) 0x41 ([]) ([])
 
 abbrev row-494 : Bool
-row-494 = calls answered 11 (0xa ∷ 5 ∷ 2 ∷ 0 ∷ 0 ∷ []) (54 ∷ 9 ∷ 55 ∷ 5 ∷ 56 ∷ 4 ∷ 57 ∷ 1 ∷ []) 0x101 ([]) (55 ∷ 0 ∷ 56 ∷ 0 ∷ 57 ∷ 0 ∷ [])
+row-494 = calls called 12 (0x123456789abcdef0 ∷ 0 ∷ 0 ∷ 0 ∷ 0 ∷ []) (54 ∷ 7 ∷ 55 ∷ 5 ∷ 56 ∷ 4 ∷ 57 ∷ 1 ∷ []) 0x102 ([]) ([])
 
 abbrev row-495 : Bool
-row-495 = gives (printed 13 (0 ∷ 0 ∷ 0 ∷ 0 ∷ 0 ∷ [])) (54 ∷ 0xa ∷ 55 ∷ 5 ∷ 56 ∷ 4 ∷ 57 ∷ 1 ∷ []) 0x41 ([]) (55 ∷ 0 ∷ 56 ∷ 0 ∷ 57 ∷ 0 ∷ [])
+row-495 = calls started 10 (0xa ∷ 0 ∷ 0 ∷ 0 ∷ 0 ∷ []) (54 ∷ 7 ∷ 55 ∷ 5 ∷ 56 ∷ 4 ∷ 57 ∷ 1 ∷ []) 0x102 ([]) ([])
 
 abbrev row-496 : Bool
-row-496 = calls called 12 (0x123456789abcdef0 ∷ 0 ∷ 0 ∷ 0 ∷ 0 ∷ []) (54 ∷ 0xa ∷ 55 ∷ 5 ∷ 56 ∷ 4 ∷ 57 ∷ 1 ∷ []) 0x102 ([]) (55 ∷ 0 ∷ 56 ∷ 0 ∷ 57 ∷ 0 ∷ [])
+row-496 = calls called 1 (0 ∷ 0 ∷ 0 ∷ 0 ∷ 0 ∷ []) (54 ∷ 7 ∷ 55 ∷ 5 ∷ 56 ∷ 4 ∷ 57 ∷ 1 ∷ []) 0x102 ([]) ([])
 
 abbrev row-497 : Bool
-row-497 = calls started 10 (0xa ∷ 0 ∷ 0 ∷ 0 ∷ 0 ∷ []) (54 ∷ 0xa ∷ 55 ∷ 5 ∷ 56 ∷ 4 ∷ 57 ∷ 1 ∷ []) 0x102 ([]) (55 ∷ 0 ∷ 56 ∷ 0 ∷ 57 ∷ 0 ∷ [])
+row-497 = calls answered 11 (5 ∷ 5 ∷ 2 ∷ 0 ∷ 0 ∷ []) (54 ∷ 7 ∷ 55 ∷ 5 ∷ 56 ∷ 4 ∷ 57 ∷ 1 ∷ []) 0x0 ([]) (10 ∷ 5 ∷ 11 ∷ 2 ∷ 32 ∷ 0x258bf258bf258bd3 ∷ 54 ∷ 0 ∷ [])
 
 abbrev row-498 : Bool
-row-498 = calls called 1 (0 ∷ 0 ∷ 0 ∷ 0 ∷ 0 ∷ []) (54 ∷ 0xa ∷ 55 ∷ 5 ∷ 56 ∷ 4 ∷ 57 ∷ 1 ∷ []) 0x102 ([]) (55 ∷ 0 ∷ 56 ∷ 0 ∷ 57 ∷ 0 ∷ [])
+row-498 = calls answered 11 (5 ∷ 5 ∷ 2 ∷ 0 ∷ 0 ∷ []) (54 ∷ 7 ∷ 55 ∷ 5 ∷ 56 ∷ 4 ∷ 57 ∷ 1 ∷ []) 0x0 ([]) (10 ∷ 5 ∷ 11 ∷ 2 ∷ 32 ∷ 0x258bf258bf258bd3 ∷ 54 ∷ 0 ∷ [])
 
 abbrev row-499 : Bool
-row-499 = calls answered 11 (7 ∷ 5 ∷ 2 ∷ 0 ∷ 0 ∷ []) (54 ∷ 0xa ∷ 55 ∷ 5 ∷ 56 ∷ 4 ∷ 57 ∷ 1 ∷ []) 0x0 ([]) (10 ∷ 0 ∷ 11 ∷ 0 ∷ 32 ∷ 0x258bf258bf258bd3 ∷ 54 ∷ 0 ∷ 55 ∷ 0 ∷ 56 ∷ 0 ∷ 57 ∷ 0 ∷ [])
+row-499 = calls answered 11 (6 ∷ 5 ∷ 2 ∷ 0 ∷ 0 ∷ []) (54 ∷ 7 ∷ 55 ∷ 5 ∷ 56 ∷ 4 ∷ 57 ∷ 1 ∷ []) 0x107 ([]) ([])
 
 abbrev row-500 : Bool
-row-500 = calls answered 11 (7 ∷ 5 ∷ 2 ∷ 0 ∷ 0 ∷ []) (54 ∷ 0xa ∷ 55 ∷ 5 ∷ 56 ∷ 4 ∷ 57 ∷ 1 ∷ []) 0x0 ([]) (10 ∷ 0 ∷ 11 ∷ 0 ∷ 32 ∷ 0x258bf258bf258bd3 ∷ 54 ∷ 0 ∷ 55 ∷ 0 ∷ 56 ∷ 0 ∷ 57 ∷ 0 ∷ [])
+row-500 = calls answered 11 (0xa ∷ 5 ∷ 2 ∷ 0 ∷ 0 ∷ []) (54 ∷ 7 ∷ 55 ∷ 5 ∷ 56 ∷ 4 ∷ 57 ∷ 1 ∷ []) 0x107 ([]) ([])
 
 abbrev row-501 : Bool
-row-501 = calls answered 11 (8 ∷ 5 ∷ 2 ∷ 0 ∷ 0 ∷ []) (54 ∷ 0xa ∷ 55 ∷ 5 ∷ 56 ∷ 4 ∷ 57 ∷ 1 ∷ []) 0x107 ([]) (55 ∷ 0 ∷ 56 ∷ 0 ∷ 57 ∷ 0 ∷ [])
+row-501 = calls answered 11 (0xffffffffffffffff ∷ 5 ∷ 2 ∷ 0 ∷ 0 ∷ []) (54 ∷ 7 ∷ 55 ∷ 5 ∷ 56 ∷ 4 ∷ 57 ∷ 1 ∷ []) 0x107 ([]) ([])
 
 abbrev row-502 : Bool
-row-502 = calls answered 11 (0xa ∷ 5 ∷ 2 ∷ 0 ∷ 0 ∷ []) (54 ∷ 0xa ∷ 55 ∷ 5 ∷ 56 ∷ 4 ∷ 57 ∷ 1 ∷ []) 0x101 ([]) (55 ∷ 0 ∷ 56 ∷ 0 ∷ 57 ∷ 0 ∷ [])
+row-502 = calls answered 11 (0 ∷ 5 ∷ 2 ∷ 0 ∷ 0 ∷ []) (54 ∷ 7 ∷ 55 ∷ 5 ∷ 56 ∷ 4 ∷ 57 ∷ 1 ∷ []) 0x107 ([]) ([])
 
 abbrev row-503 : Bool
-row-503 = gives (printed 13 (0 ∷ 0 ∷ 0 ∷ 0 ∷ 0 ∷ [])) (54 ∷ 0xb ∷ 55 ∷ 5 ∷ 56 ∷ 4 ∷ 57 ∷ 1 ∷ []) 0x41 ([]) (55 ∷ 0 ∷ 56 ∷ 0 ∷ 57 ∷ 0 ∷ [])
+row-503 = calls printed 13 (5 ∷ 0 ∷ 0 ∷ 0 ∷ 0 ∷ []) (54 ∷ 8 ∷ 55 ∷ 5 ∷ 56 ∷ 4 ∷ 57 ∷ 1 ∷ []) 0x41 ([]) ([])
 
 abbrev row-504 : Bool
-row-504 = calls called 12 (0x123456789abcdef0 ∷ 0 ∷ 0 ∷ 0 ∷ 0 ∷ []) (54 ∷ 0xb ∷ 55 ∷ 5 ∷ 56 ∷ 4 ∷ 57 ∷ 1 ∷ []) 0x102 ([]) (55 ∷ 0 ∷ 56 ∷ 0 ∷ 57 ∷ 0 ∷ [])
+row-504 = calls called 12 (0x123456789abcdef0 ∷ 0 ∷ 0 ∷ 0 ∷ 0 ∷ []) (54 ∷ 8 ∷ 55 ∷ 5 ∷ 56 ∷ 4 ∷ 57 ∷ 1 ∷ []) 0x102 ([]) ([])
 
 abbrev row-505 : Bool
-row-505 = calls started 10 (0xa ∷ 0 ∷ 0 ∷ 0 ∷ 0 ∷ []) (54 ∷ 0xb ∷ 55 ∷ 5 ∷ 56 ∷ 4 ∷ 57 ∷ 1 ∷ []) 0x102 ([]) (55 ∷ 0 ∷ 56 ∷ 0 ∷ 57 ∷ 0 ∷ [])
+row-505 = calls started 10 (0xa ∷ 0 ∷ 0 ∷ 0 ∷ 0 ∷ []) (54 ∷ 8 ∷ 55 ∷ 5 ∷ 56 ∷ 4 ∷ 57 ∷ 1 ∷ []) 0x102 ([]) ([])
 
 abbrev row-506 : Bool
-row-506 = calls called 1 (0 ∷ 0 ∷ 0 ∷ 0 ∷ 0 ∷ []) (54 ∷ 0xb ∷ 55 ∷ 5 ∷ 56 ∷ 4 ∷ 57 ∷ 1 ∷ []) 0x102 ([]) (55 ∷ 0 ∷ 56 ∷ 0 ∷ 57 ∷ 0 ∷ [])
+row-506 = calls called 1 (0 ∷ 0 ∷ 0 ∷ 0 ∷ 0 ∷ []) (54 ∷ 8 ∷ 55 ∷ 5 ∷ 56 ∷ 4 ∷ 57 ∷ 1 ∷ []) 0x102 ([]) ([])
 
 abbrev row-507 : Bool
-row-507 = calls answered 11 (8 ∷ 5 ∷ 2 ∷ 0 ∷ 0 ∷ []) (54 ∷ 0xb ∷ 55 ∷ 5 ∷ 56 ∷ 4 ∷ 57 ∷ 1 ∷ []) 0x0 ([]) (10 ∷ 5 ∷ 32 ∷ 0x258bf258bf258bd3 ∷ 54 ∷ 0 ∷ 55 ∷ 0 ∷ 56 ∷ 0 ∷ 57 ∷ 0 ∷ [])
+row-507 = calls answered 11 (6 ∷ 5 ∷ 2 ∷ 0 ∷ 0 ∷ []) (54 ∷ 8 ∷ 55 ∷ 5 ∷ 56 ∷ 4 ∷ 57 ∷ 1 ∷ []) 0x0 ([]) (10 ∷ 0 ∷ 11 ∷ 5 ∷ 32 ∷ 0x258bf258bf258bd3 ∷ 54 ∷ 0 ∷ [])
 
 abbrev row-508 : Bool
-row-508 = calls answered 11 (8 ∷ 5 ∷ 2 ∷ 0 ∷ 0 ∷ []) (54 ∷ 0xb ∷ 55 ∷ 5 ∷ 56 ∷ 4 ∷ 57 ∷ 1 ∷ []) 0x0 ([]) (10 ∷ 5 ∷ 32 ∷ 0x258bf258bf258bd3 ∷ 54 ∷ 0 ∷ 55 ∷ 0 ∷ 56 ∷ 0 ∷ 57 ∷ 0 ∷ [])
+row-508 = calls answered 11 (6 ∷ 5 ∷ 2 ∷ 0 ∷ 0 ∷ []) (54 ∷ 8 ∷ 55 ∷ 5 ∷ 56 ∷ 4 ∷ 57 ∷ 1 ∷ []) 0x0 ([]) (10 ∷ 0 ∷ 11 ∷ 5 ∷ 32 ∷ 0x258bf258bf258bd3 ∷ 54 ∷ 0 ∷ [])
 
 abbrev row-509 : Bool
-row-509 = calls answered 11 (9 ∷ 5 ∷ 2 ∷ 0 ∷ 0 ∷ []) (54 ∷ 0xb ∷ 55 ∷ 5 ∷ 56 ∷ 4 ∷ 57 ∷ 1 ∷ []) 0x107 ([]) (55 ∷ 0 ∷ 56 ∷ 0 ∷ 57 ∷ 0 ∷ [])
+row-509 = calls answered 11 (7 ∷ 5 ∷ 2 ∷ 0 ∷ 0 ∷ []) (54 ∷ 8 ∷ 55 ∷ 5 ∷ 56 ∷ 4 ∷ 57 ∷ 1 ∷ []) 0x107 ([]) ([])
 
 abbrev row-510 : Bool
-row-510 = calls answered 11 (0xa ∷ 5 ∷ 2 ∷ 0 ∷ 0 ∷ []) (54 ∷ 0xb ∷ 55 ∷ 5 ∷ 56 ∷ 4 ∷ 57 ∷ 1 ∷ []) 0x101 ([]) (55 ∷ 0 ∷ 56 ∷ 0 ∷ 57 ∷ 0 ∷ [])
+row-510 = calls answered 11 (0xa ∷ 5 ∷ 2 ∷ 0 ∷ 0 ∷ []) (54 ∷ 8 ∷ 55 ∷ 5 ∷ 56 ∷ 4 ∷ 57 ∷ 1 ∷ []) 0x107 ([]) ([])
 
 abbrev row-511 : Bool
-row-511 = gives (printed 13 (0 ∷ 0 ∷ 0 ∷ 0 ∷ 0 ∷ [])) (54 ∷ 0xc ∷ 55 ∷ 5 ∷ 56 ∷ 4 ∷ 57 ∷ 1 ∷ []) 0x41 ([]) (55 ∷ 0 ∷ 56 ∷ 0 ∷ 57 ∷ 0 ∷ [])
+row-511 = calls answered 11 (0xffffffffffffffff ∷ 5 ∷ 2 ∷ 0 ∷ 0 ∷ []) (54 ∷ 8 ∷ 55 ∷ 5 ∷ 56 ∷ 4 ∷ 57 ∷ 1 ∷ []) 0x107 ([]) ([])
 
 abbrev row-512 : Bool
-row-512 = calls called 12 (0x123456789abcdef0 ∷ 0 ∷ 0 ∷ 0 ∷ 0 ∷ []) (54 ∷ 0xc ∷ 55 ∷ 5 ∷ 56 ∷ 4 ∷ 57 ∷ 1 ∷ []) 0x102 ([]) (55 ∷ 0 ∷ 56 ∷ 0 ∷ 57 ∷ 0 ∷ [])
+row-512 = calls answered 11 (0 ∷ 5 ∷ 2 ∷ 0 ∷ 0 ∷ []) (54 ∷ 8 ∷ 55 ∷ 5 ∷ 56 ∷ 4 ∷ 57 ∷ 1 ∷ []) 0x107 ([]) ([])
 
 abbrev row-513 : Bool
-row-513 = calls started 10 (0xa ∷ 0 ∷ 0 ∷ 0 ∷ 0 ∷ []) (54 ∷ 0xc ∷ 55 ∷ 5 ∷ 56 ∷ 4 ∷ 57 ∷ 1 ∷ []) 0x102 ([]) (55 ∷ 0 ∷ 56 ∷ 0 ∷ 57 ∷ 0 ∷ [])
+row-513 = calls printed 13 (5 ∷ 0 ∷ 0 ∷ 0 ∷ 0 ∷ []) (54 ∷ 9 ∷ 55 ∷ 5 ∷ 56 ∷ 4 ∷ 57 ∷ 1 ∷ []) 0x41 ([]) ([])
 
 abbrev row-514 : Bool
-row-514 = calls called 1 (0 ∷ 0 ∷ 0 ∷ 0 ∷ 0 ∷ []) (54 ∷ 0xc ∷ 55 ∷ 5 ∷ 56 ∷ 4 ∷ 57 ∷ 1 ∷ []) 0x102 ([]) (55 ∷ 0 ∷ 56 ∷ 0 ∷ 57 ∷ 0 ∷ [])
+row-514 = calls called 12 (0x123456789abcdef0 ∷ 0 ∷ 0 ∷ 0 ∷ 0 ∷ []) (54 ∷ 9 ∷ 55 ∷ 5 ∷ 56 ∷ 4 ∷ 57 ∷ 1 ∷ []) 0x102 ([]) ([])
 
 abbrev row-515 : Bool
-row-515 = calls answered 11 (9 ∷ 5 ∷ 2 ∷ 0 ∷ 0 ∷ []) (54 ∷ 0xc ∷ 55 ∷ 5 ∷ 56 ∷ 4 ∷ 57 ∷ 1 ∷ []) 0x0 ([]) (10 ∷ 5 ∷ 11 ∷ 2 ∷ 32 ∷ 0x258bf258bf258bd3 ∷ 54 ∷ 0 ∷ 55 ∷ 0 ∷ 56 ∷ 0 ∷ 57 ∷ 0 ∷ [])
+row-515 = calls started 10 (0xa ∷ 0 ∷ 0 ∷ 0 ∷ 0 ∷ []) (54 ∷ 9 ∷ 55 ∷ 5 ∷ 56 ∷ 4 ∷ 57 ∷ 1 ∷ []) 0x102 ([]) ([])
 
 abbrev row-516 : Bool
-row-516 = calls answered 11 (9 ∷ 5 ∷ 2 ∷ 0 ∷ 0 ∷ []) (54 ∷ 0xc ∷ 55 ∷ 5 ∷ 56 ∷ 4 ∷ 57 ∷ 1 ∷ []) 0x0 ([]) (10 ∷ 5 ∷ 11 ∷ 2 ∷ 32 ∷ 0x258bf258bf258bd3 ∷ 54 ∷ 0 ∷ 55 ∷ 0 ∷ 56 ∷ 0 ∷ 57 ∷ 0 ∷ [])
+row-516 = calls called 1 (0 ∷ 0 ∷ 0 ∷ 0 ∷ 0 ∷ []) (54 ∷ 9 ∷ 55 ∷ 5 ∷ 56 ∷ 4 ∷ 57 ∷ 1 ∷ []) 0x102 ([]) ([])
 
 abbrev row-517 : Bool
-row-517 = calls answered 11 (1 ∷ 5 ∷ 2 ∷ 0 ∷ 0 ∷ []) (54 ∷ 0xc ∷ 55 ∷ 5 ∷ 56 ∷ 4 ∷ 57 ∷ 1 ∷ []) 0x107 ([]) (55 ∷ 0 ∷ 56 ∷ 0 ∷ 57 ∷ 0 ∷ [])
+row-517 = calls answered 11 (7 ∷ 5 ∷ 2 ∷ 0 ∷ 0 ∷ []) (54 ∷ 9 ∷ 55 ∷ 5 ∷ 56 ∷ 4 ∷ 57 ∷ 1 ∷ []) 0x0 ([]) (32 ∷ 0x258bf258bf258bd3 ∷ 54 ∷ 0 ∷ [])
 
 abbrev row-518 : Bool
-row-518 = calls answered 11 (0xa ∷ 5 ∷ 2 ∷ 0 ∷ 0 ∷ []) (54 ∷ 0xc ∷ 55 ∷ 5 ∷ 56 ∷ 4 ∷ 57 ∷ 1 ∷ []) 0x101 ([]) (55 ∷ 0 ∷ 56 ∷ 0 ∷ 57 ∷ 0 ∷ [])
+row-518 = calls answered 11 (7 ∷ 5 ∷ 2 ∷ 0 ∷ 0 ∷ []) (54 ∷ 9 ∷ 55 ∷ 5 ∷ 56 ∷ 4 ∷ 57 ∷ 1 ∷ []) 0x0 ([]) (32 ∷ 0x258bf258bf258bd3 ∷ 54 ∷ 0 ∷ [])
 
 abbrev row-519 : Bool
-row-519 = gives (printed 13 (0 ∷ 0 ∷ 0 ∷ 0 ∷ 0 ∷ [])) (54 ∷ 0xd ∷ 55 ∷ 5 ∷ 56 ∷ 4 ∷ 57 ∷ 1 ∷ []) 0x41 ([]) (54 ∷ 0 ∷ 55 ∷ 0 ∷ 56 ∷ 0 ∷ 57 ∷ 0 ∷ [])
+row-519 = calls answered 11 (8 ∷ 5 ∷ 2 ∷ 0 ∷ 0 ∷ []) (54 ∷ 9 ∷ 55 ∷ 5 ∷ 56 ∷ 4 ∷ 57 ∷ 1 ∷ []) 0x107 ([]) ([])
 
 abbrev row-520 : Bool
-row-520 = calls called 12 (0x123456789abcdef0 ∷ 0 ∷ 0 ∷ 0 ∷ 0 ∷ []) (54 ∷ 0xd ∷ 55 ∷ 5 ∷ 56 ∷ 4 ∷ 57 ∷ 1 ∷ []) 0x102 ([]) (54 ∷ 0 ∷ 55 ∷ 0 ∷ 56 ∷ 0 ∷ 57 ∷ 0 ∷ [])
+row-520 = calls answered 11 (0xa ∷ 5 ∷ 2 ∷ 0 ∷ 0 ∷ []) (54 ∷ 9 ∷ 55 ∷ 5 ∷ 56 ∷ 4 ∷ 57 ∷ 1 ∷ []) 0x107 ([]) ([])
 
 abbrev row-521 : Bool
-row-521 = calls started 10 (0xa ∷ 0 ∷ 0 ∷ 0 ∷ 0 ∷ []) (54 ∷ 0xd ∷ 55 ∷ 5 ∷ 56 ∷ 4 ∷ 57 ∷ 1 ∷ []) 0x29 (0 ∷ 0x147ae147ae147ace ∷ 1 ∷ 0x13579be02468acdf ∷ 2 ∷ 0xc83fb72ea61d945 ∷ 3 ∷ 0xda740da740da734 ∷ 4 ∷ 0xeca8641fdb97523 ∷ 5 ∷ 0xfedcba987654312 ∷ 6 ∷ 0x1111111111111101 ∷ 7 ∷ 0x123456789abcdef0 ∷ []) (54 ∷ 0xc ∷ 55 ∷ 0 ∷ 56 ∷ 0 ∷ 57 ∷ 0 ∷ [])
+row-521 = calls answered 11 (0xffffffffffffffff ∷ 5 ∷ 2 ∷ 0 ∷ 0 ∷ []) (54 ∷ 9 ∷ 55 ∷ 5 ∷ 56 ∷ 4 ∷ 57 ∷ 1 ∷ []) 0x107 ([]) ([])
 
 abbrev row-522 : Bool
-row-522 = calls called 1 (0 ∷ 0 ∷ 0 ∷ 0 ∷ 0 ∷ []) (54 ∷ 0xd ∷ 55 ∷ 5 ∷ 56 ∷ 4 ∷ 57 ∷ 1 ∷ []) 0x40 ([]) (33 ∷ 0x2100 ∷ 34 ∷ 0x200000180 ∷ 40 ∷ 0xffffffffffffffff ∷ 41 ∷ 0x444 ∷ 42 ∷ 0 ∷ 43 ∷ 0 ∷ 54 ∷ 0 ∷ 55 ∷ 0 ∷ 56 ∷ 0 ∷ 57 ∷ 0 ∷ [])
+row-522 = calls answered 11 (0 ∷ 5 ∷ 2 ∷ 0 ∷ 0 ∷ []) (54 ∷ 9 ∷ 55 ∷ 5 ∷ 56 ∷ 4 ∷ 57 ∷ 1 ∷ []) 0x107 ([]) ([])
 
 abbrev row-523 : Bool
-row-523 = calls answered 11 (0 ∷ 5 ∷ 2 ∷ 0 ∷ 0 ∷ []) (54 ∷ 0xd ∷ 55 ∷ 5 ∷ 56 ∷ 4 ∷ 57 ∷ 1 ∷ []) 0x101 ([]) (54 ∷ 0 ∷ 55 ∷ 0 ∷ 56 ∷ 0 ∷ 57 ∷ 0 ∷ [])
+row-523 = calls printed 13 (5 ∷ 0 ∷ 0 ∷ 0 ∷ 0 ∷ []) (54 ∷ 0xa ∷ 55 ∷ 5 ∷ 56 ∷ 4 ∷ 57 ∷ 1 ∷ []) 0x41 ([]) ([])
 
 abbrev row-524 : Bool
-row-524 = calls answered 11 (9 ∷ 5 ∷ 2 ∷ 0 ∷ 0 ∷ []) (54 ∷ 0xd ∷ 55 ∷ 5 ∷ 56 ∷ 4 ∷ 57 ∷ 1 ∷ []) 0x107 ([]) (54 ∷ 0 ∷ 55 ∷ 0 ∷ 56 ∷ 0 ∷ 57 ∷ 0 ∷ [])
+row-524 = calls called 12 (0x123456789abcdef0 ∷ 0 ∷ 0 ∷ 0 ∷ 0 ∷ []) (54 ∷ 0xa ∷ 55 ∷ 5 ∷ 56 ∷ 4 ∷ 57 ∷ 1 ∷ []) 0x102 ([]) ([])
 
 abbrev row-525 : Bool
-row-525 = calls answered 11 (1 ∷ 5 ∷ 2 ∷ 0 ∷ 0 ∷ []) (54 ∷ 0xd ∷ 55 ∷ 5 ∷ 56 ∷ 4 ∷ 57 ∷ 1 ∷ []) 0x107 ([]) (54 ∷ 0 ∷ 55 ∷ 0 ∷ 56 ∷ 0 ∷ 57 ∷ 0 ∷ [])
+row-525 = calls started 10 (0xa ∷ 0 ∷ 0 ∷ 0 ∷ 0 ∷ []) (54 ∷ 0xa ∷ 55 ∷ 5 ∷ 56 ∷ 4 ∷ 57 ∷ 1 ∷ []) 0x102 ([]) ([])
 
 abbrev row-526 : Bool
-row-526 = calls answered 11 (0xa ∷ 5 ∷ 2 ∷ 0 ∷ 0 ∷ []) (54 ∷ 0xd ∷ 55 ∷ 5 ∷ 56 ∷ 4 ∷ 57 ∷ 1 ∷ []) 0x101 ([]) (54 ∷ 0 ∷ 55 ∷ 0 ∷ 56 ∷ 0 ∷ 57 ∷ 0 ∷ [])
+row-526 = calls called 1 (0 ∷ 0 ∷ 0 ∷ 0 ∷ 0 ∷ []) (54 ∷ 0xa ∷ 55 ∷ 5 ∷ 56 ∷ 4 ∷ 57 ∷ 1 ∷ []) 0x102 ([]) ([])
 
 abbrev row-527 : Bool
-row-527 = calls answered 11 (1 ∷ 0x100001001 ∷ 0 ∷ 0 ∷ 0 ∷ []) (54 ∷ 2 ∷ []) 0x103 ([]) (46 ∷ 0x3579be02468acee2 ∷ 54 ∷ 0 ∷ [])
+row-527 = calls answered 11 (7 ∷ 5 ∷ 2 ∷ 0 ∷ 0 ∷ []) (54 ∷ 0xa ∷ 55 ∷ 5 ∷ 56 ∷ 4 ∷ 57 ∷ 1 ∷ []) 0x0 ([]) (10 ∷ 0 ∷ 11 ∷ 0 ∷ 32 ∷ 0x258bf258bf258bd3 ∷ 54 ∷ 0 ∷ [])
 
 abbrev row-528 : Bool
-row-528 = calls answered 11 (1 ∷ 0x100001001 ∷ 0 ∷ 0 ∷ 0 ∷ []) (54 ∷ 3 ∷ 55 ∷ 0x10000003 ∷ 56 ∷ 1 ∷ []) 0x8 (0 ∷ 0x10000003 ∷ 1 ∷ 1 ∷ []) (54 ∷ 0 ∷ 55 ∷ 0 ∷ 56 ∷ 0 ∷ [])
+row-528 = calls answered 11 (7 ∷ 5 ∷ 2 ∷ 0 ∷ 0 ∷ []) (54 ∷ 0xa ∷ 55 ∷ 5 ∷ 56 ∷ 4 ∷ 57 ∷ 1 ∷ []) 0x0 ([]) (10 ∷ 0 ∷ 11 ∷ 0 ∷ 32 ∷ 0x258bf258bf258bd3 ∷ 54 ∷ 0 ∷ [])
 
 abbrev row-529 : Bool
-row-529 = calls answered 11 (1 ∷ 0x100001001 ∷ 1 ∷ 0 ∷ 0 ∷ []) (54 ∷ 2 ∷ []) 0x0 ([]) (32 ∷ 0x2a1907f6e5d4c388 ∷ 37 ∷ 0x258bf258bf258bcf ∷ 38 ∷ 0xc ∷ 39 ∷ 0x100001001 ∷ 54 ∷ 0 ∷ [])
+row-529 = calls answered 11 (8 ∷ 5 ∷ 2 ∷ 0 ∷ 0 ∷ []) (54 ∷ 0xa ∷ 55 ∷ 5 ∷ 56 ∷ 4 ∷ 57 ∷ 1 ∷ []) 0x107 ([]) ([])
 
 abbrev row-530 : Bool
-row-530 = calls answered 11 (1 ∷ 0x100001001 ∷ 1 ∷ 0 ∷ 0 ∷ []) (54 ∷ 3 ∷ 55 ∷ 0x10000003 ∷ 56 ∷ 1 ∷ []) 0x0 ([]) (32 ∷ 0x2a1907f6e5d4c388 ∷ 37 ∷ 0x258bf258bf258bcf ∷ 38 ∷ 0xc ∷ 39 ∷ 0x100001001 ∷ 54 ∷ 0 ∷ 55 ∷ 0 ∷ 56 ∷ 0 ∷ [])
+row-530 = calls answered 11 (0xa ∷ 5 ∷ 2 ∷ 0 ∷ 0 ∷ []) (54 ∷ 0xa ∷ 55 ∷ 5 ∷ 56 ∷ 4 ∷ 57 ∷ 1 ∷ []) 0x107 ([]) ([])
 
 abbrev row-531 : Bool
-row-531 = calls answered 11 (1 ∷ 0x100001001 ∷ 2 ∷ 0 ∷ 0 ∷ []) (54 ∷ 2 ∷ []) 0x0 ([]) (32 ∷ 0x2a1907f6e5d4c388 ∷ 37 ∷ 0x258bf258bf258bcf ∷ 38 ∷ 1 ∷ 39 ∷ 0x100001001 ∷ 54 ∷ 0 ∷ [])
+row-531 = calls answered 11 (0xffffffffffffffff ∷ 5 ∷ 2 ∷ 0 ∷ 0 ∷ []) (54 ∷ 0xa ∷ 55 ∷ 5 ∷ 56 ∷ 4 ∷ 57 ∷ 1 ∷ []) 0x107 ([]) ([])
 
 abbrev row-532 : Bool
-row-532 = calls answered 11 (1 ∷ 0x100001001 ∷ 2 ∷ 0 ∷ 0 ∷ []) (54 ∷ 3 ∷ 55 ∷ 0x10000003 ∷ 56 ∷ 1 ∷ []) 0x0 ([]) (32 ∷ 0x2a1907f6e5d4c388 ∷ 37 ∷ 0x258bf258bf258bcf ∷ 38 ∷ 1 ∷ 39 ∷ 0x100001001 ∷ 54 ∷ 0 ∷ 55 ∷ 0 ∷ 56 ∷ 0 ∷ [])
+row-532 = calls answered 11 (0 ∷ 5 ∷ 2 ∷ 0 ∷ 0 ∷ []) (54 ∷ 0xa ∷ 55 ∷ 5 ∷ 56 ∷ 4 ∷ 57 ∷ 1 ∷ []) 0x107 ([]) ([])
 
 abbrev row-533 : Bool
-row-533 = calls answered 11 (1 ∷ 0x100001001 ∷ 3 ∷ 0 ∷ 0 ∷ []) (54 ∷ 2 ∷ []) 0x0 ([]) (32 ∷ 0x2a1907f6e5d4c388 ∷ 37 ∷ 0x258bf258bf258bcf ∷ 38 ∷ 0 ∷ 39 ∷ 0x100001001 ∷ 54 ∷ 0 ∷ [])
+row-533 = calls printed 13 (5 ∷ 0 ∷ 0 ∷ 0 ∷ 0 ∷ []) (54 ∷ 0xb ∷ 55 ∷ 5 ∷ 56 ∷ 4 ∷ 57 ∷ 1 ∷ []) 0x41 ([]) ([])
 
 abbrev row-534 : Bool
-row-534 = calls answered 11 (1 ∷ 0x100001001 ∷ 3 ∷ 0 ∷ 0 ∷ []) (54 ∷ 3 ∷ 55 ∷ 0x10000003 ∷ 56 ∷ 1 ∷ []) 0x0 ([]) (32 ∷ 0x2a1907f6e5d4c388 ∷ 37 ∷ 0x258bf258bf258bcf ∷ 38 ∷ 0 ∷ 39 ∷ 0x100001001 ∷ 54 ∷ 0 ∷ 55 ∷ 0 ∷ 56 ∷ 0 ∷ [])
+row-534 = calls called 12 (0x123456789abcdef0 ∷ 0 ∷ 0 ∷ 0 ∷ 0 ∷ []) (54 ∷ 0xb ∷ 55 ∷ 5 ∷ 56 ∷ 4 ∷ 57 ∷ 1 ∷ []) 0x102 ([]) ([])
 
 abbrev row-535 : Bool
-row-535 = calls answered 11 (1 ∷ 0x100001001 ∷ 4 ∷ 0 ∷ 0 ∷ []) (54 ∷ 2 ∷ []) 0x8 (0 ∷ 0x100001001 ∷ 1 ∷ 4 ∷ []) (54 ∷ 0 ∷ [])
+row-535 = calls started 10 (0xa ∷ 0 ∷ 0 ∷ 0 ∷ 0 ∷ []) (54 ∷ 0xb ∷ 55 ∷ 5 ∷ 56 ∷ 4 ∷ 57 ∷ 1 ∷ []) 0x102 ([]) ([])
 
 abbrev row-536 : Bool
-row-536 = calls answered 11 (1 ∷ 0x100001001 ∷ 4 ∷ 0 ∷ 0 ∷ []) (54 ∷ 3 ∷ 55 ∷ 0x10000003 ∷ 56 ∷ 1 ∷ []) 0x8 (0 ∷ 0x100001001 ∷ 1 ∷ 4 ∷ []) (54 ∷ 0 ∷ 55 ∷ 0 ∷ 56 ∷ 0 ∷ [])
+row-536 = calls called 1 (0 ∷ 0 ∷ 0 ∷ 0 ∷ 0 ∷ []) (54 ∷ 0xb ∷ 55 ∷ 5 ∷ 56 ∷ 4 ∷ 57 ∷ 1 ∷ []) 0x102 ([]) ([])
 
 abbrev row-537 : Bool
-row-537 = calls answered 11 (1 ∷ 0x100001001 ∷ 5 ∷ 0 ∷ 0 ∷ []) (54 ∷ 2 ∷ []) 0x106 ([]) (54 ∷ 0 ∷ [])
+row-537 = calls answered 11 (8 ∷ 5 ∷ 2 ∷ 0 ∷ 0 ∷ []) (54 ∷ 0xb ∷ 55 ∷ 5 ∷ 56 ∷ 4 ∷ 57 ∷ 1 ∷ []) 0x0 ([]) (10 ∷ 5 ∷ 32 ∷ 0x258bf258bf258bd3 ∷ 54 ∷ 0 ∷ [])
 
 abbrev row-538 : Bool
-row-538 = calls answered 11 (1 ∷ 0x100001001 ∷ 5 ∷ 0 ∷ 0 ∷ []) (54 ∷ 3 ∷ 55 ∷ 0x10000003 ∷ 56 ∷ 1 ∷ []) 0x106 ([]) (54 ∷ 0 ∷ 55 ∷ 0 ∷ 56 ∷ 0 ∷ [])
+row-538 = calls answered 11 (8 ∷ 5 ∷ 2 ∷ 0 ∷ 0 ∷ []) (54 ∷ 0xb ∷ 55 ∷ 5 ∷ 56 ∷ 4 ∷ 57 ∷ 1 ∷ []) 0x0 ([]) (10 ∷ 5 ∷ 32 ∷ 0x258bf258bf258bd3 ∷ 54 ∷ 0 ∷ [])
 
 abbrev row-539 : Bool
-row-539 = calls answered 11 (1 ∷ 0x100001001 ∷ 6 ∷ 0 ∷ 0 ∷ []) (54 ∷ 2 ∷ []) 0x106 ([]) (54 ∷ 0 ∷ [])
+row-539 = calls answered 11 (9 ∷ 5 ∷ 2 ∷ 0 ∷ 0 ∷ []) (54 ∷ 0xb ∷ 55 ∷ 5 ∷ 56 ∷ 4 ∷ 57 ∷ 1 ∷ []) 0x107 ([]) ([])
 
 abbrev row-540 : Bool
-row-540 = calls answered 11 (1 ∷ 0x100001001 ∷ 6 ∷ 0 ∷ 0 ∷ []) (54 ∷ 3 ∷ 55 ∷ 0x10000003 ∷ 56 ∷ 1 ∷ []) 0x106 ([]) (54 ∷ 0 ∷ 55 ∷ 0 ∷ 56 ∷ 0 ∷ [])
+row-540 = calls answered 11 (0xa ∷ 5 ∷ 2 ∷ 0 ∷ 0 ∷ []) (54 ∷ 0xb ∷ 55 ∷ 5 ∷ 56 ∷ 4 ∷ 57 ∷ 1 ∷ []) 0x107 ([]) ([])
 
 abbrev row-541 : Bool
-row-541 = calls answered 11 (1 ∷ 0x1000 ∷ 1 ∷ 0 ∷ 0 ∷ []) (34 ∷ 0 ∷ 35 ∷ 0 ∷ 36 ∷ 0x80200003 ∷ 54 ∷ 2 ∷ []) 0x0 ([]) (32 ∷ 0x80200000 ∷ 37 ∷ 0x258bf258bf258bcf ∷ 38 ∷ 0xc ∷ 39 ∷ 0x1000 ∷ 54 ∷ 0 ∷ [])
+row-541 = calls answered 11 (0xffffffffffffffff ∷ 5 ∷ 2 ∷ 0 ∷ 0 ∷ []) (54 ∷ 0xb ∷ 55 ∷ 5 ∷ 56 ∷ 4 ∷ 57 ∷ 1 ∷ []) 0x107 ([]) ([])
 
 abbrev row-542 : Bool
-row-542 = calls answered 11 (1 ∷ 0x1000 ∷ 1 ∷ 0 ∷ 0 ∷ []) (34 ∷ 0x100 ∷ 35 ∷ 0 ∷ 36 ∷ 0x80200003 ∷ 54 ∷ 2 ∷ []) 0x0 ([]) (32 ∷ 0x80200000 ∷ 35 ∷ 0x100 ∷ 37 ∷ 0x258bf258bf258bcf ∷ 38 ∷ 0xc ∷ 39 ∷ 0x1000 ∷ 54 ∷ 0 ∷ [])
+row-542 = calls answered 11 (0 ∷ 5 ∷ 2 ∷ 0 ∷ 0 ∷ []) (54 ∷ 0xb ∷ 55 ∷ 5 ∷ 56 ∷ 4 ∷ 57 ∷ 1 ∷ []) 0x107 ([]) ([])
 
 abbrev row-543 : Bool
-row-543 = calls answered 11 (1 ∷ 0x1000 ∷ 1 ∷ 0 ∷ 0 ∷ []) (34 ∷ 0 ∷ 35 ∷ 2 ∷ 36 ∷ 0x80200003 ∷ 54 ∷ 2 ∷ []) 0x0 ([]) (32 ∷ 0x80200000 ∷ 35 ∷ 0x20 ∷ 37 ∷ 0x258bf258bf258bcf ∷ 38 ∷ 0xc ∷ 39 ∷ 0x1000 ∷ 54 ∷ 0 ∷ [])
+row-543 = calls printed 13 (5 ∷ 0 ∷ 0 ∷ 0 ∷ 0 ∷ []) (54 ∷ 0xc ∷ 55 ∷ 5 ∷ 56 ∷ 4 ∷ 57 ∷ 1 ∷ []) 0x41 ([]) ([])
 
 abbrev row-544 : Bool
-row-544 = calls answered 11 (1 ∷ 0x1000 ∷ 1 ∷ 0 ∷ 0 ∷ []) (34 ∷ 0x100 ∷ 35 ∷ 0xffffffffffffffff ∷ 36 ∷ 0x80200003 ∷ 54 ∷ 2 ∷ []) 0x0 ([]) (32 ∷ 0x80200000 ∷ 35 ∷ 0xfffffffffffffffd ∷ 37 ∷ 0x258bf258bf258bcf ∷ 38 ∷ 0xc ∷ 39 ∷ 0x1000 ∷ 54 ∷ 0 ∷ [])
+row-544 = calls called 12 (0x123456789abcdef0 ∷ 0 ∷ 0 ∷ 0 ∷ 0 ∷ []) (54 ∷ 0xc ∷ 55 ∷ 5 ∷ 56 ∷ 4 ∷ 57 ∷ 1 ∷ []) 0x102 ([]) ([])
 
 abbrev row-545 : Bool
-row-545 = calls answered 11 (1 ∷ 0x1000 ∷ 1 ∷ 0 ∷ 0 ∷ []) (34 ∷ 0xfffffffffffffeff ∷ 35 ∷ 0xffffffffffffffff ∷ 36 ∷ 0x80200003 ∷ 54 ∷ 2 ∷ []) 0x0 ([]) (32 ∷ 0x80200000 ∷ 35 ∷ 0xfffffffffffffefd ∷ 37 ∷ 0x258bf258bf258bcf ∷ 38 ∷ 0xc ∷ 39 ∷ 0x1000 ∷ 54 ∷ 0 ∷ [])
+row-545 = calls started 10 (0xa ∷ 0 ∷ 0 ∷ 0 ∷ 0 ∷ []) (54 ∷ 0xc ∷ 55 ∷ 5 ∷ 56 ∷ 4 ∷ 57 ∷ 1 ∷ []) 0x102 ([]) ([])
 
 abbrev row-546 : Bool
-row-546 = calls answered 11 (1 ∷ 0x1000 ∷ 1 ∷ 0 ∷ 0 ∷ []) (34 ∷ 0xffffffffffffffff ∷ 35 ∷ 0xfffffffffffffffd ∷ 36 ∷ 0x80200003 ∷ 54 ∷ 2 ∷ []) 0x0 ([]) (32 ∷ 0x80200000 ∷ 35 ∷ 0xffffffffffffffdd ∷ 37 ∷ 0x258bf258bf258bcf ∷ 38 ∷ 0xc ∷ 39 ∷ 0x1000 ∷ 54 ∷ 0 ∷ [])
+row-546 = calls called 1 (0 ∷ 0 ∷ 0 ∷ 0 ∷ 0 ∷ []) (54 ∷ 0xc ∷ 55 ∷ 5 ∷ 56 ∷ 4 ∷ 57 ∷ 1 ∷ []) 0x102 ([]) ([])
 
 abbrev row-547 : Bool
-row-547 = calls answered 11 (2 ∷ 7 ∷ 0x55 ∷ 0 ∷ 0 ∷ []) (54 ∷ 4 ∷ []) 0x0 ([]) (10 ∷ 0xffffffffffffffff ∷ 11 ∷ 0 ∷ 32 ∷ 0x258bf258bf258bd3 ∷ 54 ∷ 0 ∷ [])
+row-547 = calls answered 11 (9 ∷ 5 ∷ 2 ∷ 0 ∷ 0 ∷ []) (54 ∷ 0xc ∷ 55 ∷ 5 ∷ 56 ∷ 4 ∷ 57 ∷ 1 ∷ []) 0x0 ([]) (10 ∷ 5 ∷ 11 ∷ 2 ∷ 32 ∷ 0x258bf258bf258bd3 ∷ 54 ∷ 0 ∷ [])
 
 abbrev row-548 : Bool
-row-548 = calls answered 11 (2 ∷ 8 ∷ 0x55 ∷ 0 ∷ 0 ∷ []) (54 ∷ 4 ∷ []) 0x2 (0 ∷ 0x55 ∷ []) (32 ∷ 0x258bf258bf258bd3 ∷ 54 ∷ 0 ∷ [])
+row-548 = calls answered 11 (9 ∷ 5 ∷ 2 ∷ 0 ∷ 0 ∷ []) (54 ∷ 0xc ∷ 55 ∷ 5 ∷ 56 ∷ 4 ∷ 57 ∷ 1 ∷ []) 0x0 ([]) (10 ∷ 5 ∷ 11 ∷ 2 ∷ 32 ∷ 0x258bf258bf258bd3 ∷ 54 ∷ 0 ∷ [])
 
 abbrev row-549 : Bool
-row-549 = calls answered 11 (2 ∷ 9 ∷ 0x55 ∷ 0 ∷ 0 ∷ []) (54 ∷ 4 ∷ []) 0x0 ([]) (10 ∷ 0xffffffffffffffff ∷ 11 ∷ 0 ∷ 32 ∷ 0x258bf258bf258bd3 ∷ 54 ∷ 0 ∷ [])
+row-549 = calls answered 11 (1 ∷ 5 ∷ 2 ∷ 0 ∷ 0 ∷ []) (54 ∷ 0xc ∷ 55 ∷ 5 ∷ 56 ∷ 4 ∷ 57 ∷ 1 ∷ []) 0x107 ([]) ([])
 
 abbrev row-550 : Bool
-row-550 = calls answered 11 (3 ∷ 4 ∷ 3 ∷ 0 ∷ 0 ∷ []) (54 ∷ 5 ∷ 55 ∷ 5 ∷ []) 0x0 ([]) (10 ∷ 0xffffffffffffffff ∷ 11 ∷ 0 ∷ 32 ∷ 0x258bf258bf258bd3 ∷ 54 ∷ 0 ∷ 55 ∷ 0 ∷ [])
+row-550 = calls answered 11 (0xa ∷ 5 ∷ 2 ∷ 0 ∷ 0 ∷ []) (54 ∷ 0xc ∷ 55 ∷ 5 ∷ 56 ∷ 4 ∷ 57 ∷ 1 ∷ []) 0x107 ([]) ([])
 
 abbrev row-551 : Bool
-row-551 = calls answered 11 (3 ∷ 5 ∷ 3 ∷ 0 ∷ 0 ∷ []) (54 ∷ 5 ∷ 55 ∷ 5 ∷ []) 0x24 (0 ∷ 5 ∷ []) (54 ∷ 6 ∷ [])
+row-551 = calls answered 11 (0xffffffffffffffff ∷ 5 ∷ 2 ∷ 0 ∷ 0 ∷ []) (54 ∷ 0xc ∷ 55 ∷ 5 ∷ 56 ∷ 4 ∷ 57 ∷ 1 ∷ []) 0x107 ([]) ([])
 
 abbrev row-552 : Bool
-row-552 = calls answered 11 (3 ∷ 6 ∷ 3 ∷ 0 ∷ 0 ∷ []) (54 ∷ 5 ∷ 55 ∷ 5 ∷ []) 0x0 ([]) (10 ∷ 0xffffffffffffffff ∷ 11 ∷ 0 ∷ 32 ∷ 0x258bf258bf258bd3 ∷ 54 ∷ 0 ∷ 55 ∷ 0 ∷ [])
+row-552 = calls answered 11 (0 ∷ 5 ∷ 2 ∷ 0 ∷ 0 ∷ []) (54 ∷ 0xc ∷ 55 ∷ 5 ∷ 56 ∷ 4 ∷ 57 ∷ 1 ∷ []) 0x107 ([]) ([])
 
 abbrev row-553 : Bool
-row-553 = calls answered 11 (6 ∷ 4 ∷ 3 ∷ 0 ∷ 0 ∷ []) (54 ∷ 8 ∷ 55 ∷ 5 ∷ []) 0x0 ([]) (10 ∷ 0xffffffffffffffff ∷ 11 ∷ 0 ∷ 32 ∷ 0x258bf258bf258bd3 ∷ 54 ∷ 0 ∷ 55 ∷ 0 ∷ [])
+row-553 = calls printed 13 (5 ∷ 0 ∷ 0 ∷ 0 ∷ 0 ∷ []) (54 ∷ 0xd ∷ 55 ∷ 5 ∷ 56 ∷ 4 ∷ 57 ∷ 1 ∷ []) 0x41 ([]) ([])
 
 abbrev row-554 : Bool
-row-554 = calls answered 11 (6 ∷ 5 ∷ 3 ∷ 0 ∷ 0 ∷ []) (54 ∷ 8 ∷ 55 ∷ 5 ∷ []) 0x0 ([]) (10 ∷ 0 ∷ 11 ∷ 5 ∷ 32 ∷ 0x258bf258bf258bd3 ∷ 54 ∷ 0 ∷ 55 ∷ 0 ∷ [])
+row-554 = calls called 12 (0x123456789abcdef0 ∷ 0 ∷ 0 ∷ 0 ∷ 0 ∷ []) (54 ∷ 0xd ∷ 55 ∷ 5 ∷ 56 ∷ 4 ∷ 57 ∷ 1 ∷ []) 0x102 ([]) ([])
 
 abbrev row-555 : Bool
-row-555 = calls answered 11 (6 ∷ 6 ∷ 3 ∷ 0 ∷ 0 ∷ []) (54 ∷ 8 ∷ 55 ∷ 5 ∷ []) 0x0 ([]) (10 ∷ 0xffffffffffffffff ∷ 11 ∷ 0 ∷ 32 ∷ 0x258bf258bf258bd3 ∷ 54 ∷ 0 ∷ 55 ∷ 0 ∷ [])
+row-555 = calls started 10 (0xa ∷ 0 ∷ 0 ∷ 0 ∷ 0 ∷ []) (54 ∷ 0xd ∷ 55 ∷ 5 ∷ 56 ∷ 4 ∷ 57 ∷ 1 ∷ []) 0x29 (0 ∷ 0x147ae147ae147ace ∷ 1 ∷ 0x13579be02468acdf ∷ 2 ∷ 0xc83fb72ea61d945 ∷ 3 ∷ 0xda740da740da734 ∷ 4 ∷ 0xeca8641fdb97523 ∷ 5 ∷ 0xfedcba987654312 ∷ 6 ∷ 0x1111111111111101 ∷ 7 ∷ 0x123456789abcdef0 ∷ []) (54 ∷ 0xc ∷ [])
 
 abbrev row-556 : Bool
-row-556 = calls answered 11 (5 ∷ 0 ∷ 0 ∷ 0 ∷ 0 ∷ []) (54 ∷ 7 ∷ 55 ∷ 5 ∷ 56 ∷ 0x9000 ∷ []) 0x0 ([]) (10 ∷ 0 ∷ 11 ∷ 0 ∷ 32 ∷ 0x258bf258bf258bd3 ∷ 54 ∷ 0 ∷ 55 ∷ 0 ∷ 56 ∷ 0 ∷ [])
+row-556 = calls called 1 (0 ∷ 0 ∷ 0 ∷ 0 ∷ 0 ∷ []) (54 ∷ 0xd ∷ 55 ∷ 5 ∷ 56 ∷ 4 ∷ 57 ∷ 1 ∷ []) 0x40 ([]) (33 ∷ 0x2100 ∷ 34 ∷ 0x200000180 ∷ 40 ∷ 0xffffffffffffffff ∷ 41 ∷ 0x444 ∷ 42 ∷ 0 ∷ 43 ∷ 0 ∷ [])
 
 abbrev row-557 : Bool
-row-557 = calls answered 11 (5 ∷ 0 ∷ 1 ∷ 0 ∷ 0 ∷ []) (54 ∷ 7 ∷ 55 ∷ 5 ∷ 56 ∷ 0x9000 ∷ []) 0x26 (0 ∷ 0x9000 ∷ 1 ∷ 1 ∷ []) (54 ∷ 8 ∷ 55 ∷ 1 ∷ 56 ∷ 0 ∷ [])
+row-557 = calls answered 11 (0 ∷ 5 ∷ 2 ∷ 0 ∷ 0 ∷ []) (54 ∷ 0xd ∷ 55 ∷ 5 ∷ 56 ∷ 4 ∷ 57 ∷ 1 ∷ []) 0x107 ([]) ([])
 
 abbrev row-558 : Bool
-row-558 = calls answered 11 (5 ∷ 0 ∷ 4 ∷ 0 ∷ 0 ∷ []) (54 ∷ 7 ∷ 55 ∷ 5 ∷ 56 ∷ 0x9000 ∷ []) 0x26 (0 ∷ 0x9000 ∷ 1 ∷ 4 ∷ []) (54 ∷ 8 ∷ 55 ∷ 4 ∷ 56 ∷ 0 ∷ [])
+row-558 = calls answered 11 (9 ∷ 5 ∷ 2 ∷ 0 ∷ 0 ∷ []) (54 ∷ 0xd ∷ 55 ∷ 5 ∷ 56 ∷ 4 ∷ 57 ∷ 1 ∷ []) 0x107 ([]) ([])
 
 abbrev row-559 : Bool
-row-559 = calls answered 11 (5 ∷ 0 ∷ 5 ∷ 0 ∷ 0 ∷ []) (54 ∷ 7 ∷ 55 ∷ 5 ∷ 56 ∷ 0x9000 ∷ []) 0x26 (0 ∷ 0x9000 ∷ 1 ∷ 5 ∷ []) (54 ∷ 8 ∷ 56 ∷ 0 ∷ [])
+row-559 = calls answered 11 (1 ∷ 5 ∷ 2 ∷ 0 ∷ 0 ∷ []) (54 ∷ 0xd ∷ 55 ∷ 5 ∷ 56 ∷ 4 ∷ 57 ∷ 1 ∷ []) 0x107 ([]) ([])
 
 abbrev row-560 : Bool
-row-560 = calls answered 11 (5 ∷ 0 ∷ 6 ∷ 0 ∷ 0 ∷ []) (54 ∷ 7 ∷ 55 ∷ 5 ∷ 56 ∷ 0x9000 ∷ []) 0x0 ([]) (10 ∷ 0 ∷ 11 ∷ 6 ∷ 32 ∷ 0x258bf258bf258bd3 ∷ 54 ∷ 0 ∷ 55 ∷ 0 ∷ 56 ∷ 0 ∷ [])
+row-560 = calls answered 11 (0xa ∷ 5 ∷ 2 ∷ 0 ∷ 0 ∷ []) (54 ∷ 0xd ∷ 55 ∷ 5 ∷ 56 ∷ 4 ∷ 57 ∷ 1 ∷ []) 0x107 ([]) ([])
 
 abbrev row-561 : Bool
-row-561 = calls answered 11 (5 ∷ 1 ∷ 3 ∷ 0 ∷ 0 ∷ []) (54 ∷ 7 ∷ 55 ∷ 5 ∷ 56 ∷ 0x9000 ∷ []) 0x0 ([]) (10 ∷ 1 ∷ 11 ∷ 3 ∷ 32 ∷ 0x258bf258bf258bd3 ∷ 54 ∷ 0 ∷ 55 ∷ 0 ∷ 56 ∷ 0 ∷ [])
+row-561 = calls answered 11 (0xffffffffffffffff ∷ 5 ∷ 2 ∷ 0 ∷ 0 ∷ []) (54 ∷ 0xd ∷ 55 ∷ 5 ∷ 56 ∷ 4 ∷ 57 ∷ 1 ∷ []) 0x107 ([]) ([])
 
 abbrev row-562 : Bool
-row-562 = calls answered 11 (5 ∷ 3 ∷ 0 ∷ 0 ∷ 0 ∷ []) (54 ∷ 7 ∷ 55 ∷ 5 ∷ 56 ∷ 0x9000 ∷ []) 0x0 ([]) (10 ∷ 3 ∷ 11 ∷ 0 ∷ 32 ∷ 0x258bf258bf258bd3 ∷ 54 ∷ 0 ∷ 55 ∷ 0 ∷ 56 ∷ 0 ∷ [])
+row-562 = calls answered 11 (1 ∷ 0x100001001 ∷ 0 ∷ 0 ∷ 0 ∷ []) (54 ∷ 2 ∷ []) 0x103 ([]) (46 ∷ 0x3579be02468acee2 ∷ 54 ∷ 0 ∷ [])
 
 abbrev row-563 : Bool
-row-563 = calls called 12 (0x123456789abcdef0 ∷ 0 ∷ 0 ∷ 0 ∷ 0 ∷ []) (54 ∷ 1 ∷ 55 ∷ 7 ∷ 56 ∷ 1 ∷ 57 ∷ 1 ∷ []) 0x40 ([]) (7 ∷ 0xfffffffffffffff0 ∷ 54 ∷ 0 ∷ 55 ∷ 0 ∷ 56 ∷ 0 ∷ 57 ∷ 0 ∷ [])
+row-563 = calls answered 11 (1 ∷ 0x100001001 ∷ 0 ∷ 0 ∷ 0 ∷ []) (54 ∷ 3 ∷ 55 ∷ 0x10000003 ∷ 56 ∷ 1 ∷ []) 0x8 (0 ∷ 0x10000003 ∷ 1 ∷ 1 ∷ []) (54 ∷ 0 ∷ [])
 
 abbrev row-564 : Bool
-row-564 = calls called 12 (0x123456776543210 ∷ 0 ∷ 0 ∷ 0 ∷ 0 ∷ []) (54 ∷ 1 ∷ 55 ∷ 7 ∷ 56 ∷ 1 ∷ 57 ∷ 1 ∷ []) 0x40 ([]) (7 ∷ 0x10 ∷ 54 ∷ 0 ∷ 55 ∷ 0 ∷ 56 ∷ 0 ∷ 57 ∷ 0 ∷ [])
+row-564 = calls answered 11 (1 ∷ 0x100001001 ∷ 1 ∷ 0 ∷ 0 ∷ []) (54 ∷ 2 ∷ []) 0x0 ([]) (32 ∷ 0x2a1907f6e5d4c388 ∷ 37 ∷ 0x258bf258bf258bcf ∷ 38 ∷ 0xc ∷ 39 ∷ 0x100001001 ∷ 54 ∷ 0 ∷ [])
 
 abbrev row-565 : Bool
-row-565 = calls called 12 (0x123456789abcdef0 ∷ 0 ∷ 0 ∷ 0 ∷ 0 ∷ []) (54 ∷ 1 ∷ 55 ∷ 7 ∷ 56 ∷ 1 ∷ []) 0x40 ([]) (7 ∷ 0xf0 ∷ 54 ∷ 0 ∷ 55 ∷ 0 ∷ 56 ∷ 0 ∷ [])
+row-565 = calls answered 11 (1 ∷ 0x100001001 ∷ 1 ∷ 0 ∷ 0 ∷ []) (54 ∷ 3 ∷ 55 ∷ 0x10000003 ∷ 56 ∷ 1 ∷ []) 0x0 ([]) (32 ∷ 0x2a1907f6e5d4c388 ∷ 37 ∷ 0x258bf258bf258bcf ∷ 38 ∷ 0xc ∷ 39 ∷ 0x100001001 ∷ 54 ∷ 0 ∷ [])
 
 abbrev row-566 : Bool
-row-566 = calls called 12 (0x123456776543210 ∷ 0 ∷ 0 ∷ 0 ∷ 0 ∷ []) (54 ∷ 1 ∷ 55 ∷ 7 ∷ 56 ∷ 1 ∷ []) 0x40 ([]) (7 ∷ 0x10 ∷ 54 ∷ 0 ∷ 55 ∷ 0 ∷ 56 ∷ 0 ∷ [])
+row-566 = calls answered 11 (1 ∷ 0x100001001 ∷ 2 ∷ 0 ∷ 0 ∷ []) (54 ∷ 2 ∷ []) 0x0 ([]) (32 ∷ 0x2a1907f6e5d4c388 ∷ 37 ∷ 0x258bf258bf258bcf ∷ 38 ∷ 1 ∷ 39 ∷ 0x100001001 ∷ 54 ∷ 0 ∷ [])
 
 abbrev row-567 : Bool
-row-567 = calls called 12 (0x123456789abcdef0 ∷ 0 ∷ 0 ∷ 0 ∷ 0 ∷ []) (54 ∷ 1 ∷ 55 ∷ 7 ∷ 56 ∷ 2 ∷ 57 ∷ 1 ∷ []) 0x40 ([]) (7 ∷ 0xffffffffffffdef0 ∷ 54 ∷ 0 ∷ 55 ∷ 0 ∷ 56 ∷ 0 ∷ 57 ∷ 0 ∷ [])
+row-567 = calls answered 11 (1 ∷ 0x100001001 ∷ 2 ∷ 0 ∷ 0 ∷ []) (54 ∷ 3 ∷ 55 ∷ 0x10000003 ∷ 56 ∷ 1 ∷ []) 0x0 ([]) (32 ∷ 0x2a1907f6e5d4c388 ∷ 37 ∷ 0x258bf258bf258bcf ∷ 38 ∷ 1 ∷ 39 ∷ 0x100001001 ∷ 54 ∷ 0 ∷ [])
 
 abbrev row-568 : Bool
-row-568 = calls called 12 (0x123456776543210 ∷ 0 ∷ 0 ∷ 0 ∷ 0 ∷ []) (54 ∷ 1 ∷ 55 ∷ 7 ∷ 56 ∷ 2 ∷ 57 ∷ 1 ∷ []) 0x40 ([]) (7 ∷ 0x3210 ∷ 54 ∷ 0 ∷ 55 ∷ 0 ∷ 56 ∷ 0 ∷ 57 ∷ 0 ∷ [])
+row-568 = calls answered 11 (1 ∷ 0x100001001 ∷ 3 ∷ 0 ∷ 0 ∷ []) (54 ∷ 2 ∷ []) 0x0 ([]) (32 ∷ 0x2a1907f6e5d4c388 ∷ 37 ∷ 0x258bf258bf258bcf ∷ 38 ∷ 0 ∷ 39 ∷ 0x100001001 ∷ 54 ∷ 0 ∷ [])
 
 abbrev row-569 : Bool
-row-569 = calls called 12 (0x123456789abcdef0 ∷ 0 ∷ 0 ∷ 0 ∷ 0 ∷ []) (54 ∷ 1 ∷ 55 ∷ 7 ∷ 56 ∷ 2 ∷ []) 0x40 ([]) (7 ∷ 0xdef0 ∷ 54 ∷ 0 ∷ 55 ∷ 0 ∷ 56 ∷ 0 ∷ [])
+row-569 = calls answered 11 (1 ∷ 0x100001001 ∷ 3 ∷ 0 ∷ 0 ∷ []) (54 ∷ 3 ∷ 55 ∷ 0x10000003 ∷ 56 ∷ 1 ∷ []) 0x0 ([]) (32 ∷ 0x2a1907f6e5d4c388 ∷ 37 ∷ 0x258bf258bf258bcf ∷ 38 ∷ 0 ∷ 39 ∷ 0x100001001 ∷ 54 ∷ 0 ∷ [])
 
 abbrev row-570 : Bool
-row-570 = calls called 12 (0x123456776543210 ∷ 0 ∷ 0 ∷ 0 ∷ 0 ∷ []) (54 ∷ 1 ∷ 55 ∷ 7 ∷ 56 ∷ 2 ∷ []) 0x40 ([]) (7 ∷ 0x3210 ∷ 54 ∷ 0 ∷ 55 ∷ 0 ∷ 56 ∷ 0 ∷ [])
+row-570 = calls answered 11 (1 ∷ 0x100001001 ∷ 4 ∷ 0 ∷ 0 ∷ []) (54 ∷ 2 ∷ []) 0x8 (0 ∷ 0x100001001 ∷ 1 ∷ 4 ∷ []) (54 ∷ 0 ∷ [])
 
 abbrev row-571 : Bool
-row-571 = calls called 12 (0x123456789abcdef0 ∷ 0 ∷ 0 ∷ 0 ∷ 0 ∷ []) (54 ∷ 1 ∷ 55 ∷ 7 ∷ 56 ∷ 4 ∷ 57 ∷ 1 ∷ []) 0x40 ([]) (7 ∷ 0xffffffff9abcdef0 ∷ 54 ∷ 0 ∷ 55 ∷ 0 ∷ 56 ∷ 0 ∷ 57 ∷ 0 ∷ [])
+row-571 = calls answered 11 (1 ∷ 0x100001001 ∷ 4 ∷ 0 ∷ 0 ∷ []) (54 ∷ 3 ∷ 55 ∷ 0x10000003 ∷ 56 ∷ 1 ∷ []) 0x8 (0 ∷ 0x100001001 ∷ 1 ∷ 4 ∷ []) (54 ∷ 0 ∷ [])
 
 abbrev row-572 : Bool
-row-572 = calls called 12 (0x123456776543210 ∷ 0 ∷ 0 ∷ 0 ∷ 0 ∷ []) (54 ∷ 1 ∷ 55 ∷ 7 ∷ 56 ∷ 4 ∷ 57 ∷ 1 ∷ []) 0x40 ([]) (7 ∷ 0x76543210 ∷ 54 ∷ 0 ∷ 55 ∷ 0 ∷ 56 ∷ 0 ∷ 57 ∷ 0 ∷ [])
+row-572 = calls answered 11 (1 ∷ 0x100001001 ∷ 5 ∷ 0 ∷ 0 ∷ []) (54 ∷ 2 ∷ []) 0x106 ([]) (54 ∷ 0 ∷ [])
 
 abbrev row-573 : Bool
-row-573 = calls called 12 (0x123456789abcdef0 ∷ 0 ∷ 0 ∷ 0 ∷ 0 ∷ []) (54 ∷ 1 ∷ 55 ∷ 7 ∷ 56 ∷ 4 ∷ []) 0x40 ([]) (7 ∷ 0x9abcdef0 ∷ 54 ∷ 0 ∷ 55 ∷ 0 ∷ 56 ∷ 0 ∷ [])
+row-573 = calls answered 11 (1 ∷ 0x100001001 ∷ 5 ∷ 0 ∷ 0 ∷ []) (54 ∷ 3 ∷ 55 ∷ 0x10000003 ∷ 56 ∷ 1 ∷ []) 0x106 ([]) (54 ∷ 0 ∷ [])
 
 abbrev row-574 : Bool
-row-574 = calls called 12 (0x123456776543210 ∷ 0 ∷ 0 ∷ 0 ∷ 0 ∷ []) (54 ∷ 1 ∷ 55 ∷ 7 ∷ 56 ∷ 4 ∷ []) 0x40 ([]) (7 ∷ 0x76543210 ∷ 54 ∷ 0 ∷ 55 ∷ 0 ∷ 56 ∷ 0 ∷ [])
+row-574 = calls answered 11 (1 ∷ 0x100001001 ∷ 6 ∷ 0 ∷ 0 ∷ []) (54 ∷ 2 ∷ []) 0x106 ([]) (54 ∷ 0 ∷ [])
 
 abbrev row-575 : Bool
-row-575 = calls called 12 (0x123456789abcdef0 ∷ 0 ∷ 0 ∷ 0 ∷ 0 ∷ []) (54 ∷ 1 ∷ 55 ∷ 7 ∷ 56 ∷ 8 ∷ 57 ∷ 1 ∷ []) 0x40 ([]) (7 ∷ 0x123456789abcdef0 ∷ 54 ∷ 0 ∷ 55 ∷ 0 ∷ 56 ∷ 0 ∷ 57 ∷ 0 ∷ [])
+row-575 = calls answered 11 (1 ∷ 0x100001001 ∷ 6 ∷ 0 ∷ 0 ∷ []) (54 ∷ 3 ∷ 55 ∷ 0x10000003 ∷ 56 ∷ 1 ∷ []) 0x106 ([]) (54 ∷ 0 ∷ [])
 
 abbrev row-576 : Bool
-row-576 = calls called 12 (0x123456776543210 ∷ 0 ∷ 0 ∷ 0 ∷ 0 ∷ []) (54 ∷ 1 ∷ 55 ∷ 7 ∷ 56 ∷ 8 ∷ 57 ∷ 1 ∷ []) 0x40 ([]) (7 ∷ 0x123456776543210 ∷ 54 ∷ 0 ∷ 55 ∷ 0 ∷ 56 ∷ 0 ∷ 57 ∷ 0 ∷ [])
+row-576 = calls answered 11 (1 ∷ 0x1000 ∷ 1 ∷ 0 ∷ 0 ∷ []) (34 ∷ 0 ∷ 35 ∷ 0 ∷ 36 ∷ 0x80200003 ∷ 54 ∷ 2 ∷ []) 0x0 ([]) (32 ∷ 0x80200000 ∷ 37 ∷ 0x258bf258bf258bcf ∷ 38 ∷ 0xc ∷ 39 ∷ 0x1000 ∷ 54 ∷ 0 ∷ [])
 
 abbrev row-577 : Bool
-row-577 = calls called 12 (0x123456789abcdef0 ∷ 0 ∷ 0 ∷ 0 ∷ 0 ∷ []) (54 ∷ 1 ∷ 55 ∷ 7 ∷ 56 ∷ 8 ∷ []) 0x40 ([]) (7 ∷ 0x123456789abcdef0 ∷ 54 ∷ 0 ∷ 55 ∷ 0 ∷ 56 ∷ 0 ∷ [])
+row-577 = calls answered 11 (1 ∷ 0x1000 ∷ 1 ∷ 0 ∷ 0 ∷ []) (34 ∷ 0x100 ∷ 35 ∷ 0 ∷ 36 ∷ 0x80200003 ∷ 54 ∷ 2 ∷ []) 0x0 ([]) (32 ∷ 0x80200000 ∷ 35 ∷ 0x100 ∷ 37 ∷ 0x258bf258bf258bcf ∷ 38 ∷ 0xc ∷ 39 ∷ 0x1000 ∷ 54 ∷ 0 ∷ [])
 
 abbrev row-578 : Bool
-row-578 = calls called 12 (0x123456776543210 ∷ 0 ∷ 0 ∷ 0 ∷ 0 ∷ []) (54 ∷ 1 ∷ 55 ∷ 7 ∷ 56 ∷ 8 ∷ []) 0x40 ([]) (7 ∷ 0x123456776543210 ∷ 54 ∷ 0 ∷ 55 ∷ 0 ∷ 56 ∷ 0 ∷ [])
+row-578 = calls answered 11 (1 ∷ 0x1000 ∷ 1 ∷ 0 ∷ 0 ∷ []) (34 ∷ 0 ∷ 35 ∷ 2 ∷ 36 ∷ 0x80200003 ∷ 54 ∷ 2 ∷ []) 0x0 ([]) (32 ∷ 0x80200000 ∷ 35 ∷ 0x20 ∷ 37 ∷ 0x258bf258bf258bcf ∷ 38 ∷ 0xc ∷ 39 ∷ 0x1000 ∷ 54 ∷ 0 ∷ [])
 
 abbrev row-579 : Bool
-row-579 = calls called 12 (0x123456789abcdef0 ∷ 0 ∷ 0 ∷ 0 ∷ 0 ∷ []) (54 ∷ 1 ∷ 56 ∷ 8 ∷ []) 0x40 ([]) (54 ∷ 0 ∷ 56 ∷ 0 ∷ [])
+row-579 = calls answered 11 (1 ∷ 0x1000 ∷ 1 ∷ 0 ∷ 0 ∷ []) (34 ∷ 0x100 ∷ 35 ∷ 0xffffffffffffffff ∷ 36 ∷ 0x80200003 ∷ 54 ∷ 2 ∷ []) 0x0 ([]) (32 ∷ 0x80200000 ∷ 35 ∷ 0xfffffffffffffffd ∷ 37 ∷ 0x258bf258bf258bcf ∷ 38 ∷ 0xc ∷ 39 ∷ 0x1000 ∷ 54 ∷ 0 ∷ [])
 
 abbrev row-580 : Bool
-row-580 = calls called 12 (0x123456776543210 ∷ 0 ∷ 0 ∷ 0 ∷ 0 ∷ []) (54 ∷ 1 ∷ 56 ∷ 8 ∷ []) 0x40 ([]) (54 ∷ 0 ∷ 56 ∷ 0 ∷ [])
+row-580 = calls answered 11 (1 ∷ 0x1000 ∷ 1 ∷ 0 ∷ 0 ∷ []) (34 ∷ 0xfffffffffffffeff ∷ 35 ∷ 0xffffffffffffffff ∷ 36 ∷ 0x80200003 ∷ 54 ∷ 2 ∷ []) 0x0 ([]) (32 ∷ 0x80200000 ∷ 35 ∷ 0xfffffffffffffefd ∷ 37 ∷ 0x258bf258bf258bcf ∷ 38 ∷ 0xc ∷ 39 ∷ 0x1000 ∷ 54 ∷ 0 ∷ [])
 
 abbrev row-581 : Bool
-row-581 = calls called 12 (0x123456789abcdef0 ∷ 0 ∷ 0 ∷ 0 ∷ 0 ∷ []) (54 ∷ 1 ∷ 55 ∷ 0x1f ∷ 56 ∷ 8 ∷ []) 0x40 ([]) (31 ∷ 0x123456789abcdef0 ∷ 54 ∷ 0 ∷ 55 ∷ 0 ∷ 56 ∷ 0 ∷ [])
+row-581 = calls answered 11 (1 ∷ 0x1000 ∷ 1 ∷ 0 ∷ 0 ∷ []) (34 ∷ 0xffffffffffffffff ∷ 35 ∷ 0xfffffffffffffffd ∷ 36 ∷ 0x80200003 ∷ 54 ∷ 2 ∷ []) 0x0 ([]) (32 ∷ 0x80200000 ∷ 35 ∷ 0xffffffffffffffdd ∷ 37 ∷ 0x258bf258bf258bcf ∷ 38 ∷ 0xc ∷ 39 ∷ 0x1000 ∷ 54 ∷ 0 ∷ [])
 
 abbrev row-582 : Bool
-row-582 = calls called 12 (0x123456776543210 ∷ 0 ∷ 0 ∷ 0 ∷ 0 ∷ []) (54 ∷ 1 ∷ 55 ∷ 0x1f ∷ 56 ∷ 8 ∷ []) 0x40 ([]) (31 ∷ 0x123456776543210 ∷ 54 ∷ 0 ∷ 55 ∷ 0 ∷ 56 ∷ 0 ∷ [])
+row-582 = calls answered 11 (2 ∷ 7 ∷ 0x55 ∷ 0 ∷ 0 ∷ []) (54 ∷ 4 ∷ []) 0x0 ([]) (10 ∷ 0xffffffffffffffff ∷ 11 ∷ 0 ∷ 32 ∷ 0x258bf258bf258bd3 ∷ 54 ∷ 0 ∷ [])
 
 abbrev row-583 : Bool
-row-583 = calls called 12 (0x123456789abcdef0 ∷ 0 ∷ 0 ∷ 0 ∷ 0 ∷ []) (54 ∷ 1 ∷ 55 ∷ 0x20 ∷ 56 ∷ 8 ∷ []) 0x40 ([]) (54 ∷ 0 ∷ 55 ∷ 0 ∷ 56 ∷ 0 ∷ [])
+row-583 = calls answered 11 (2 ∷ 8 ∷ 0x55 ∷ 0 ∷ 0 ∷ []) (54 ∷ 4 ∷ []) 0x2 (0 ∷ 0x55 ∷ []) (32 ∷ 0x258bf258bf258bd3 ∷ 54 ∷ 0 ∷ [])
 
 abbrev row-584 : Bool
-row-584 = calls called 12 (0x123456776543210 ∷ 0 ∷ 0 ∷ 0 ∷ 0 ∷ []) (54 ∷ 1 ∷ 55 ∷ 0x20 ∷ 56 ∷ 8 ∷ []) 0x40 ([]) (54 ∷ 0 ∷ 55 ∷ 0 ∷ 56 ∷ 0 ∷ [])
+row-584 = calls answered 11 (2 ∷ 9 ∷ 0x55 ∷ 0 ∷ 0 ∷ []) (54 ∷ 4 ∷ []) 0x0 ([]) (10 ∷ 0xffffffffffffffff ∷ 11 ∷ 0 ∷ 32 ∷ 0x258bf258bf258bd3 ∷ 54 ∷ 0 ∷ [])
 
 abbrev row-585 : Bool
-row-585 = calls called 2 (0x80200000 ∷ 0 ∷ 0 ∷ 0 ∷ 0 ∷ []) (54 ∷ 1 ∷ 55 ∷ 5 ∷ 56 ∷ 4 ∷ 57 ∷ 1 ∷ []) 0x40 ([]) (32 ∷ 0x80200000 ∷ [])
+row-585 = calls answered 11 (3 ∷ 4 ∷ 3 ∷ 0 ∷ 0 ∷ []) (54 ∷ 5 ∷ 55 ∷ 5 ∷ []) 0x0 ([]) (10 ∷ 0xffffffffffffffff ∷ 11 ∷ 0 ∷ 32 ∷ 0x258bf258bf258bd3 ∷ 54 ∷ 0 ∷ [])
 
 abbrev row-586 : Bool
-row-586 = calls called 3 (7 ∷ 0 ∷ 0 ∷ 0 ∷ 0 ∷ []) (54 ∷ 1 ∷ 55 ∷ 5 ∷ 56 ∷ 4 ∷ 57 ∷ 1 ∷ []) 0x41 (0 ∷ 0x91a2b3c4d5e6f78 ∷ []) ([])
+row-586 = calls answered 11 (3 ∷ 5 ∷ 3 ∷ 0 ∷ 0 ∷ []) (54 ∷ 5 ∷ 55 ∷ 5 ∷ []) 0x24 (0 ∷ 5 ∷ []) (54 ∷ 6 ∷ [])
 
 abbrev row-587 : Bool
-row-587 = calls called 4 (7 ∷ 7 ∷ 0 ∷ 0 ∷ 0 ∷ []) (54 ∷ 1 ∷ 55 ∷ 5 ∷ 56 ∷ 4 ∷ 57 ∷ 1 ∷ []) 0x40 ([]) (7 ∷ 7 ∷ [])
+row-587 = calls answered 11 (3 ∷ 6 ∷ 3 ∷ 0 ∷ 0 ∷ []) (54 ∷ 5 ∷ 55 ∷ 5 ∷ []) 0x0 ([]) (10 ∷ 0xffffffffffffffff ∷ 11 ∷ 0 ∷ 32 ∷ 0x258bf258bf258bd3 ∷ 54 ∷ 0 ∷ [])
 
 abbrev row-588 : Bool
-row-588 = calls called 3 (0x28 ∷ 0 ∷ 0 ∷ 0 ∷ 0 ∷ []) (54 ∷ 1 ∷ 55 ∷ 5 ∷ 56 ∷ 4 ∷ 57 ∷ 1 ∷ []) 0x101 ([]) ([])
+row-588 = calls answered 11 (6 ∷ 4 ∷ 3 ∷ 0 ∷ 0 ∷ []) (54 ∷ 8 ∷ 55 ∷ 5 ∷ []) 0x0 ([]) (10 ∷ 0xffffffffffffffff ∷ 11 ∷ 0 ∷ 32 ∷ 0x258bf258bf258bd3 ∷ 54 ∷ 0 ∷ [])
 
 abbrev row-589 : Bool
-row-589 = calls called 4 (0x28 ∷ 7 ∷ 0 ∷ 0 ∷ 0 ∷ []) (54 ∷ 1 ∷ 55 ∷ 5 ∷ 56 ∷ 4 ∷ 57 ∷ 1 ∷ []) 0x101 ([]) ([])
+row-589 = calls answered 11 (6 ∷ 5 ∷ 3 ∷ 0 ∷ 0 ∷ []) (54 ∷ 8 ∷ 55 ∷ 5 ∷ []) 0x0 ([]) (10 ∷ 0 ∷ 11 ∷ 5 ∷ 32 ∷ 0x258bf258bf258bd3 ∷ 54 ∷ 0 ∷ [])
 
 abbrev row-590 : Bool
-row-590 = calls called 5 (9 ∷ 0 ∷ 0 ∷ 0 ∷ 0 ∷ []) (54 ∷ 1 ∷ 55 ∷ 5 ∷ 56 ∷ 4 ∷ 57 ∷ 1 ∷ []) 0x40 ([]) (10 ∷ 9 ∷ [])
+row-590 = calls answered 11 (6 ∷ 6 ∷ 3 ∷ 0 ∷ 0 ∷ []) (54 ∷ 8 ∷ 55 ∷ 5 ∷ []) 0x0 ([]) (10 ∷ 0xffffffffffffffff ∷ 11 ∷ 0 ∷ 32 ∷ 0x258bf258bf258bd3 ∷ 54 ∷ 0 ∷ [])
 
 abbrev row-591 : Bool
-row-591 = calls called 6 (3 ∷ 8 ∷ 0x80004000 ∷ 0 ∷ 0 ∷ []) (54 ∷ 1 ∷ 55 ∷ 5 ∷ 56 ∷ 4 ∷ 57 ∷ 1 ∷ []) 0x40 ([]) (44 ∷ 0x8000000000080004 ∷ [])
+row-591 = calls answered 11 (5 ∷ 0 ∷ 0 ∷ 0 ∷ 0 ∷ []) (54 ∷ 7 ∷ 55 ∷ 5 ∷ 56 ∷ 0x9000 ∷ []) 0x0 ([]) (10 ∷ 0 ∷ 11 ∷ 0 ∷ 32 ∷ 0x258bf258bf258bd3 ∷ 54 ∷ 0 ∷ [])
 
 abbrev row-592 : Bool
-row-592 = calls called 6 (2 ∷ 8 ∷ 0x80004000 ∷ 0 ∷ 0 ∷ []) (54 ∷ 1 ∷ 55 ∷ 5 ∷ 56 ∷ 4 ∷ 57 ∷ 1 ∷ []) 0x101 ([]) ([])
+row-592 = calls answered 11 (5 ∷ 0 ∷ 1 ∷ 0 ∷ 0 ∷ []) (54 ∷ 7 ∷ 55 ∷ 5 ∷ 56 ∷ 0x9000 ∷ []) 0x26 (0 ∷ 0x9000 ∷ 1 ∷ 1 ∷ []) (54 ∷ 8 ∷ 55 ∷ 1 ∷ [])
 
 abbrev row-593 : Bool
-row-593 = calls called 7 (0x8000000000000001 ∷ 1 ∷ 0 ∷ 0 ∷ 0 ∷ []) (54 ∷ 1 ∷ 55 ∷ 5 ∷ 56 ∷ 4 ∷ 57 ∷ 1 ∷ []) 0x40 ([]) ([])
+row-593 = calls answered 11 (5 ∷ 0 ∷ 4 ∷ 0 ∷ 0 ∷ []) (54 ∷ 7 ∷ 55 ∷ 5 ∷ 56 ∷ 0x9000 ∷ []) 0x26 (0 ∷ 0x9000 ∷ 1 ∷ 4 ∷ []) (54 ∷ 8 ∷ 55 ∷ 4 ∷ [])
 
 abbrev row-594 : Bool
-row-594 = calls called 7 (3 ∷ 1 ∷ 0 ∷ 0 ∷ 0 ∷ []) (54 ∷ 1 ∷ 55 ∷ 5 ∷ 56 ∷ 4 ∷ 57 ∷ 1 ∷ []) 0x101 ([]) ([])
+row-594 = calls answered 11 (5 ∷ 0 ∷ 5 ∷ 0 ∷ 0 ∷ []) (54 ∷ 7 ∷ 55 ∷ 5 ∷ 56 ∷ 0x9000 ∷ []) 0x26 (0 ∷ 0x9000 ∷ 1 ∷ 5 ∷ []) (54 ∷ 8 ∷ [])
 
 abbrev row-595 : Bool
-row-595 = calls called 8 (0x404 ∷ 0 ∷ 0 ∷ 0 ∷ 0 ∷ []) (54 ∷ 1 ∷ 55 ∷ 5 ∷ 56 ∷ 4 ∷ 57 ∷ 1 ∷ []) 0x40 ([]) ([])
+row-595 = calls answered 11 (5 ∷ 0 ∷ 6 ∷ 0 ∷ 0 ∷ []) (54 ∷ 7 ∷ 55 ∷ 5 ∷ 56 ∷ 0x9000 ∷ []) 0x0 ([]) (10 ∷ 0 ∷ 11 ∷ 6 ∷ 32 ∷ 0x258bf258bf258bd3 ∷ 54 ∷ 0 ∷ [])
 
 abbrev row-596 : Bool
-row-596 = calls called 9 (0 ∷ 1 ∷ 0 ∷ 0 ∷ 0 ∷ []) (54 ∷ 1 ∷ 55 ∷ 5 ∷ 56 ∷ 4 ∷ 57 ∷ 1 ∷ []) 0x40 ([]) (10 ∷ 0xfffffffffffffffd ∷ [])
+row-596 = calls answered 11 (5 ∷ 1 ∷ 3 ∷ 0 ∷ 0 ∷ []) (54 ∷ 7 ∷ 55 ∷ 5 ∷ 56 ∷ 0x9000 ∷ []) 0x0 ([]) (10 ∷ 1 ∷ 11 ∷ 3 ∷ 32 ∷ 0x258bf258bf258bd3 ∷ 54 ∷ 0 ∷ [])
 
 abbrev row-597 : Bool
-row-597 = calls called 9 (1 ∷ 1 ∷ 0 ∷ 0 ∷ 0 ∷ []) (54 ∷ 1 ∷ 55 ∷ 5 ∷ 56 ∷ 4 ∷ 57 ∷ 1 ∷ []) 0x40 ([]) (10 ∷ 0xfffffffffffffffd ∷ 11 ∷ 0 ∷ [])
+row-597 = calls answered 11 (5 ∷ 3 ∷ 0 ∷ 0 ∷ 0 ∷ []) (54 ∷ 7 ∷ 55 ∷ 5 ∷ 56 ∷ 0x9000 ∷ []) 0x0 ([]) (10 ∷ 3 ∷ 11 ∷ 0 ∷ 32 ∷ 0x258bf258bf258bd3 ∷ 54 ∷ 0 ∷ [])
 
 abbrev row-598 : Bool
-row-598 = gives (fresh 14 (5 ∷ 6 ∷ 0 ∷ 0 ∷ 0 ∷ [])) (54 ∷ 1 ∷ 55 ∷ 5 ∷ 56 ∷ 4 ∷ 57 ∷ 1 ∷ []) 0x40 ([]) (0 ∷ 0 ∷ 1 ∷ 0 ∷ 2 ∷ 0 ∷ 3 ∷ 0 ∷ 4 ∷ 0 ∷ 5 ∷ 0 ∷ 6 ∷ 0 ∷ 7 ∷ 0 ∷ 8 ∷ 0 ∷ 9 ∷ 0 ∷ 10 ∷ 5 ∷ 11 ∷ 6 ∷ 12 ∷ 0 ∷ 13 ∷ 0 ∷ 14 ∷ 0 ∷ 15 ∷ 0 ∷ 16 ∷ 0 ∷ 17 ∷ 0 ∷ 18 ∷ 0 ∷ 19 ∷ 0 ∷ 20 ∷ 0 ∷ 21 ∷ 0 ∷ 22 ∷ 0 ∷ 23 ∷ 0 ∷ 24 ∷ 0 ∷ 25 ∷ 0 ∷ 26 ∷ 0 ∷ 27 ∷ 0 ∷ 28 ∷ 0 ∷ 29 ∷ 0 ∷ 30 ∷ 0 ∷ 31 ∷ 0 ∷ 32 ∷ 0 ∷ 33 ∷ 0 ∷ 34 ∷ 0 ∷ 35 ∷ 0 ∷ 36 ∷ 0 ∷ 37 ∷ 0 ∷ 38 ∷ 0 ∷ 39 ∷ 0 ∷ 40 ∷ 0 ∷ 41 ∷ 0 ∷ 42 ∷ 0 ∷ 43 ∷ 0 ∷ 44 ∷ 0 ∷ 45 ∷ 0 ∷ 46 ∷ 0 ∷ 47 ∷ 0 ∷ 48 ∷ 0 ∷ 49 ∷ 0 ∷ 50 ∷ 0 ∷ 51 ∷ 0 ∷ 52 ∷ 0 ∷ 53 ∷ 0 ∷ 54 ∷ 0 ∷ 55 ∷ 0 ∷ 56 ∷ 0 ∷ 57 ∷ 0 ∷ [])
+row-598 = calls called 12 (0x123456789abcdef0 ∷ 0 ∷ 0 ∷ 0 ∷ 0 ∷ []) (54 ∷ 1 ∷ 55 ∷ 7 ∷ 56 ∷ 1 ∷ 57 ∷ 1 ∷ []) 0x40 ([]) (7 ∷ 0xfffffffffffffff0 ∷ 54 ∷ 0 ∷ [])
 
 abbrev row-599 : Bool
-row-599 = calls called 2 (0x80200000 ∷ 0 ∷ 0 ∷ 0 ∷ 0 ∷ []) (54 ∷ 5 ∷ 55 ∷ 5 ∷ 56 ∷ 4 ∷ 57 ∷ 1 ∷ []) 0x102 ([]) (56 ∷ 0 ∷ 57 ∷ 0 ∷ [])
+row-599 = calls called 12 (0x123456776543210 ∷ 0 ∷ 0 ∷ 0 ∷ 0 ∷ []) (54 ∷ 1 ∷ 55 ∷ 7 ∷ 56 ∷ 1 ∷ 57 ∷ 1 ∷ []) 0x40 ([]) (7 ∷ 0x10 ∷ 54 ∷ 0 ∷ [])
 
 abbrev row-600 : Bool
-row-600 = calls called 3 (7 ∷ 0 ∷ 0 ∷ 0 ∷ 0 ∷ []) (54 ∷ 5 ∷ 55 ∷ 5 ∷ 56 ∷ 4 ∷ 57 ∷ 1 ∷ []) 0x41 (0 ∷ 0x91a2b3c4d5e6f78 ∷ []) (56 ∷ 0 ∷ 57 ∷ 0 ∷ [])
+row-600 = calls called 12 (0x123456789abcdef0 ∷ 0 ∷ 0 ∷ 0 ∷ 0 ∷ []) (54 ∷ 1 ∷ 55 ∷ 7 ∷ 56 ∷ 1 ∷ 57 ∷ 0 ∷ []) 0x40 ([]) (7 ∷ 0xf0 ∷ 54 ∷ 0 ∷ [])
 
 abbrev row-601 : Bool
-row-601 = calls called 4 (7 ∷ 7 ∷ 0 ∷ 0 ∷ 0 ∷ []) (54 ∷ 5 ∷ 55 ∷ 5 ∷ 56 ∷ 4 ∷ 57 ∷ 1 ∷ []) 0x102 ([]) (56 ∷ 0 ∷ 57 ∷ 0 ∷ [])
+row-601 = calls called 12 (0x123456776543210 ∷ 0 ∷ 0 ∷ 0 ∷ 0 ∷ []) (54 ∷ 1 ∷ 55 ∷ 7 ∷ 56 ∷ 1 ∷ 57 ∷ 0 ∷ []) 0x40 ([]) (7 ∷ 0x10 ∷ 54 ∷ 0 ∷ [])
 
 abbrev row-602 : Bool
-row-602 = calls called 3 (0x28 ∷ 0 ∷ 0 ∷ 0 ∷ 0 ∷ []) (54 ∷ 5 ∷ 55 ∷ 5 ∷ 56 ∷ 4 ∷ 57 ∷ 1 ∷ []) 0x101 ([]) (56 ∷ 0 ∷ 57 ∷ 0 ∷ [])
+row-602 = calls called 12 (0x123456789abcdef0 ∷ 0 ∷ 0 ∷ 0 ∷ 0 ∷ []) (54 ∷ 1 ∷ 55 ∷ 7 ∷ 56 ∷ 2 ∷ 57 ∷ 1 ∷ []) 0x40 ([]) (7 ∷ 0xffffffffffffdef0 ∷ 54 ∷ 0 ∷ [])
 
 abbrev row-603 : Bool
-row-603 = calls called 4 (0x28 ∷ 7 ∷ 0 ∷ 0 ∷ 0 ∷ []) (54 ∷ 5 ∷ 55 ∷ 5 ∷ 56 ∷ 4 ∷ 57 ∷ 1 ∷ []) 0x102 ([]) (56 ∷ 0 ∷ 57 ∷ 0 ∷ [])
+row-603 = calls called 12 (0x123456776543210 ∷ 0 ∷ 0 ∷ 0 ∷ 0 ∷ []) (54 ∷ 1 ∷ 55 ∷ 7 ∷ 56 ∷ 2 ∷ 57 ∷ 1 ∷ []) 0x40 ([]) (7 ∷ 0x3210 ∷ 54 ∷ 0 ∷ [])
 
 abbrev row-604 : Bool
-row-604 = calls called 5 (9 ∷ 0 ∷ 0 ∷ 0 ∷ 0 ∷ []) (54 ∷ 5 ∷ 55 ∷ 5 ∷ 56 ∷ 4 ∷ 57 ∷ 1 ∷ []) 0x102 ([]) (56 ∷ 0 ∷ 57 ∷ 0 ∷ [])
+row-604 = calls called 12 (0x123456789abcdef0 ∷ 0 ∷ 0 ∷ 0 ∷ 0 ∷ []) (54 ∷ 1 ∷ 55 ∷ 7 ∷ 56 ∷ 2 ∷ 57 ∷ 0 ∷ []) 0x40 ([]) (7 ∷ 0xdef0 ∷ 54 ∷ 0 ∷ [])
 
 abbrev row-605 : Bool
-row-605 = calls called 6 (3 ∷ 8 ∷ 0x80004000 ∷ 0 ∷ 0 ∷ []) (54 ∷ 5 ∷ 55 ∷ 5 ∷ 56 ∷ 4 ∷ 57 ∷ 1 ∷ []) 0x102 ([]) (56 ∷ 0 ∷ 57 ∷ 0 ∷ [])
+row-605 = calls called 12 (0x123456776543210 ∷ 0 ∷ 0 ∷ 0 ∷ 0 ∷ []) (54 ∷ 1 ∷ 55 ∷ 7 ∷ 56 ∷ 2 ∷ 57 ∷ 0 ∷ []) 0x40 ([]) (7 ∷ 0x3210 ∷ 54 ∷ 0 ∷ [])
 
 abbrev row-606 : Bool
-row-606 = calls called 6 (2 ∷ 8 ∷ 0x80004000 ∷ 0 ∷ 0 ∷ []) (54 ∷ 5 ∷ 55 ∷ 5 ∷ 56 ∷ 4 ∷ 57 ∷ 1 ∷ []) 0x102 ([]) (56 ∷ 0 ∷ 57 ∷ 0 ∷ [])
+row-606 = calls called 12 (0x123456789abcdef0 ∷ 0 ∷ 0 ∷ 0 ∷ 0 ∷ []) (54 ∷ 1 ∷ 55 ∷ 7 ∷ 56 ∷ 4 ∷ 57 ∷ 1 ∷ []) 0x40 ([]) (7 ∷ 0xffffffff9abcdef0 ∷ 54 ∷ 0 ∷ [])
 
 abbrev row-607 : Bool
-row-607 = calls called 7 (0x8000000000000001 ∷ 1 ∷ 0 ∷ 0 ∷ 0 ∷ []) (54 ∷ 5 ∷ 55 ∷ 5 ∷ 56 ∷ 4 ∷ 57 ∷ 1 ∷ []) 0x102 ([]) (56 ∷ 0 ∷ 57 ∷ 0 ∷ [])
+row-607 = calls called 12 (0x123456776543210 ∷ 0 ∷ 0 ∷ 0 ∷ 0 ∷ []) (54 ∷ 1 ∷ 55 ∷ 7 ∷ 56 ∷ 4 ∷ 57 ∷ 1 ∷ []) 0x40 ([]) (7 ∷ 0x76543210 ∷ 54 ∷ 0 ∷ [])
 
 abbrev row-608 : Bool
-row-608 = calls called 7 (3 ∷ 1 ∷ 0 ∷ 0 ∷ 0 ∷ []) (54 ∷ 5 ∷ 55 ∷ 5 ∷ 56 ∷ 4 ∷ 57 ∷ 1 ∷ []) 0x102 ([]) (56 ∷ 0 ∷ 57 ∷ 0 ∷ [])
+row-608 = calls called 12 (0x123456789abcdef0 ∷ 0 ∷ 0 ∷ 0 ∷ 0 ∷ []) (54 ∷ 1 ∷ 55 ∷ 7 ∷ 56 ∷ 4 ∷ 57 ∷ 0 ∷ []) 0x40 ([]) (7 ∷ 0x9abcdef0 ∷ 54 ∷ 0 ∷ [])
 
 abbrev row-609 : Bool
-row-609 = calls called 8 (0x404 ∷ 0 ∷ 0 ∷ 0 ∷ 0 ∷ []) (54 ∷ 5 ∷ 55 ∷ 5 ∷ 56 ∷ 4 ∷ 57 ∷ 1 ∷ []) 0x102 ([]) (56 ∷ 0 ∷ 57 ∷ 0 ∷ [])
+row-609 = calls called 12 (0x123456776543210 ∷ 0 ∷ 0 ∷ 0 ∷ 0 ∷ []) (54 ∷ 1 ∷ 55 ∷ 7 ∷ 56 ∷ 4 ∷ 57 ∷ 0 ∷ []) 0x40 ([]) (7 ∷ 0x76543210 ∷ 54 ∷ 0 ∷ [])
 
 abbrev row-610 : Bool
-row-610 = calls called 9 (0 ∷ 1 ∷ 0 ∷ 0 ∷ 0 ∷ []) (54 ∷ 5 ∷ 55 ∷ 5 ∷ 56 ∷ 4 ∷ 57 ∷ 1 ∷ []) 0x102 ([]) (56 ∷ 0 ∷ 57 ∷ 0 ∷ [])
+row-610 = calls called 12 (0x123456789abcdef0 ∷ 0 ∷ 0 ∷ 0 ∷ 0 ∷ []) (54 ∷ 1 ∷ 55 ∷ 7 ∷ 56 ∷ 8 ∷ 57 ∷ 1 ∷ []) 0x40 ([]) (7 ∷ 0x123456789abcdef0 ∷ 54 ∷ 0 ∷ [])
 
 abbrev row-611 : Bool
-row-611 = calls called 9 (1 ∷ 1 ∷ 0 ∷ 0 ∷ 0 ∷ []) (54 ∷ 5 ∷ 55 ∷ 5 ∷ 56 ∷ 4 ∷ 57 ∷ 1 ∷ []) 0x102 ([]) (56 ∷ 0 ∷ 57 ∷ 0 ∷ [])
+row-611 = calls called 12 (0x123456776543210 ∷ 0 ∷ 0 ∷ 0 ∷ 0 ∷ []) (54 ∷ 1 ∷ 55 ∷ 7 ∷ 56 ∷ 8 ∷ 57 ∷ 1 ∷ []) 0x40 ([]) (7 ∷ 0x123456776543210 ∷ 54 ∷ 0 ∷ [])
 
 abbrev row-612 : Bool
-row-612 = gives (fresh 14 (5 ∷ 6 ∷ 0 ∷ 0 ∷ 0 ∷ [])) (54 ∷ 5 ∷ 55 ∷ 5 ∷ 56 ∷ 4 ∷ 57 ∷ 1 ∷ []) 0x40 ([]) (0 ∷ 0 ∷ 1 ∷ 0 ∷ 2 ∷ 0 ∷ 3 ∷ 0 ∷ 4 ∷ 0 ∷ 5 ∷ 0 ∷ 6 ∷ 0 ∷ 7 ∷ 0 ∷ 8 ∷ 0 ∷ 9 ∷ 0 ∷ 10 ∷ 5 ∷ 11 ∷ 6 ∷ 12 ∷ 0 ∷ 13 ∷ 0 ∷ 14 ∷ 0 ∷ 15 ∷ 0 ∷ 16 ∷ 0 ∷ 17 ∷ 0 ∷ 18 ∷ 0 ∷ 19 ∷ 0 ∷ 20 ∷ 0 ∷ 21 ∷ 0 ∷ 22 ∷ 0 ∷ 23 ∷ 0 ∷ 24 ∷ 0 ∷ 25 ∷ 0 ∷ 26 ∷ 0 ∷ 27 ∷ 0 ∷ 28 ∷ 0 ∷ 29 ∷ 0 ∷ 30 ∷ 0 ∷ 31 ∷ 0 ∷ 32 ∷ 0 ∷ 33 ∷ 0 ∷ 34 ∷ 0 ∷ 35 ∷ 0 ∷ 36 ∷ 0 ∷ 37 ∷ 0 ∷ 38 ∷ 0 ∷ 39 ∷ 0 ∷ 40 ∷ 0 ∷ 41 ∷ 0 ∷ 42 ∷ 0 ∷ 43 ∷ 0 ∷ 44 ∷ 0 ∷ 45 ∷ 0 ∷ 46 ∷ 0 ∷ 47 ∷ 0 ∷ 48 ∷ 0 ∷ 49 ∷ 0 ∷ 50 ∷ 0 ∷ 51 ∷ 0 ∷ 52 ∷ 0 ∷ 53 ∷ 0 ∷ 54 ∷ 0 ∷ 55 ∷ 0 ∷ 56 ∷ 0 ∷ 57 ∷ 0 ∷ [])
+row-612 = calls called 12 (0x123456789abcdef0 ∷ 0 ∷ 0 ∷ 0 ∷ 0 ∷ []) (54 ∷ 1 ∷ 55 ∷ 7 ∷ 56 ∷ 8 ∷ 57 ∷ 0 ∷ []) 0x40 ([]) (7 ∷ 0x123456789abcdef0 ∷ 54 ∷ 0 ∷ [])
 
 abbrev row-613 : Bool
-row-613 = calls called 2 (0x80200000 ∷ 0 ∷ 0 ∷ 0 ∷ 0 ∷ []) (54 ∷ 0xc ∷ 55 ∷ 5 ∷ 56 ∷ 4 ∷ 57 ∷ 1 ∷ []) 0x102 ([]) (55 ∷ 0 ∷ 56 ∷ 0 ∷ 57 ∷ 0 ∷ [])
+row-613 = calls called 12 (0x123456776543210 ∷ 0 ∷ 0 ∷ 0 ∷ 0 ∷ []) (54 ∷ 1 ∷ 55 ∷ 7 ∷ 56 ∷ 8 ∷ 57 ∷ 0 ∷ []) 0x40 ([]) (7 ∷ 0x123456776543210 ∷ 54 ∷ 0 ∷ [])
 
 abbrev row-614 : Bool
-row-614 = calls called 3 (7 ∷ 0 ∷ 0 ∷ 0 ∷ 0 ∷ []) (54 ∷ 0xc ∷ 55 ∷ 5 ∷ 56 ∷ 4 ∷ 57 ∷ 1 ∷ []) 0x41 (0 ∷ 0x91a2b3c4d5e6f78 ∷ []) (55 ∷ 0 ∷ 56 ∷ 0 ∷ 57 ∷ 0 ∷ [])
+row-614 = calls called 12 (0x123456789abcdef0 ∷ 0 ∷ 0 ∷ 0 ∷ 0 ∷ []) (54 ∷ 1 ∷ 55 ∷ 0 ∷ 56 ∷ 8 ∷ 57 ∷ 0 ∷ []) 0x40 ([]) (54 ∷ 0 ∷ [])
 
 abbrev row-615 : Bool
-row-615 = calls called 4 (7 ∷ 7 ∷ 0 ∷ 0 ∷ 0 ∷ []) (54 ∷ 0xc ∷ 55 ∷ 5 ∷ 56 ∷ 4 ∷ 57 ∷ 1 ∷ []) 0x102 ([]) (55 ∷ 0 ∷ 56 ∷ 0 ∷ 57 ∷ 0 ∷ [])
+row-615 = calls called 12 (0x123456776543210 ∷ 0 ∷ 0 ∷ 0 ∷ 0 ∷ []) (54 ∷ 1 ∷ 55 ∷ 0 ∷ 56 ∷ 8 ∷ 57 ∷ 0 ∷ []) 0x40 ([]) (54 ∷ 0 ∷ [])
 
 abbrev row-616 : Bool
-row-616 = calls called 3 (0x28 ∷ 0 ∷ 0 ∷ 0 ∷ 0 ∷ []) (54 ∷ 0xc ∷ 55 ∷ 5 ∷ 56 ∷ 4 ∷ 57 ∷ 1 ∷ []) 0x101 ([]) (55 ∷ 0 ∷ 56 ∷ 0 ∷ 57 ∷ 0 ∷ [])
+row-616 = calls called 12 (0x123456789abcdef0 ∷ 0 ∷ 0 ∷ 0 ∷ 0 ∷ []) (54 ∷ 1 ∷ 55 ∷ 0x1f ∷ 56 ∷ 8 ∷ 57 ∷ 0 ∷ []) 0x40 ([]) (31 ∷ 0x123456789abcdef0 ∷ 54 ∷ 0 ∷ [])
 
 abbrev row-617 : Bool
-row-617 = calls called 4 (0x28 ∷ 7 ∷ 0 ∷ 0 ∷ 0 ∷ []) (54 ∷ 0xc ∷ 55 ∷ 5 ∷ 56 ∷ 4 ∷ 57 ∷ 1 ∷ []) 0x102 ([]) (55 ∷ 0 ∷ 56 ∷ 0 ∷ 57 ∷ 0 ∷ [])
+row-617 = calls called 12 (0x123456776543210 ∷ 0 ∷ 0 ∷ 0 ∷ 0 ∷ []) (54 ∷ 1 ∷ 55 ∷ 0x1f ∷ 56 ∷ 8 ∷ 57 ∷ 0 ∷ []) 0x40 ([]) (31 ∷ 0x123456776543210 ∷ 54 ∷ 0 ∷ [])
 
 abbrev row-618 : Bool
-row-618 = calls called 5 (9 ∷ 0 ∷ 0 ∷ 0 ∷ 0 ∷ []) (54 ∷ 0xc ∷ 55 ∷ 5 ∷ 56 ∷ 4 ∷ 57 ∷ 1 ∷ []) 0x102 ([]) (55 ∷ 0 ∷ 56 ∷ 0 ∷ 57 ∷ 0 ∷ [])
+row-618 = calls called 12 (0x123456789abcdef0 ∷ 0 ∷ 0 ∷ 0 ∷ 0 ∷ []) (54 ∷ 1 ∷ 55 ∷ 0x20 ∷ 56 ∷ 8 ∷ 57 ∷ 0 ∷ []) 0x40 ([]) (54 ∷ 0 ∷ [])
 
 abbrev row-619 : Bool
-row-619 = calls called 6 (3 ∷ 8 ∷ 0x80004000 ∷ 0 ∷ 0 ∷ []) (54 ∷ 0xc ∷ 55 ∷ 5 ∷ 56 ∷ 4 ∷ 57 ∷ 1 ∷ []) 0x102 ([]) (55 ∷ 0 ∷ 56 ∷ 0 ∷ 57 ∷ 0 ∷ [])
+row-619 = calls called 12 (0x123456776543210 ∷ 0 ∷ 0 ∷ 0 ∷ 0 ∷ []) (54 ∷ 1 ∷ 55 ∷ 0x20 ∷ 56 ∷ 8 ∷ 57 ∷ 0 ∷ []) 0x40 ([]) (54 ∷ 0 ∷ [])
 
 abbrev row-620 : Bool
-row-620 = calls called 6 (2 ∷ 8 ∷ 0x80004000 ∷ 0 ∷ 0 ∷ []) (54 ∷ 0xc ∷ 55 ∷ 5 ∷ 56 ∷ 4 ∷ 57 ∷ 1 ∷ []) 0x102 ([]) (55 ∷ 0 ∷ 56 ∷ 0 ∷ 57 ∷ 0 ∷ [])
+row-620 = calls called 2 (0x80200000 ∷ 0 ∷ 0 ∷ 0 ∷ 0 ∷ []) (54 ∷ 1 ∷ 55 ∷ 5 ∷ 56 ∷ 4 ∷ 57 ∷ 1 ∷ []) 0x40 ([]) (32 ∷ 0x80200000 ∷ [])
 
 abbrev row-621 : Bool
-row-621 = calls called 7 (0x8000000000000001 ∷ 1 ∷ 0 ∷ 0 ∷ 0 ∷ []) (54 ∷ 0xc ∷ 55 ∷ 5 ∷ 56 ∷ 4 ∷ 57 ∷ 1 ∷ []) 0x102 ([]) (55 ∷ 0 ∷ 56 ∷ 0 ∷ 57 ∷ 0 ∷ [])
+row-621 = calls called 3 (7 ∷ 0 ∷ 0 ∷ 0 ∷ 0 ∷ []) (54 ∷ 1 ∷ 55 ∷ 5 ∷ 56 ∷ 4 ∷ 57 ∷ 1 ∷ []) 0x41 (0 ∷ 0x91a2b3c4d5e6f78 ∷ []) ([])
 
 abbrev row-622 : Bool
-row-622 = calls called 7 (3 ∷ 1 ∷ 0 ∷ 0 ∷ 0 ∷ []) (54 ∷ 0xc ∷ 55 ∷ 5 ∷ 56 ∷ 4 ∷ 57 ∷ 1 ∷ []) 0x102 ([]) (55 ∷ 0 ∷ 56 ∷ 0 ∷ 57 ∷ 0 ∷ [])
+row-622 = calls called 4 (7 ∷ 7 ∷ 0 ∷ 0 ∷ 0 ∷ []) (54 ∷ 1 ∷ 55 ∷ 5 ∷ 56 ∷ 4 ∷ 57 ∷ 1 ∷ []) 0x40 ([]) (7 ∷ 7 ∷ [])
 
 abbrev row-623 : Bool
-row-623 = calls called 8 (0x404 ∷ 0 ∷ 0 ∷ 0 ∷ 0 ∷ []) (54 ∷ 0xc ∷ 55 ∷ 5 ∷ 56 ∷ 4 ∷ 57 ∷ 1 ∷ []) 0x102 ([]) (55 ∷ 0 ∷ 56 ∷ 0 ∷ 57 ∷ 0 ∷ [])
+row-623 = calls called 3 (0x28 ∷ 0 ∷ 0 ∷ 0 ∷ 0 ∷ []) (54 ∷ 1 ∷ 55 ∷ 5 ∷ 56 ∷ 4 ∷ 57 ∷ 1 ∷ []) 0x101 ([]) ([])
 
 abbrev row-624 : Bool
-row-624 = calls called 9 (0 ∷ 1 ∷ 0 ∷ 0 ∷ 0 ∷ []) (54 ∷ 0xc ∷ 55 ∷ 5 ∷ 56 ∷ 4 ∷ 57 ∷ 1 ∷ []) 0x102 ([]) (55 ∷ 0 ∷ 56 ∷ 0 ∷ 57 ∷ 0 ∷ [])
+row-624 = calls called 4 (0x28 ∷ 7 ∷ 0 ∷ 0 ∷ 0 ∷ []) (54 ∷ 1 ∷ 55 ∷ 5 ∷ 56 ∷ 4 ∷ 57 ∷ 1 ∷ []) 0x101 ([]) ([])
 
 abbrev row-625 : Bool
-row-625 = calls called 9 (1 ∷ 1 ∷ 0 ∷ 0 ∷ 0 ∷ []) (54 ∷ 0xc ∷ 55 ∷ 5 ∷ 56 ∷ 4 ∷ 57 ∷ 1 ∷ []) 0x102 ([]) (55 ∷ 0 ∷ 56 ∷ 0 ∷ 57 ∷ 0 ∷ [])
+row-625 = calls called 5 (9 ∷ 0 ∷ 0 ∷ 0 ∷ 0 ∷ []) (54 ∷ 1 ∷ 55 ∷ 5 ∷ 56 ∷ 4 ∷ 57 ∷ 1 ∷ []) 0x40 ([]) (10 ∷ 9 ∷ [])
 
 abbrev row-626 : Bool
-row-626 = gives (fresh 14 (5 ∷ 6 ∷ 0 ∷ 0 ∷ 0 ∷ [])) (54 ∷ 0xc ∷ 55 ∷ 5 ∷ 56 ∷ 4 ∷ 57 ∷ 1 ∷ []) 0x40 ([]) (0 ∷ 0 ∷ 1 ∷ 0 ∷ 2 ∷ 0 ∷ 3 ∷ 0 ∷ 4 ∷ 0 ∷ 5 ∷ 0 ∷ 6 ∷ 0 ∷ 7 ∷ 0 ∷ 8 ∷ 0 ∷ 9 ∷ 0 ∷ 10 ∷ 5 ∷ 11 ∷ 6 ∷ 12 ∷ 0 ∷ 13 ∷ 0 ∷ 14 ∷ 0 ∷ 15 ∷ 0 ∷ 16 ∷ 0 ∷ 17 ∷ 0 ∷ 18 ∷ 0 ∷ 19 ∷ 0 ∷ 20 ∷ 0 ∷ 21 ∷ 0 ∷ 22 ∷ 0 ∷ 23 ∷ 0 ∷ 24 ∷ 0 ∷ 25 ∷ 0 ∷ 26 ∷ 0 ∷ 27 ∷ 0 ∷ 28 ∷ 0 ∷ 29 ∷ 0 ∷ 30 ∷ 0 ∷ 31 ∷ 0 ∷ 32 ∷ 0 ∷ 33 ∷ 0 ∷ 34 ∷ 0 ∷ 35 ∷ 0 ∷ 36 ∷ 0 ∷ 37 ∷ 0 ∷ 38 ∷ 0 ∷ 39 ∷ 0 ∷ 40 ∷ 0 ∷ 41 ∷ 0 ∷ 42 ∷ 0 ∷ 43 ∷ 0 ∷ 44 ∷ 0 ∷ 45 ∷ 0 ∷ 46 ∷ 0 ∷ 47 ∷ 0 ∷ 48 ∷ 0 ∷ 49 ∷ 0 ∷ 50 ∷ 0 ∷ 51 ∷ 0 ∷ 52 ∷ 0 ∷ 53 ∷ 0 ∷ 54 ∷ 0 ∷ 55 ∷ 0 ∷ 56 ∷ 0 ∷ 57 ∷ 0 ∷ [])
+row-626 = calls called 6 (3 ∷ 8 ∷ 0x80004000 ∷ 0 ∷ 0 ∷ []) (54 ∷ 1 ∷ 55 ∷ 5 ∷ 56 ∷ 4 ∷ 57 ∷ 1 ∷ []) 0x40 ([]) (44 ∷ 0x8000000000080004 ∷ [])
 
-rows-626 : T (both row-0 (both row-1 (both row-2 (both row-3 (both row-4 (both row-5 (both row-6 (both row-7 (both row-8 (both row-9 (both row-10 (both row-11 (both row-12 (both row-13 (both row-14 (both row-15 (both row-16 (both row-17 (both row-18 (both row-19 (both row-20 (both row-21 (both row-22 (both row-23 (both row-24 (both row-25 (both row-26 (both row-27 (both row-28 (both row-29 (both row-30 (both row-31 (both row-32 (both row-33 (both row-34 (both row-35 (both row-36 (both row-37 (both row-38 (both row-39 (both row-40 (both row-41 (both row-42 (both row-43 (both row-44 (both row-45 (both row-46 (both row-47 (both row-48 (both row-49 (both row-50 (both row-51 (both row-52 (both row-53 (both row-54 (both row-55 (both row-56 (both row-57 (both row-58 (both row-59 (both row-60 (both row-61 (both row-62 (both row-63 (both row-64 (both row-65 (both row-66 (both row-67 (both row-68 (both row-69 (both row-70 (both row-71 (both row-72 (both row-73 (both row-74 (both row-75 (both row-76 (both row-77 (both row-78 (both row-79 (both row-80 (both row-81 (both row-82 (both row-83 (both row-84 (both row-85 (both row-86 (both row-87 (both row-88 (both row-89 (both row-90 (both row-91 (both row-92 (both row-93 (both row-94 (both row-95 (both row-96 (both row-97 (both row-98 (both row-99 (both row-100 (both row-101 (both row-102 (both row-103 (both row-104 (both row-105 (both row-106 (both row-107 (both row-108 (both row-109 (both row-110 (both row-111 (both row-112 (both row-113 (both row-114 (both row-115 (both row-116 (both row-117 (both row-118 (both row-119 (both row-120 (both row-121 (both row-122 (both row-123 (both row-124 (both row-125 (both row-126 (both row-127 (both row-128 (both row-129 (both row-130 (both row-131 (both row-132 (both row-133 (both row-134 (both row-135 (both row-136 (both row-137 (both row-138 (both row-139 (both row-140 (both row-141 (both row-142 (both row-143 (both row-144 (both row-145 (both row-146 (both row-147 (both row-148 (both row-149 (both row-150 (both row-151 (both row-152 (both row-153 (both row-154 (both row-155 (both row-156 (both row-157 (both row-158 (both row-159 (both row-160 (both row-161 (both row-162 (both row-163 (both row-164 (both row-165 (both row-166 (both row-167 (both row-168 (both row-169 (both row-170 (both row-171 (both row-172 (both row-173 (both row-174 (both row-175 (both row-176 (both row-177 (both row-178 (both row-179 (both row-180 (both row-181 (both row-182 (both row-183 (both row-184 (both row-185 (both row-186 (both row-187 (both row-188 (both row-189 (both row-190 (both row-191 (both row-192 (both row-193 (both row-194 (both row-195 (both row-196 (both row-197 (both row-198 (both row-199 (both row-200 (both row-201 (both row-202 (both row-203 (both row-204 (both row-205 (both row-206 (both row-207 (both row-208 (both row-209 (both row-210 (both row-211 (both row-212 (both row-213 (both row-214 (both row-215 (both row-216 (both row-217 (both row-218 (both row-219 (both row-220 (both row-221 (both row-222 (both row-223 (both row-224 (both row-225 (both row-226 (both row-227 (both row-228 (both row-229 (both row-230 (both row-231 (both row-232 (both row-233 (both row-234 (both row-235 (both row-236 (both row-237 (both row-238 (both row-239 (both row-240 (both row-241 (both row-242 (both row-243 (both row-244 (both row-245 (both row-246 (both row-247 (both row-248 (both row-249 (both row-250 (both row-251 (both row-252 (both row-253 (both row-254 (both row-255 (both row-256 (both row-257 (both row-258 (both row-259 (both row-260 (both row-261 (both row-262 (both row-263 (both row-264 (both row-265 (both row-266 (both row-267 (both row-268 (both row-269 (both row-270 (both row-271 (both row-272 (both row-273 (both row-274 (both row-275 (both row-276 (both row-277 (both row-278 (both row-279 (both row-280 (both row-281 (both row-282 (both row-283 (both row-284 (both row-285 (both row-286 (both row-287 (both row-288 (both row-289 (both row-290 (both row-291 (both row-292 (both row-293 (both row-294 (both row-295 (both row-296 (both row-297 (both row-298 (both row-299 (both row-300 (both row-301 (both row-302 (both row-303 (both row-304 (both row-305 (both row-306 (both row-307 (both row-308 (both row-309 (both row-310 (both row-311 (both row-312 (both row-313 (both row-314 (both row-315 (both row-316 (both row-317 (both row-318 (both row-319 (both row-320 (both row-321 (both row-322 (both row-323 (both row-324 (both row-325 (both row-326 (both row-327 (both row-328 (both row-329 (both row-330 (both row-331 (both row-332 (both row-333 (both row-334 (both row-335 (both row-336 (both row-337 (both row-338 (both row-339 (both row-340 (both row-341 (both row-342 (both row-343 (both row-344 (both row-345 (both row-346 (both row-347 (both row-348 (both row-349 (both row-350 (both row-351 (both row-352 (both row-353 (both row-354 (both row-355 (both row-356 (both row-357 (both row-358 (both row-359 (both row-360 (both row-361 (both row-362 (both row-363 (both row-364 (both row-365 (both row-366 (both row-367 (both row-368 (both row-369 (both row-370 (both row-371 (both row-372 (both row-373 (both row-374 (both row-375 (both row-376 (both row-377 (both row-378 (both row-379 (both row-380 (both row-381 (both row-382 (both row-383 (both row-384 (both row-385 (both row-386 (both row-387 (both row-388 (both row-389 (both row-390 (both row-391 (both row-392 (both row-393 (both row-394 (both row-395 (both row-396 (both row-397 (both row-398 (both row-399 (both row-400 (both row-401 (both row-402 (both row-403 (both row-404 (both row-405 (both row-406 (both row-407 (both row-408 (both row-409 (both row-410 (both row-411 (both row-412 (both row-413 (both row-414 (both row-415 (both row-416 (both row-417 (both row-418 (both row-419 (both row-420 (both row-421 (both row-422 (both row-423 (both row-424 (both row-425 (both row-426 (both row-427 (both row-428 (both row-429 (both row-430 (both row-431 (both row-432 (both row-433 (both row-434 (both row-435 (both row-436 (both row-437 (both row-438 (both row-439 (both row-440 (both row-441 (both row-442 (both row-443 (both row-444 (both row-445 (both row-446 (both row-447 (both row-448 (both row-449 (both row-450 (both row-451 (both row-452 (both row-453 (both row-454 (both row-455 (both row-456 (both row-457 (both row-458 (both row-459 (both row-460 (both row-461 (both row-462 (both row-463 (both row-464 (both row-465 (both row-466 (both row-467 (both row-468 (both row-469 (both row-470 (both row-471 (both row-472 (both row-473 (both row-474 (both row-475 (both row-476 (both row-477 (both row-478 (both row-479 (both row-480 (both row-481 (both row-482 (both row-483 (both row-484 (both row-485 (both row-486 (both row-487 (both row-488 (both row-489 (both row-490 (both row-491 (both row-492 (both row-493 (both row-494 (both row-495 (both row-496 (both row-497 (both row-498 (both row-499 (both row-500 (both row-501 (both row-502 (both row-503 (both row-504 (both row-505 (both row-506 (both row-507 (both row-508 (both row-509 (both row-510 (both row-511 (both row-512 (both row-513 (both row-514 (both row-515 (both row-516 (both row-517 (both row-518 (both row-519 (both row-520 (both row-521 (both row-522 (both row-523 (both row-524 (both row-525 (both row-526 (both row-527 (both row-528 (both row-529 (both row-530 (both row-531 (both row-532 (both row-533 (both row-534 (both row-535 (both row-536 (both row-537 (both row-538 (both row-539 (both row-540 (both row-541 (both row-542 (both row-543 (both row-544 (both row-545 (both row-546 (both row-547 (both row-548 (both row-549 (both row-550 (both row-551 (both row-552 (both row-553 (both row-554 (both row-555 (both row-556 (both row-557 (both row-558 (both row-559 (both row-560 (both row-561 (both row-562 (both row-563 (both row-564 (both row-565 (both row-566 (both row-567 (both row-568 (both row-569 (both row-570 (both row-571 (both row-572 (both row-573 (both row-574 (both row-575 (both row-576 (both row-577 (both row-578 (both row-579 (both row-580 (both row-581 (both row-582 (both row-583 (both row-584 (both row-585 (both row-586 (both row-587 (both row-588 (both row-589 (both row-590 (both row-591 (both row-592 (both row-593 (both row-594 (both row-595 (both row-596 (both row-597 (both row-598 (both row-599 (both row-600 (both row-601 (both row-602 (both row-603 (both row-604 (both row-605 (both row-606 (both row-607 (both row-608 (both row-609 (both row-610 (both row-611 (both row-612 (both row-613 (both row-614 (both row-615 (both row-616 (both row-617 (both row-618 (both row-619 (both row-620 (both row-621 (both row-622 (both row-623 (both row-624 (both row-625 (both row-626 (true))))))))))))))))))))))))))))))))))))))))))))))))))))))))))))))))))))))))))))))))))))))))))))))))))))))))))))))))))))))))))))))))))))))))))))))))))))))))))))))))))))))))))))))))))))))))))))))))))))))))))))))))))))))))))))))))))))))))))))))))))))))))))))))))))))))))))))))))))))))))))))))))))))))))))))))))))))))))))))))))))))))))))))))))))))))))))))))))))))))))))))))))))))))))))))))))))))))))))))))))))))))))))))))))))))))))))))))))))))))))))))))))))))))))))))))))))))))))))))))))))))))))))))))))))))))))))))))))))))))))))))))))))))))))))))))))))))))))))))))))))))))))))))))))))))))))))))))))))))))))))))))))))))))))))))))))))))
-unfolding theIsaConstsTraps.supervisorExternal theIsaConstsTraps.knownInterrupt theIsaConstsTraps.knownException theIsaConstsTraps.knownCause theIsaDecoderDecode.loadOf theIsaDecoderDecode.storeOf theIsaDecoderDecode.decodeBy theIsaDecoderDecode.decodeOf theIsaDecoderLength.transformedOf theIsaDecoderLength.htinstOf theIsaDecoderLength.fetchedOf theIsaDecoderLength.opSource theIsaDecoderLength.storeSource theIsaExtensionExtend.widthBits theIsaExtensionExtend.signedBy theIsaExtensionExtend.extendBy theIsaExtensionExtend.cutOf theIsaExtensionExtend.extendOf theIsaFieldsFields.opcodeField theIsaFieldsFields.rdField theIsaFieldsFields.funct3Field theIsaFieldsFields.rs1Field theIsaFieldsFields.rs2Field theIsaFieldsFields.csrField theIsaRegistersBits.spvpOf theIsaRegistersBits.sieOf theIsaRegistersBits.withBits theIsaRegistersValues.hgatpOf theIsaRegistersValues.guestPageFaultAddr theIsaRegistersValues.delegatedExceptions theIsaRegistersValues.delegatedInterrupts theScopeOneTrap.widthBytes theScopeOneTrap.accessNumber theScopeOneTrap.exitNumber theScopeOneTrap.askNumber theScopeOneTrap.answerNumber theScopeOneTrap.fetchNumber theScopeOneTrap.abiNumber theScopeOneTrap.flagOf theScopeOneTrap.exitValues theScopeOneTrap.askValues theScopeOneTrap.fetchValue theScopeOneTrap.answerValues theScopeOneTrap.fetchOf theScopeOneTrap.answerFor theScopeAnswers.wordEffect theScopeAnswers.fetchEffect theScopeAnswers.numbersEffect theScopeAnswers.fittingEffect theScopeAnswers.answerEffect theScopeRefusals.errorNumber theScopeRefusals.finishedOf theScopeRefusals.askingOf theScopeRefusals.failedOf theScopeRefusals.leavesOf theScopeRefusals.refusedOf theScopeRefusals.doneOf theScopeRefusals.unlessAsking theScopeRecord.valueOf theScopeRecord.stored theScopeRecord.moved theScopeRecord.timed theScopeRecord.pended theScopeRecord.eventNumber theScopeRecord.bumped theScopeRecord.counted theScopeRecord.ecallAskNumber theScopeRecord.waitingAsk theScopeRecord.isIdle theScopeRecord.listed theScopeRecord.applied theScopeRecord.noArgs theScopeHost.setupCsrs theScopeHost.entryCsrs theScopeHost.writeEffect theScopeHost.tableCsrs theScopeHost.pagingBy theScopeHost.pagingEffect theScopeHost.pendingEffect theScopeHost.ipiWrites theScopeClasses.classOf theScopeClasses.argumentsOf theScopeClasses.classEffect theScopeClasses.startEffect theScopeEcalls.returnsOf theScopeEcalls.movesOf theScopeEcalls.givesOf theScopeEcalls.staysOf theScopeEcalls.asksOf theScopeEcalls.setTimerOf theScopeEcalls.clearIpiOf theScopeEcalls.hypercallOf theScopeEcalls.lesserOf theScopeEcalls.notSupportedEffect theScopeEcalls.forwardEffect theScopeEcalls.timeEffect theScopeEcalls.standardRequest theScopeEcalls.spiEffect theScopeEcalls.hsmEffect theScopeEcalls.srstEffect theScopeEcalls.spanEffect theScopeEcalls.consoleEffect theScopeEcalls.dbcnEffect theScopeEcalls.rfncEffect theScopeEcalls.ecallEffect theScopeEcalls.legacyRequest theScopeEcalls.maskEffect theScopeEcalls.copiedEffect theScopeEcalls.consoleReadEffect theScopeEcalls.copiedOutEffect theScopeEcalls.ecallAnswer theScopeEcalls.completionNumber theScopeVirtualInstruction.askFetchOf theScopeVirtualInstruction.setBits theScopeVirtualInstruction.clearBits theScopeVirtualInstruction.stimecmpBy theScopeVirtualInstruction.stimecmpWord theScopeVirtualInstruction.stimecmpStval theScopeVirtualInstruction.stimecmpEffect theScopeVirtualInstruction.virtualEffect theScopeVirtualInstruction.missedOf theScopeVirtualInstruction.trapStatusOf theScopeVirtualInstruction.injectedOf theScopeVirtualInstruction.missedEffect theScopeGuestPageFault.loadUnder theScopeGuestPageFault.storeUnder theScopeGuestPageFault.faultOf theScopeGuestPageFault.faultEffect theScopeGuestPageFault.mmioOf theScopeGuestPageFault.pageFaultOf theScopeGuestPageFault.completedOf theScopeCalls.newOf theScopeCalls.gprReply theScopeCalls.effectOf theScopeCalls.calledOf theScopeCalls.askedCount theScopeCalls.printCount theScopeCalls.firstOf theScopeCalls.printedOf theScopeWords.tested theScopeWords.widthOf theScopeWords.accessOf theScopeWords.abiOf theScopeWords.completionOf theScopeWords.waitingBy theScopeWords.waitingOf theScopeWords.askedWords theScopeWords.waitingWords theScopeWords.csrsOf theScopeWords.csrsWords theScopeWords.unpackOf theScopeWords.packOf theScopeWords.answerBy theScopeWords.callBy theWordsCallWords.callOf theWordsCallWords.replyKind theWordsCallWords.replyNumber theWordsCallWords.replyValues theWordsCallWords.afterOf theWordsEntryWords.exportedOf theInPlaceAnswerWords.answerWords theInPlaceEntryTrapCalls.startCall theInPlaceEntryTrapCalls.answerCall theInPlaceRecordView.recordOf theInPlaceRecordView.viewOf theInPlaceRecordView.replyWord theInPlaceRecordView.exitCount theInPlaceRecordView.askCount theInPlaceRecordView.besideOf theInPlaceRecordView.outOf theInPlaceRecordView.refusalWord theInPlaceRecordView.askedWordCount theInPlaceRecordView.waitingCount theInPlaceRecordView.trapLeaves theInPlaceRecordView.hostLeaves theInPlaceStartWords.trapWords
-rows-626 = tt
+abbrev row-627 : Bool
+row-627 = calls called 6 (2 ∷ 8 ∷ 0x80004000 ∷ 0 ∷ 0 ∷ []) (54 ∷ 1 ∷ 55 ∷ 5 ∷ 56 ∷ 4 ∷ 57 ∷ 1 ∷ []) 0x101 ([]) ([])
+
+abbrev row-628 : Bool
+row-628 = calls called 7 (0x8000000000000001 ∷ 1 ∷ 0 ∷ 0 ∷ 0 ∷ []) (54 ∷ 1 ∷ 55 ∷ 5 ∷ 56 ∷ 4 ∷ 57 ∷ 1 ∷ []) 0x40 ([]) ([])
+
+abbrev row-629 : Bool
+row-629 = calls called 7 (3 ∷ 1 ∷ 0 ∷ 0 ∷ 0 ∷ []) (54 ∷ 1 ∷ 55 ∷ 5 ∷ 56 ∷ 4 ∷ 57 ∷ 1 ∷ []) 0x101 ([]) ([])
+
+abbrev row-630 : Bool
+row-630 = calls called 8 (0x404 ∷ 0 ∷ 0 ∷ 0 ∷ 0 ∷ []) (54 ∷ 1 ∷ 55 ∷ 5 ∷ 56 ∷ 4 ∷ 57 ∷ 1 ∷ []) 0x40 ([]) ([])
+
+abbrev row-631 : Bool
+row-631 = calls called 9 (0 ∷ 0xfffffffffffffffd ∷ 0 ∷ 0 ∷ 0 ∷ []) (54 ∷ 1 ∷ 55 ∷ 5 ∷ 56 ∷ 4 ∷ 57 ∷ 1 ∷ []) 0x40 ([]) (10 ∷ 0xfffffffffffffffd ∷ [])
+
+abbrev row-632 : Bool
+row-632 = calls called 9 (1 ∷ 0xfffffffffffffffd ∷ 0 ∷ 0 ∷ 0 ∷ []) (54 ∷ 1 ∷ 55 ∷ 5 ∷ 56 ∷ 4 ∷ 57 ∷ 1 ∷ []) 0x40 ([]) (10 ∷ 0xfffffffffffffffd ∷ 11 ∷ 0 ∷ [])
+
+abbrev row-633 : Bool
+row-633 = calls called 14 (5 ∷ 6 ∷ 0 ∷ 0 ∷ 0 ∷ []) (54 ∷ 1 ∷ 55 ∷ 5 ∷ 56 ∷ 4 ∷ 57 ∷ 1 ∷ []) 0x40 ([]) (0 ∷ 0 ∷ 1 ∷ 0 ∷ 2 ∷ 0 ∷ 3 ∷ 0 ∷ 4 ∷ 0 ∷ 5 ∷ 0 ∷ 6 ∷ 0 ∷ 7 ∷ 0 ∷ 8 ∷ 0 ∷ 9 ∷ 0 ∷ 10 ∷ 5 ∷ 11 ∷ 6 ∷ 12 ∷ 0 ∷ 13 ∷ 0 ∷ 14 ∷ 0 ∷ 15 ∷ 0 ∷ 16 ∷ 0 ∷ 17 ∷ 0 ∷ 18 ∷ 0 ∷ 19 ∷ 0 ∷ 20 ∷ 0 ∷ 21 ∷ 0 ∷ 22 ∷ 0 ∷ 23 ∷ 0 ∷ 24 ∷ 0 ∷ 25 ∷ 0 ∷ 26 ∷ 0 ∷ 27 ∷ 0 ∷ 28 ∷ 0 ∷ 29 ∷ 0 ∷ 30 ∷ 0 ∷ 31 ∷ 0 ∷ 32 ∷ 0 ∷ 33 ∷ 0 ∷ 34 ∷ 0 ∷ 35 ∷ 0 ∷ 36 ∷ 0 ∷ 37 ∷ 0 ∷ 38 ∷ 0 ∷ 39 ∷ 0 ∷ 40 ∷ 0 ∷ 41 ∷ 0 ∷ 42 ∷ 0 ∷ 43 ∷ 0 ∷ 44 ∷ 0 ∷ 45 ∷ 0 ∷ 46 ∷ 0 ∷ 47 ∷ 0 ∷ 48 ∷ 0 ∷ 49 ∷ 0 ∷ 50 ∷ 0 ∷ 51 ∷ 0 ∷ 52 ∷ 0 ∷ 53 ∷ 0 ∷ 54 ∷ 0 ∷ 55 ∷ 0 ∷ 56 ∷ 0 ∷ 57 ∷ 0 ∷ [])
+
+abbrev row-634 : Bool
+row-634 = calls called 2 (0x80200000 ∷ 0 ∷ 0 ∷ 0 ∷ 0 ∷ []) (54 ∷ 5 ∷ 55 ∷ 5 ∷ 56 ∷ 4 ∷ 57 ∷ 1 ∷ []) 0x102 ([]) ([])
+
+abbrev row-635 : Bool
+row-635 = calls called 3 (7 ∷ 0 ∷ 0 ∷ 0 ∷ 0 ∷ []) (54 ∷ 5 ∷ 55 ∷ 5 ∷ 56 ∷ 4 ∷ 57 ∷ 1 ∷ []) 0x41 (0 ∷ 0x91a2b3c4d5e6f78 ∷ []) ([])
+
+abbrev row-636 : Bool
+row-636 = calls called 4 (7 ∷ 7 ∷ 0 ∷ 0 ∷ 0 ∷ []) (54 ∷ 5 ∷ 55 ∷ 5 ∷ 56 ∷ 4 ∷ 57 ∷ 1 ∷ []) 0x102 ([]) ([])
+
+abbrev row-637 : Bool
+row-637 = calls called 3 (0x28 ∷ 0 ∷ 0 ∷ 0 ∷ 0 ∷ []) (54 ∷ 5 ∷ 55 ∷ 5 ∷ 56 ∷ 4 ∷ 57 ∷ 1 ∷ []) 0x101 ([]) ([])
+
+abbrev row-638 : Bool
+row-638 = calls called 4 (0x28 ∷ 7 ∷ 0 ∷ 0 ∷ 0 ∷ []) (54 ∷ 5 ∷ 55 ∷ 5 ∷ 56 ∷ 4 ∷ 57 ∷ 1 ∷ []) 0x102 ([]) ([])
+
+abbrev row-639 : Bool
+row-639 = calls called 5 (9 ∷ 0 ∷ 0 ∷ 0 ∷ 0 ∷ []) (54 ∷ 5 ∷ 55 ∷ 5 ∷ 56 ∷ 4 ∷ 57 ∷ 1 ∷ []) 0x102 ([]) ([])
+
+abbrev row-640 : Bool
+row-640 = calls called 6 (3 ∷ 8 ∷ 0x80004000 ∷ 0 ∷ 0 ∷ []) (54 ∷ 5 ∷ 55 ∷ 5 ∷ 56 ∷ 4 ∷ 57 ∷ 1 ∷ []) 0x102 ([]) ([])
+
+abbrev row-641 : Bool
+row-641 = calls called 6 (2 ∷ 8 ∷ 0x80004000 ∷ 0 ∷ 0 ∷ []) (54 ∷ 5 ∷ 55 ∷ 5 ∷ 56 ∷ 4 ∷ 57 ∷ 1 ∷ []) 0x102 ([]) ([])
+
+abbrev row-642 : Bool
+row-642 = calls called 7 (0x8000000000000001 ∷ 1 ∷ 0 ∷ 0 ∷ 0 ∷ []) (54 ∷ 5 ∷ 55 ∷ 5 ∷ 56 ∷ 4 ∷ 57 ∷ 1 ∷ []) 0x102 ([]) ([])
+
+abbrev row-643 : Bool
+row-643 = calls called 7 (3 ∷ 1 ∷ 0 ∷ 0 ∷ 0 ∷ []) (54 ∷ 5 ∷ 55 ∷ 5 ∷ 56 ∷ 4 ∷ 57 ∷ 1 ∷ []) 0x102 ([]) ([])
+
+abbrev row-644 : Bool
+row-644 = calls called 8 (0x404 ∷ 0 ∷ 0 ∷ 0 ∷ 0 ∷ []) (54 ∷ 5 ∷ 55 ∷ 5 ∷ 56 ∷ 4 ∷ 57 ∷ 1 ∷ []) 0x102 ([]) ([])
+
+abbrev row-645 : Bool
+row-645 = calls called 9 (0 ∷ 0xfffffffffffffffd ∷ 0 ∷ 0 ∷ 0 ∷ []) (54 ∷ 5 ∷ 55 ∷ 5 ∷ 56 ∷ 4 ∷ 57 ∷ 1 ∷ []) 0x102 ([]) ([])
+
+abbrev row-646 : Bool
+row-646 = calls called 9 (1 ∷ 0xfffffffffffffffd ∷ 0 ∷ 0 ∷ 0 ∷ []) (54 ∷ 5 ∷ 55 ∷ 5 ∷ 56 ∷ 4 ∷ 57 ∷ 1 ∷ []) 0x102 ([]) ([])
+
+abbrev row-647 : Bool
+row-647 = calls called 14 (5 ∷ 6 ∷ 0 ∷ 0 ∷ 0 ∷ []) (54 ∷ 5 ∷ 55 ∷ 5 ∷ 56 ∷ 4 ∷ 57 ∷ 1 ∷ []) 0x40 ([]) (0 ∷ 0 ∷ 1 ∷ 0 ∷ 2 ∷ 0 ∷ 3 ∷ 0 ∷ 4 ∷ 0 ∷ 5 ∷ 0 ∷ 6 ∷ 0 ∷ 7 ∷ 0 ∷ 8 ∷ 0 ∷ 9 ∷ 0 ∷ 10 ∷ 5 ∷ 11 ∷ 6 ∷ 12 ∷ 0 ∷ 13 ∷ 0 ∷ 14 ∷ 0 ∷ 15 ∷ 0 ∷ 16 ∷ 0 ∷ 17 ∷ 0 ∷ 18 ∷ 0 ∷ 19 ∷ 0 ∷ 20 ∷ 0 ∷ 21 ∷ 0 ∷ 22 ∷ 0 ∷ 23 ∷ 0 ∷ 24 ∷ 0 ∷ 25 ∷ 0 ∷ 26 ∷ 0 ∷ 27 ∷ 0 ∷ 28 ∷ 0 ∷ 29 ∷ 0 ∷ 30 ∷ 0 ∷ 31 ∷ 0 ∷ 32 ∷ 0 ∷ 33 ∷ 0 ∷ 34 ∷ 0 ∷ 35 ∷ 0 ∷ 36 ∷ 0 ∷ 37 ∷ 0 ∷ 38 ∷ 0 ∷ 39 ∷ 0 ∷ 40 ∷ 0 ∷ 41 ∷ 0 ∷ 42 ∷ 0 ∷ 43 ∷ 0 ∷ 44 ∷ 0 ∷ 45 ∷ 0 ∷ 46 ∷ 0 ∷ 47 ∷ 0 ∷ 48 ∷ 0 ∷ 49 ∷ 0 ∷ 50 ∷ 0 ∷ 51 ∷ 0 ∷ 52 ∷ 0 ∷ 53 ∷ 0 ∷ 54 ∷ 0 ∷ 55 ∷ 0 ∷ 56 ∷ 0 ∷ 57 ∷ 0 ∷ [])
+
+abbrev row-648 : Bool
+row-648 = calls called 2 (0x80200000 ∷ 0 ∷ 0 ∷ 0 ∷ 0 ∷ []) (54 ∷ 0xc ∷ 55 ∷ 5 ∷ 56 ∷ 4 ∷ 57 ∷ 1 ∷ []) 0x102 ([]) ([])
+
+abbrev row-649 : Bool
+row-649 = calls called 3 (7 ∷ 0 ∷ 0 ∷ 0 ∷ 0 ∷ []) (54 ∷ 0xc ∷ 55 ∷ 5 ∷ 56 ∷ 4 ∷ 57 ∷ 1 ∷ []) 0x41 (0 ∷ 0x91a2b3c4d5e6f78 ∷ []) ([])
+
+abbrev row-650 : Bool
+row-650 = calls called 4 (7 ∷ 7 ∷ 0 ∷ 0 ∷ 0 ∷ []) (54 ∷ 0xc ∷ 55 ∷ 5 ∷ 56 ∷ 4 ∷ 57 ∷ 1 ∷ []) 0x102 ([]) ([])
+
+abbrev row-651 : Bool
+row-651 = calls called 3 (0x28 ∷ 0 ∷ 0 ∷ 0 ∷ 0 ∷ []) (54 ∷ 0xc ∷ 55 ∷ 5 ∷ 56 ∷ 4 ∷ 57 ∷ 1 ∷ []) 0x101 ([]) ([])
+
+abbrev row-652 : Bool
+row-652 = calls called 4 (0x28 ∷ 7 ∷ 0 ∷ 0 ∷ 0 ∷ []) (54 ∷ 0xc ∷ 55 ∷ 5 ∷ 56 ∷ 4 ∷ 57 ∷ 1 ∷ []) 0x102 ([]) ([])
+
+abbrev row-653 : Bool
+row-653 = calls called 5 (9 ∷ 0 ∷ 0 ∷ 0 ∷ 0 ∷ []) (54 ∷ 0xc ∷ 55 ∷ 5 ∷ 56 ∷ 4 ∷ 57 ∷ 1 ∷ []) 0x102 ([]) ([])
+
+abbrev row-654 : Bool
+row-654 = calls called 6 (3 ∷ 8 ∷ 0x80004000 ∷ 0 ∷ 0 ∷ []) (54 ∷ 0xc ∷ 55 ∷ 5 ∷ 56 ∷ 4 ∷ 57 ∷ 1 ∷ []) 0x102 ([]) ([])
+
+abbrev row-655 : Bool
+row-655 = calls called 6 (2 ∷ 8 ∷ 0x80004000 ∷ 0 ∷ 0 ∷ []) (54 ∷ 0xc ∷ 55 ∷ 5 ∷ 56 ∷ 4 ∷ 57 ∷ 1 ∷ []) 0x102 ([]) ([])
+
+abbrev row-656 : Bool
+row-656 = calls called 7 (0x8000000000000001 ∷ 1 ∷ 0 ∷ 0 ∷ 0 ∷ []) (54 ∷ 0xc ∷ 55 ∷ 5 ∷ 56 ∷ 4 ∷ 57 ∷ 1 ∷ []) 0x102 ([]) ([])
+
+abbrev row-657 : Bool
+row-657 = calls called 7 (3 ∷ 1 ∷ 0 ∷ 0 ∷ 0 ∷ []) (54 ∷ 0xc ∷ 55 ∷ 5 ∷ 56 ∷ 4 ∷ 57 ∷ 1 ∷ []) 0x102 ([]) ([])
+
+abbrev row-658 : Bool
+row-658 = calls called 8 (0x404 ∷ 0 ∷ 0 ∷ 0 ∷ 0 ∷ []) (54 ∷ 0xc ∷ 55 ∷ 5 ∷ 56 ∷ 4 ∷ 57 ∷ 1 ∷ []) 0x102 ([]) ([])
+
+abbrev row-659 : Bool
+row-659 = calls called 9 (0 ∷ 0xfffffffffffffffd ∷ 0 ∷ 0 ∷ 0 ∷ []) (54 ∷ 0xc ∷ 55 ∷ 5 ∷ 56 ∷ 4 ∷ 57 ∷ 1 ∷ []) 0x102 ([]) ([])
+
+abbrev row-660 : Bool
+row-660 = calls called 9 (1 ∷ 0xfffffffffffffffd ∷ 0 ∷ 0 ∷ 0 ∷ []) (54 ∷ 0xc ∷ 55 ∷ 5 ∷ 56 ∷ 4 ∷ 57 ∷ 1 ∷ []) 0x102 ([]) ([])
+
+abbrev row-661 : Bool
+row-661 = calls called 14 (5 ∷ 6 ∷ 0 ∷ 0 ∷ 0 ∷ []) (54 ∷ 0xc ∷ 55 ∷ 5 ∷ 56 ∷ 4 ∷ 57 ∷ 1 ∷ []) 0x40 ([]) (0 ∷ 0 ∷ 1 ∷ 0 ∷ 2 ∷ 0 ∷ 3 ∷ 0 ∷ 4 ∷ 0 ∷ 5 ∷ 0 ∷ 6 ∷ 0 ∷ 7 ∷ 0 ∷ 8 ∷ 0 ∷ 9 ∷ 0 ∷ 10 ∷ 5 ∷ 11 ∷ 6 ∷ 12 ∷ 0 ∷ 13 ∷ 0 ∷ 14 ∷ 0 ∷ 15 ∷ 0 ∷ 16 ∷ 0 ∷ 17 ∷ 0 ∷ 18 ∷ 0 ∷ 19 ∷ 0 ∷ 20 ∷ 0 ∷ 21 ∷ 0 ∷ 22 ∷ 0 ∷ 23 ∷ 0 ∷ 24 ∷ 0 ∷ 25 ∷ 0 ∷ 26 ∷ 0 ∷ 27 ∷ 0 ∷ 28 ∷ 0 ∷ 29 ∷ 0 ∷ 30 ∷ 0 ∷ 31 ∷ 0 ∷ 32 ∷ 0 ∷ 33 ∷ 0 ∷ 34 ∷ 0 ∷ 35 ∷ 0 ∷ 36 ∷ 0 ∷ 37 ∷ 0 ∷ 38 ∷ 0 ∷ 39 ∷ 0 ∷ 40 ∷ 0 ∷ 41 ∷ 0 ∷ 42 ∷ 0 ∷ 43 ∷ 0 ∷ 44 ∷ 0 ∷ 45 ∷ 0 ∷ 46 ∷ 0 ∷ 47 ∷ 0 ∷ 48 ∷ 0 ∷ 49 ∷ 0 ∷ 50 ∷ 0 ∷ 51 ∷ 0 ∷ 52 ∷ 0 ∷ 53 ∷ 0 ∷ 54 ∷ 0 ∷ 55 ∷ 0 ∷ 56 ∷ 0 ∷ 57 ∷ 0 ∷ [])
+
+rows-661 : T (both row-0 (both row-1 (both row-2 (both row-3 (both row-4 (both row-5 (both row-6 (both row-7 (both row-8 (both row-9 (both row-10 (both row-11 (both row-12 (both row-13 (both row-14 (both row-15 (both row-16 (both row-17 (both row-18 (both row-19 (both row-20 (both row-21 (both row-22 (both row-23 (both row-24 (both row-25 (both row-26 (both row-27 (both row-28 (both row-29 (both row-30 (both row-31 (both row-32 (both row-33 (both row-34 (both row-35 (both row-36 (both row-37 (both row-38 (both row-39 (both row-40 (both row-41 (both row-42 (both row-43 (both row-44 (both row-45 (both row-46 (both row-47 (both row-48 (both row-49 (both row-50 (both row-51 (both row-52 (both row-53 (both row-54 (both row-55 (both row-56 (both row-57 (both row-58 (both row-59 (both row-60 (both row-61 (both row-62 (both row-63 (both row-64 (both row-65 (both row-66 (both row-67 (both row-68 (both row-69 (both row-70 (both row-71 (both row-72 (both row-73 (both row-74 (both row-75 (both row-76 (both row-77 (both row-78 (both row-79 (both row-80 (both row-81 (both row-82 (both row-83 (both row-84 (both row-85 (both row-86 (both row-87 (both row-88 (both row-89 (both row-90 (both row-91 (both row-92 (both row-93 (both row-94 (both row-95 (both row-96 (both row-97 (both row-98 (both row-99 (both row-100 (both row-101 (both row-102 (both row-103 (both row-104 (both row-105 (both row-106 (both row-107 (both row-108 (both row-109 (both row-110 (both row-111 (both row-112 (both row-113 (both row-114 (both row-115 (both row-116 (both row-117 (both row-118 (both row-119 (both row-120 (both row-121 (both row-122 (both row-123 (both row-124 (both row-125 (both row-126 (both row-127 (both row-128 (both row-129 (both row-130 (both row-131 (both row-132 (both row-133 (both row-134 (both row-135 (both row-136 (both row-137 (both row-138 (both row-139 (both row-140 (both row-141 (both row-142 (both row-143 (both row-144 (both row-145 (both row-146 (both row-147 (both row-148 (both row-149 (both row-150 (both row-151 (both row-152 (both row-153 (both row-154 (both row-155 (both row-156 (both row-157 (both row-158 (both row-159 (both row-160 (both row-161 (both row-162 (both row-163 (both row-164 (both row-165 (both row-166 (both row-167 (both row-168 (both row-169 (both row-170 (both row-171 (both row-172 (both row-173 (both row-174 (both row-175 (both row-176 (both row-177 (both row-178 (both row-179 (both row-180 (both row-181 (both row-182 (both row-183 (both row-184 (both row-185 (both row-186 (both row-187 (both row-188 (both row-189 (both row-190 (both row-191 (both row-192 (both row-193 (both row-194 (both row-195 (both row-196 (both row-197 (both row-198 (both row-199 (both row-200 (both row-201 (both row-202 (both row-203 (both row-204 (both row-205 (both row-206 (both row-207 (both row-208 (both row-209 (both row-210 (both row-211 (both row-212 (both row-213 (both row-214 (both row-215 (both row-216 (both row-217 (both row-218 (both row-219 (both row-220 (both row-221 (both row-222 (both row-223 (both row-224 (both row-225 (both row-226 (both row-227 (both row-228 (both row-229 (both row-230 (both row-231 (both row-232 (both row-233 (both row-234 (both row-235 (both row-236 (both row-237 (both row-238 (both row-239 (both row-240 (both row-241 (both row-242 (both row-243 (both row-244 (both row-245 (both row-246 (both row-247 (both row-248 (both row-249 (both row-250 (both row-251 (both row-252 (both row-253 (both row-254 (both row-255 (both row-256 (both row-257 (both row-258 (both row-259 (both row-260 (both row-261 (both row-262 (both row-263 (both row-264 (both row-265 (both row-266 (both row-267 (both row-268 (both row-269 (both row-270 (both row-271 (both row-272 (both row-273 (both row-274 (both row-275 (both row-276 (both row-277 (both row-278 (both row-279 (both row-280 (both row-281 (both row-282 (both row-283 (both row-284 (both row-285 (both row-286 (both row-287 (both row-288 (both row-289 (both row-290 (both row-291 (both row-292 (both row-293 (both row-294 (both row-295 (both row-296 (both row-297 (both row-298 (both row-299 (both row-300 (both row-301 (both row-302 (both row-303 (both row-304 (both row-305 (both row-306 (both row-307 (both row-308 (both row-309 (both row-310 (both row-311 (both row-312 (both row-313 (both row-314 (both row-315 (both row-316 (both row-317 (both row-318 (both row-319 (both row-320 (both row-321 (both row-322 (both row-323 (both row-324 (both row-325 (both row-326 (both row-327 (both row-328 (both row-329 (both row-330 (both row-331 (both row-332 (both row-333 (both row-334 (both row-335 (both row-336 (both row-337 (both row-338 (both row-339 (both row-340 (both row-341 (both row-342 (both row-343 (both row-344 (both row-345 (both row-346 (both row-347 (both row-348 (both row-349 (both row-350 (both row-351 (both row-352 (both row-353 (both row-354 (both row-355 (both row-356 (both row-357 (both row-358 (both row-359 (both row-360 (both row-361 (both row-362 (both row-363 (both row-364 (both row-365 (both row-366 (both row-367 (both row-368 (both row-369 (both row-370 (both row-371 (both row-372 (both row-373 (both row-374 (both row-375 (both row-376 (both row-377 (both row-378 (both row-379 (both row-380 (both row-381 (both row-382 (both row-383 (both row-384 (both row-385 (both row-386 (both row-387 (both row-388 (both row-389 (both row-390 (both row-391 (both row-392 (both row-393 (both row-394 (both row-395 (both row-396 (both row-397 (both row-398 (both row-399 (both row-400 (both row-401 (both row-402 (both row-403 (both row-404 (both row-405 (both row-406 (both row-407 (both row-408 (both row-409 (both row-410 (both row-411 (both row-412 (both row-413 (both row-414 (both row-415 (both row-416 (both row-417 (both row-418 (both row-419 (both row-420 (both row-421 (both row-422 (both row-423 (both row-424 (both row-425 (both row-426 (both row-427 (both row-428 (both row-429 (both row-430 (both row-431 (both row-432 (both row-433 (both row-434 (both row-435 (both row-436 (both row-437 (both row-438 (both row-439 (both row-440 (both row-441 (both row-442 (both row-443 (both row-444 (both row-445 (both row-446 (both row-447 (both row-448 (both row-449 (both row-450 (both row-451 (both row-452 (both row-453 (both row-454 (both row-455 (both row-456 (both row-457 (both row-458 (both row-459 (both row-460 (both row-461 (both row-462 (both row-463 (both row-464 (both row-465 (both row-466 (both row-467 (both row-468 (both row-469 (both row-470 (both row-471 (both row-472 (both row-473 (both row-474 (both row-475 (both row-476 (both row-477 (both row-478 (both row-479 (both row-480 (both row-481 (both row-482 (both row-483 (both row-484 (both row-485 (both row-486 (both row-487 (both row-488 (both row-489 (both row-490 (both row-491 (both row-492 (both row-493 (both row-494 (both row-495 (both row-496 (both row-497 (both row-498 (both row-499 (both row-500 (both row-501 (both row-502 (both row-503 (both row-504 (both row-505 (both row-506 (both row-507 (both row-508 (both row-509 (both row-510 (both row-511 (both row-512 (both row-513 (both row-514 (both row-515 (both row-516 (both row-517 (both row-518 (both row-519 (both row-520 (both row-521 (both row-522 (both row-523 (both row-524 (both row-525 (both row-526 (both row-527 (both row-528 (both row-529 (both row-530 (both row-531 (both row-532 (both row-533 (both row-534 (both row-535 (both row-536 (both row-537 (both row-538 (both row-539 (both row-540 (both row-541 (both row-542 (both row-543 (both row-544 (both row-545 (both row-546 (both row-547 (both row-548 (both row-549 (both row-550 (both row-551 (both row-552 (both row-553 (both row-554 (both row-555 (both row-556 (both row-557 (both row-558 (both row-559 (both row-560 (both row-561 (both row-562 (both row-563 (both row-564 (both row-565 (both row-566 (both row-567 (both row-568 (both row-569 (both row-570 (both row-571 (both row-572 (both row-573 (both row-574 (both row-575 (both row-576 (both row-577 (both row-578 (both row-579 (both row-580 (both row-581 (both row-582 (both row-583 (both row-584 (both row-585 (both row-586 (both row-587 (both row-588 (both row-589 (both row-590 (both row-591 (both row-592 (both row-593 (both row-594 (both row-595 (both row-596 (both row-597 (both row-598 (both row-599 (both row-600 (both row-601 (both row-602 (both row-603 (both row-604 (both row-605 (both row-606 (both row-607 (both row-608 (both row-609 (both row-610 (both row-611 (both row-612 (both row-613 (both row-614 (both row-615 (both row-616 (both row-617 (both row-618 (both row-619 (both row-620 (both row-621 (both row-622 (both row-623 (both row-624 (both row-625 (both row-626 (both row-627 (both row-628 (both row-629 (both row-630 (both row-631 (both row-632 (both row-633 (both row-634 (both row-635 (both row-636 (both row-637 (both row-638 (both row-639 (both row-640 (both row-641 (both row-642 (both row-643 (both row-644 (both row-645 (both row-646 (both row-647 (both row-648 (both row-649 (both row-650 (both row-651 (both row-652 (both row-653 (both row-654 (both row-655 (both row-656 (both row-657 (both row-658 (both row-659 (both row-660 (both row-661 (true)))))))))))))))))))))))))))))))))))))))))))))))))))))))))))))))))))))))))))))))))))))))))))))))))))))))))))))))))))))))))))))))))))))))))))))))))))))))))))))))))))))))))))))))))))))))))))))))))))))))))))))))))))))))))))))))))))))))))))))))))))))))))))))))))))))))))))))))))))))))))))))))))))))))))))))))))))))))))))))))))))))))))))))))))))))))))))))))))))))))))))))))))))))))))))))))))))))))))))))))))))))))))))))))))))))))))))))))))))))))))))))))))))))))))))))))))))))))))))))))))))))))))))))))))))))))))))))))))))))))))))))))))))))))))))))))))))))))))))))))))))))))))))))))))))))))))))))))))))))))))))))))))))))))))))))))))))))))))))))))))))))))))))))))))))))))
+unfolding theIsaConstsTraps.supervisorExternal theIsaConstsTraps.knownInterrupt theIsaConstsTraps.knownException theIsaConstsTraps.knownCause theIsaDecoderDecode.loadOf theIsaDecoderDecode.storeOf theIsaDecoderDecode.decodeBy theIsaDecoderDecode.decodeOf theIsaDecoderLength.transformedOf theIsaDecoderLength.htinstOf theIsaDecoderLength.fetchedOf theIsaDecoderLength.opSource theIsaDecoderLength.storeSource theIsaExtensionExtend.widthBits theIsaExtensionExtend.signedBy theIsaExtensionExtend.extendBy theIsaExtensionExtend.cutOf theIsaExtensionExtend.extendOf theIsaFieldsFields.opcodeField theIsaFieldsFields.rdField theIsaFieldsFields.funct3Field theIsaFieldsFields.rs1Field theIsaFieldsFields.rs2Field theIsaFieldsFields.csrField theIsaRegistersBits.spvpOf theIsaRegistersBits.sieOf theIsaRegistersBits.withBits theIsaRegistersValues.hgatpOf theIsaRegistersValues.guestPageFaultAddr theIsaRegistersValues.delegatedExceptions theIsaRegistersValues.delegatedInterrupts theScopeOneTrap.widthBytes theScopeOneTrap.accessNumber theScopeOneTrap.exitNumber theScopeOneTrap.askNumber theScopeOneTrap.answerNumber theScopeOneTrap.fetchNumber theScopeOneTrap.abiNumber theScopeOneTrap.flagOf theScopeOneTrap.exitValues theScopeOneTrap.askValues theScopeOneTrap.fetchValue theScopeOneTrap.answerValues theScopeOneTrap.fetchOf theScopeOneTrap.answerFor theScopeAnswers.wordEffect theScopeAnswers.fetchEffect theScopeAnswers.numbersEffect theScopeAnswers.valuesEffect theScopeAnswers.fittingEffect theScopeAnswers.answerEffect theScopeRefusals.errorNumber theScopeRefusals.refusal theScopeRefusals.refuses theScopeRefusals.finishedOf theScopeRefusals.askingOf theScopeRefusals.failedOf theScopeRefusals.leavesOf theScopeRefusals.refusedOf theScopeRefusals.doneOf theScopeRefusals.unlessAsking theScopeRecord.valueOf theScopeRecord.stored theScopeRecord.moved theScopeRecord.timed theScopeRecord.pended theScopeRecord.eventNumber theScopeRecord.bumped theScopeRecord.counted theScopeRecord.ecallAskNumber theScopeRecord.waitingAsk theScopeRecord.isIdle theScopeRecord.listed theScopeRecord.applied theScopeRecord.noArgs theScopeHost.setupCsrs theScopeHost.entryCsrs theScopeHost.writeEffect theScopeHost.tableCsrs theScopeHost.pagingBy theScopeHost.pagingEffect theScopeHost.pendingEffect theScopeHost.ipiWrites theScopeClasses.classOf theScopeClasses.argumentsOf theScopeClasses.classEffect theScopeClasses.startEffect theScopeEcalls.returnsOf theScopeEcalls.movesOf theScopeEcalls.givesOf theScopeEcalls.staysOf theScopeEcalls.asksOf theScopeEcalls.setTimerOf theScopeEcalls.clearIpiOf theScopeEcalls.hypercallOf theScopeEcalls.lesserOf theScopeEcalls.notSupportedEffect theScopeEcalls.forwardEffect theScopeEcalls.timeEffect theScopeEcalls.standardRequest theScopeEcalls.spiEffect theScopeEcalls.hsmEffect theScopeEcalls.srstEffect theScopeEcalls.spanEffect theScopeEcalls.consoleEffect theScopeEcalls.dbcnEffect theScopeEcalls.rfncEffect theScopeEcalls.ecallEffect theScopeEcalls.legacyRequest theScopeEcalls.maskEffect theScopeEcalls.copiedEffect theScopeEcalls.consoleReadEffect theScopeEcalls.copiedOutEffect theScopeEcalls.ecallAnswer theScopeEcalls.completionNumber theScopeVirtualInstruction.askFetchOf theScopeVirtualInstruction.setBits theScopeVirtualInstruction.clearBits theScopeVirtualInstruction.stimecmpBy theScopeVirtualInstruction.stimecmpWord theScopeVirtualInstruction.stimecmpStval theScopeVirtualInstruction.stimecmpEffect theScopeVirtualInstruction.virtualEffect theScopeVirtualInstruction.missedOf theScopeVirtualInstruction.trapStatusOf theScopeVirtualInstruction.injectedOf theScopeVirtualInstruction.missedEffect theScopeGuestPageFault.loadUnder theScopeGuestPageFault.storeUnder theScopeGuestPageFault.faultOf theScopeGuestPageFault.faultEffect theScopeGuestPageFault.mmioOf theScopeGuestPageFault.pageFaultOf theScopeGuestPageFault.completedOf theScopeCalls.newOf theScopeCalls.gprReply theScopeCalls.askedCount theScopeCalls.printCount theScopeCalls.fitted theScopeCalls.printable theScopeCalls.printedOf theScopeCalls.effectOf theScopeCalls.baseOf theScopeCalls.calledOf theScopeReplyWords.replyKind theScopeReplyWords.replyNumber theScopeReplyWords.replyValues theScopeReplyWords.replyWord theScopeReplyWords.outOf theScopeWords.tested theScopeWords.widthOf theScopeWords.accessOf theScopeWords.abiOf theScopeWords.completionOf theScopeWords.askedWords theScopeWords.waitingWords theScopeWords.kindWord theScopeWords.waitingBy theScopeWords.waitingOf theScopeWords.csrsOf theScopeWords.csrsWords theScopeWords.unpackOf theScopeWords.askedWordCount theScopeWords.waitingCount theScopeWords.trapLeft theScopeWords.waitingLeft theScopeWords.laidWith theScopeWords.leftBy theScopeWords.leftOf theScopeWords.callBy theWordsCallWords.callOf theWordsCallWords.replyWordsOf theWordsEntryWords.exportedOf theInPlaceAnswerWords.answerWords theInPlaceEntryTrapCalls.startCall theInPlaceEntryTrapCalls.answerCall theInPlaceRecordView.recordOf theInPlaceRecordView.viewOf theInPlaceStartWords.trapWords
+rows-661 = tt

@@ -1,14 +1,22 @@
 // A call, and what comes of it, as words. specs/Words.antt says what each word means.
 ghost use mathlib.Core.Path.{_≡_};
-ghost use Rattle.scope.specs.Words.{answerBy, callBy};
-ghost use Rattle.words_call.specs.Words.{callOf, replyKind, replyNumber, replyValues};
+ghost use Rattle.scope.specs.ReplyWords.{replyKind, replyNumber, replyValues};
+ghost use lib.ListN.{take};
+ghost use lib.Seq.{sets};
+ghost use Rattle.isa_types.specs.Pick.{pick};
+ghost use Rattle.scope.specs.Refusals.{refusal, refuses};
+ghost use Rattle.scope.specs.Words.{callBy, leftBy, waitingCount, waitingLeft, waitingWords};
+ghost use Rattle.words_call.specs.Words.{callOf, replyWordsOf};
 ghost use Rattle.scope.specs.OneTrap.{answerFor};
 use isa_types::GuestPhysAddr;
 use scope::Answer;
+use scope::Error;
 use scope::HostCall;
+use scope::Outcome;
 use scope::Record;
 use scope::Reply;
 use scope::Trap;
+use scope::Waiting;
 
 // A call in words.
 #[repr(C)]
@@ -32,7 +40,8 @@ pub struct After {
     pub reply: ReplyWords,
 }
 
-// The call that words stand for. An unknown kind is read as the read of a register that isn't there, which is refused.
+// The call that words stand for. An unknown kind is no call: it is read as the read of a register that isn't there, which is
+// refused.
 pub fn call_of(c: CallWords) -> HostCall
     ensures { λ r. ⌜ r ≡ callOf c ⌝ }
 {
@@ -75,26 +84,18 @@ fn call_by(kind: u64, a: u64, b: u64, d: u64, e: u64, f: u64) -> HostCall
             htinst: e,
             room: f,
         }),
-        11 => answer_of(a, b, d),
+        11 => HostCall::Answer(answer_for(a, b, d)),
         12 => HostCall::CompleteLoad { number: a },
+        13 => HostCall::ToPrint { length: a },
+        14 => HostCall::New {
+            hart_id: a,
+            dtb_addr: b,
+        },
         _ => HostCall::GetGpr { index: 32 },
     }
 }
 
-// The answer to the ask of this number. A number that is no ask's is read as the read of a register that isn't there.
-pub fn answer_of(ask: u64, a: u64, b: u64) -> HostCall
-    ensures { λ r. ⌜ r ≡ answerBy ask a b ⌝ }
-{
-    if ask == 0 {
-        return HostCall::GetGpr { index: 32 };
-    }
-    if ask <= 9 {
-        return HostCall::Answer(answer_for(ask, a, b));
-    }
-    HostCall::GetGpr { index: 32 }
-}
-
-// The answer to ask 1 to 9, by its two numbers.
+// The answer of this number, from its two values; a number that is no ask's fits none.
 fn answer_for(ask: u64, word: u64, more: u64) -> Answer
     ensures { λ r. ⌜ r ≡ answerFor ask word more ⌝ }
 {
@@ -116,15 +117,113 @@ fn answer_for(ask: u64, word: u64, more: u64) -> Answer
         6 => Answer::CopiedOut { count: word },
         7 => Answer::Emitted,
         8 => Answer::Char { number: word },
-        _ => Answer::Forwarded {
+        9 => Answer::Forwarded {
             error: word,
             value: more,
         },
+        _ => Answer::Other,
+    }
+}
+
+// What an outcome gives beside the record.
+pub fn told(o: Outcome) -> ReplyWords
+    ensures { λ r. ⌜ r ≡ replyWordsOf o ⌝ }
+{
+    let args = o.args;
+    let p = o.reply;
+    ReplyWords {
+        kind: reply_kind(p),
+        number: reply_number(p),
+        values: reply_values(p),
+        args,
+    }
+}
+
+// The record's words after a call with this outcome.
+pub fn left(r: Record, c: HostCall, o: Outcome) -> Record
+    ensures { λ s. ⌜ s ≡ leftBy r c o ⌝ }
+{
+    let v = o.vcpu;
+    let n = v.waiting;
+    let p = o.reply;
+    let w = r.waiting;
+    words_record::lay(v, waiting_left(c, w, p, n))
+}
+
+// The waiting words that a call leaves: a host's own call leaves them as they were.
+fn waiting_left(c: HostCall, w: [u64; 4], p: Reply, n: Waiting) -> [u64; 4]
+    ensures { λ r. ⌜ r ≡ waitingLeft c w p n ⌝ }
+{
+    match c {
+        HostCall::New {
+            hart_id: _,
+            dtb_addr: _,
+        } => words_record::waiting_words(n),
+        HostCall::Setup => w,
+        HostCall::SetEntry(_) => w,
+        HostCall::GetGpr { index: _ } => w,
+        HostCall::SetGpr { index: _, value: _ } => w,
+        HostCall::SetReturnValue { value: _ } => w,
+        HostCall::SetNestedPageTable {
+            levels: _,
+            mode: _,
+            root: _,
+        } => w,
+        HostCall::SetPending {
+            vector: _,
+            level: _,
+        } => w,
+        HostCall::LatchHvip { bits: _ } => w,
+        HostCall::CompleteIpi {
+            abi: _,
+            completion: _,
+        } => w,
+        HostCall::Start(_) => trap_left(refuses(p), w, n),
+        HostCall::Answer(_) => trap_left(refuses(p), w, n),
+        HostCall::CompleteLoad { number: _ } => trap_left(refuses(p), w, n),
+        HostCall::ToPrint { length: _ } => w,
+    }
+}
+
+// A refusal leaves them too; else what waits is written over them.
+fn trap_left(refused: bool, w: [u64; 4], n: Waiting) -> [u64; 4]
+    ensures { λ r. ⌜ r ≡ pick refused w (sets w 0 (take (waitingCount n) (waitingWords n))) ⌝ }
+{
+    if refused {
+        return w;
+    }
+    words_record::waiting_over(w, n)
+}
+
+// The call was refused.
+fn refuses(p: Reply) -> bool
+    ensures { λ r. ⌜ r ≡ refuses p ⌝ }
+{
+    match p {
+        Reply::Exit(_) => false,
+        Reply::Ask(_) => false,
+        Reply::Done => false,
+        Reply::Value(_) => false,
+        Reply::Error(e) => refusal(e),
+    }
+}
+
+fn refusal(e: Error) -> bool
+    ensures { λ r. ⌜ r ≡ refusal e ⌝ }
+{
+    match e {
+        Error::InvalidInput => true,
+        Error::BadState => true,
+        Error::Unsupported => false,
+        Error::InvalidTrap => false,
+        Error::DecodeFailed => false,
+        Error::GuestMemoryFault => false,
+        Error::WrongAnswer => true,
     }
 }
 
 // Which of the five replies it is.
-pub fn reply_kind(p: Reply) -> u64
+fn reply_kind(p: Reply) -> u64
     ensures { λ r. ⌜ r ≡ replyKind p ⌝ }
 {
     match p {
@@ -137,7 +236,7 @@ pub fn reply_kind(p: Reply) -> u64
 }
 
 // The number of the exit, ask or error.
-pub fn reply_number(p: Reply) -> u64
+fn reply_number(p: Reply) -> u64
     ensures { λ r. ⌜ r ≡ replyNumber p ⌝ }
 {
     match p {
@@ -150,7 +249,7 @@ pub fn reply_number(p: Reply) -> u64
 }
 
 // The numbers that the reply carries, and 0 for each that it lacks.
-pub fn reply_values(p: Reply) -> [u64; 8]
+fn reply_values(p: Reply) -> [u64; 8]
     ensures { λ r. ⌜ r ≡ replyValues p ⌝ }
 {
     match p {

@@ -21,17 +21,10 @@ pub extern "C" fn vcpu_call(v: &mut Record, c: CallWords) -> ReplyWords
 pub fn step(r: Record, c: CallWords) -> After
     ensures { λ a. ⌜ a ≡ exportedOf r c ⌝ }
 {
-    let o = by_value_entry::call(words_record::unpack(r), words_call::call_of(c));
-    let v = o.vcpu;
-    let args = o.args;
-    let p = o.reply;
+    let h = words_call::call_of(c);
+    let o = by_value_entry::call(words_record::unpack(r), h);
     After {
-        rec: words_record::pack(v),
-        reply: ReplyWords {
-            kind: words_call::reply_kind(p),
-            number: words_call::reply_number(p),
-            values: words_call::reply_values(p),
-            args,
-        },
+        rec: words_call::left(r, h, o),
+        reply: words_call::told(o),
     }
 }

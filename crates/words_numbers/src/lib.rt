@@ -1,7 +1,7 @@
 // The numbers that 01 gives to exits, asks, answers and errors, and those that they carry. scope/specs/OneTrap.antt and
 // Refusals.antt define them.
 ghost use mathlib.Core.Path.{_≡_};
-ghost use Rattle.scope.specs.OneTrap.{answerNumber, askNumber, exitNumber, abiNumber, accessNumber, fetchNumber, widthBytes, askValues, exitValues, flagOf};
+ghost use Rattle.scope.specs.OneTrap.{answerNumber, askNumber, exitNumber, abiNumber, accessNumber, widthBytes, askValues, exitValues, flagOf};
 ghost use Rattle.scope.specs.Refusals.{errorNumber};
 use isa_types::Width;
 use scope::Access;
@@ -9,7 +9,6 @@ use scope::Answer;
 use scope::Ask;
 use scope::Error;
 use scope::Exit;
-use scope::Fetch;
 use scope::IpiAbi;
 
 // The number of an exit.
@@ -53,6 +52,7 @@ pub fn answer_number(a: Answer) -> u64
         Answer::Emitted => 7,
         Answer::Char { number: _ } => 8,
         Answer::Forwarded { error: _, value: _ } => 9,
+        Answer::Other => 10,
     }
 }
 
@@ -115,20 +115,6 @@ pub fn access_number(a: Access) -> u64
         Access::Read => 1,
         Access::Write => 2,
         Access::Execute => 4,
-    }
-}
-
-// The number of a fetch's result: 0 for a word, else the fault's.
-pub fn fetch_number(f: Fetch) -> u64
-    ensures { λ r. ⌜ r ≡ fetchNumber f ⌝ }
-{
-    match f {
-        Fetch::Word(_) => 0,
-        Fetch::Page(_) => 1,
-        Fetch::Access(_) => 2,
-        Fetch::Misaligned(_) => 3,
-        Fetch::GuestPage(_) => 4,
-        Fetch::Unhandled => 5,
     }
 }
 

@@ -1,7 +1,10 @@
 // The vCPU record in words, and the numbers of what a call is given, as the host's compiler sees them.
 ghost use mathlib.Core.Path.{_≡_};
 ghost use Rattle.scope.specs.OneTrap.{flagOf, fetchOf};
-ghost use Rattle.scope.specs.Words.{abiOf, accessOf, completionOf, csrsOf, csrsWords, packOf, tested, unpackOf, waitingBy, waitingOf, waitingWords, widthOf, askedWords};
+ghost use mathlib.Core.List.{[], _∷_};
+ghost use lib.ListN.{set, take};
+ghost use lib.Seq.{sets};
+ghost use Rattle.scope.specs.Words.{abiOf, askedWordCount, waitingCount, accessOf, completionOf, csrsOf, csrsWords, laidWith, tested, unpackOf, waitingBy, waitingOf, waitingWords, widthOf, askedWords};
 use isa_types::GuestPhysAddr;
 use isa_types::GuestVirtAddr;
 use isa_types::Width;
@@ -34,19 +37,18 @@ pub fn unpack(r: Record) -> Vcpu
     }
 }
 
-// The words of a record.
-pub fn pack(v: Vcpu) -> Record
-    ensures { λ r. ⌜ r ≡ packOf v ⌝ }
+// The words of a record, but these four for what waits.
+pub fn lay(v: Vcpu, waiting: [u64; 4]) -> Record
+    ensures { λ r. ⌜ r ≡ laidWith v waiting ⌝ }
 {
     let x = v.x;
     let counts = v.counts;
     let c = v.csrs;
-    let w = v.waiting;
     Record {
         x,
         csrs: csrs_words(c),
         counts,
-        waiting: waiting_words(w),
+        waiting,
     }
 }
 
@@ -170,6 +172,76 @@ fn asked_words(a: EcallAsk) -> [u64; 4]
     }
 }
 
+// The waiting words where this waits after what they held: those that it has a use for, and the others as they were.
+pub fn waiting_over(old: [u64; 4], w: Waiting) -> [u64; 4]
+    ensures { λ r. ⌜ r ≡ sets old 0 (take (waitingCount w) (waitingWords w)) ⌝ }
+{
+    match w {
+        Waiting::Idle => one(old, 0),
+        Waiting::Load { rd, width, signed } => {
+            let n = three(old, 1, rd as u64, words_numbers::width_bytes(width));
+            fourth(n, flag(signed))
+        }
+        Waiting::FetchCsr => one(old, 2),
+        Waiting::FetchFault { at, access } => {
+            three(old, 3, at.0, words_numbers::access_number(access))
+        }
+        Waiting::Ecall(a) => asked_over(old, a),
+    }
+}
+
+fn asked_over(old: [u64; 4], a: EcallAsk) -> [u64; 4]
+    ensures { λ r. ⌜ r ≡ sets old 0 (take (askedWordCount a) (askedWords a)) ⌝ }
+{
+    match a {
+        EcallAsk::CopyMask => one(old, 4),
+        EcallAsk::CopyIn { count } => two(old, 5, count),
+        EcallAsk::Print { count } => two(old, 6, count),
+        EcallAsk::ReadConsole { count, at } => three(old, 7, count, at.0),
+        EcallAsk::CopyOut { count } => two(old, 8, count),
+        EcallAsk::PutChar => one(old, 9),
+        EcallAsk::PutByte => one(old, 10),
+        EcallAsk::GetChar => one(old, 11),
+        EcallAsk::Forward => one(old, 12),
+    }
+}
+
+// The first one, two or three of four words, or the last, are these.
+fn one(old: [u64; 4], kind: u64) -> [u64; 4]
+    ensures { λ r. ⌜ r ≡ sets old 0 (kind ∷ []) ⌝ }
+{
+    let mut w = old;
+    w[0] = kind;
+    w
+}
+
+fn two(old: [u64; 4], kind: u64, a: u64) -> [u64; 4]
+    ensures { λ r. ⌜ r ≡ sets old 0 (kind ∷ a ∷ []) ⌝ }
+{
+    let mut w = old;
+    w[0] = kind;
+    w[1] = a;
+    w
+}
+
+fn three(old: [u64; 4], kind: u64, a: u64, b: u64) -> [u64; 4]
+    ensures { λ r. ⌜ r ≡ sets old 0 (kind ∷ a ∷ b ∷ []) ⌝ }
+{
+    let mut w = old;
+    w[0] = kind;
+    w[1] = a;
+    w[2] = b;
+    w
+}
+
+fn fourth(old: [u64; 4], c: u64) -> [u64; 4]
+    ensures { λ r. ⌜ r ≡ set old 3 c ⌝ }
+{
+    let mut w = old;
+    w[3] = c;
+    w
+}
+
 // A fetch's result: the word, or the fault of this number; an unknown number is read as an unhandled fault.
 pub fn fetch_of(word: u64, fault: u64) -> Fetch
     ensures { λ r. ⌜ r ≡ fetchOf word fault ⌝ }
@@ -217,13 +289,13 @@ pub fn abi_of(n: u64) -> IpiAbi
     }
 }
 
-// What the host made of an IPI request; any number other than 0 and 1 is read as a failure.
+// What the host made of an IPI request, by SBI's number; any other than 0 and -3 is read as a failure.
 pub fn completion_of(n: u64) -> IpiCompletion
     ensures { λ r. ⌜ r ≡ completionOf n ⌝ }
 {
     match n {
         0 => IpiCompletion::Success,
-        1 => IpiCompletion::InvalidParameter,
+        0xFFFF_FFFF_FFFF_FFFD => IpiCompletion::InvalidParameter,
         _ => IpiCompletion::Failed,
     }
 }

@@ -1,12 +1,11 @@
-//! Calls on a record as words: made up from a seed, made on the library, on the safe interface and on the plain Rust program of
-//! document 01. host/c/calls.h makes the same calls from the same seed.
+//! Calls on a record as words: made up from a seed, made on the library, on the safe interface and on oracle/from01, the plain Rust
+//! program of document 01 over words. host/c/calls.h makes the same calls from the same seed.
 #![allow(dead_code)]
 
 use curbizzolu as api;
 
 pub type Record = [u64; 58];
-/// A call: its kind and five numbers. 0 is no call and writes a word of the record; 1 to 12 are words_call's kinds; 13 is to_print
-/// and 14 is new.
+/// A call: its kind and five numbers. 0 is no call and writes a word of the record; 1 to 14 are from01's kinds.
 pub type Call = [u64; 6];
 
 /// What a call gives: the returned number and the words of `out`.
@@ -78,6 +77,12 @@ impl Random {
     }
 }
 
+/// Numbers that are no ask's.
+const NO_ASKS: [u64; 3] = [0, 10, u64::MAX];
+
+/// The results of an IPI: success, invalid parameter, failed.
+pub const COMPLETIONS: [u64; 3] = [0, -3_i64 as u64, -1_i64 as u64];
+
 const EIDS: [u64; 20] = [
     0, 1, 2, 3, 4, 5, 6, 7, 8, 0x5449_4D45, 0x73_5049, 0x48_534D, 0x48_5643, 0x5352_5354, 0x4442_434E, 0x4442_434E, 0x4442_434E,
     0x5246_4E43, 0x50_4D55, 0x10,
@@ -109,6 +114,9 @@ pub fn next_call(r: &mut Random, record: &mut Record) -> Call {
         }
         _ => {}
     }
+    if record[54] == 6 && r.below(4) == 0 {
+        return [13, length(r, record[55]), 0, 0, 0, 0];
+    }
     let ask = ask_that_waits(record);
     if ask != 0 && r.below(8) != 0 {
         return answer(r, record, ask);
@@ -138,10 +146,21 @@ pub fn next_call(r: &mut Random, record: &mut Record) -> Call {
         }
         11 => [7, r.edgy(), r.edgy(), 0, 0, 0],
         12 => [8, r.edgy(), 0, 0, 0, 0],
-        13 => [9, r.below(3), r.below(4), 0, 0, 0],
-        14 => [11, r.below(12), r.edgy(), r.edgy(), 0, 0],
+        13 => {
+            let abi = r.below(3);
+            let completion = match r.below(8) {
+                0 => r.below(4),
+                1 => r.edgy(),
+                _ => r.pick(&COMPLETIONS),
+            };
+            [9, abi, completion, 0, 0, 0]
+        }
+        14 => {
+            let number = if r.below(2) == 0 { r.below(12) } else { r.pick(&NO_ASKS) };
+            [11, number, r.edgy(), r.edgy(), 0, 0]
+        }
         15 => [12, r.edgy(), 0, 0, 0, 0],
-        16 | 17 => [13, 0, 0, 0, 0, 0],
+        16 | 17 => [13, length(r, record[55]), 0, 0, 0, 0],
         18 => [14, r.edgy(), r.edgy(), 0, 0, 0],
         _ => start(r, record),
     }
@@ -190,9 +209,22 @@ fn start(r: &mut Random, record: &mut Record) -> Call {
     }
 }
 
-/// An answer to the ask that waits, that fits its count more often than not.
+/// The length of a buffer to print n bytes of: that has them, or just not.
+fn length(r: &mut Random, n: u64) -> u64 {
+    match r.below(6) {
+        0 => 0,
+        1 => r.below(64),
+        2 => n.wrapping_sub(1),
+        3 => n,
+        4 => n.wrapping_add(1),
+        _ => r.edgy(),
+    }
+}
+
+/// An answer to the ask that waits, that fits its count more often than not; sometimes its number is no ask's.
 fn answer(r: &mut Random, record: &Record, ask: u64) -> Call {
     let n = record[55];
+    let number = if r.below(16) == 0 { r.pick(&NO_ASKS) } else { ask };
     let (a, b) = match ask {
         1 => {
             let fault = if r.below(2) == 0 { 0 } else { r.below(7) };
@@ -208,23 +240,7 @@ fn answer(r: &mut Random, record: &Record, ask: u64) -> Call {
         }
         _ => (r.edgy(), r.edgy()),
     };
-    [11, ask, a, b, 0, 0]
-}
-
-/// What the words of the waiting part stand for, as the words that it is written in. The rest of the record stands for itself.
-pub fn view(record: &Record) -> Record {
-    let mut v = *record;
-    let [kind, a, b, c] = [record[54], record[55], record[56], record[57]];
-    let w = match kind {
-        1 => [1, a, if b == 1 || b == 2 || b == 4 { b } else { 8 }, (c != 0) as u64],
-        3 => [3, a, if b == 1 || b == 2 { b } else { 4 }, 0],
-        5 | 6 | 8 => [kind, a, 0, 0],
-        7 => [7, a, b, 0],
-        2 | 4 | 9..=12 => [kind, 0, 0, 0],
-        _ => [0; 4],
-    };
-    v[54..].copy_from_slice(&w);
-    v
+    [11, number, a, b, 0, 0]
 }
 
 /// A sum that every word goes into.
@@ -233,15 +249,14 @@ pub fn sum_word(sum: u64, word: u64) -> u64 {
     z ^ (z >> 29)
 }
 
-/// The sum of what a record's words stand for.
-pub fn sum_record(sum: u64, record: &Record) -> u64 {
-    view(record).iter().fold(sum, |sum, word| sum_word(sum, *word))
+/// The sum of what a call gave and of the record after it.
+pub fn sum_given(sum: u64, record: &Record, reply: &Reply) -> u64 {
+    reply.out.iter().chain(record).fold(sum, |sum, word| sum_word(sum, *word))
 }
 
-/// The sum of what a call gave and of the record after it.
+/// The same, with the returned number before it.
 pub fn sum_call(sum: u64, record: &Record, reply: &Reply) -> u64 {
-    let sum = sum_word(sum, reply.code);
-    sum_record(reply.out.iter().fold(sum, |sum, word| sum_word(sum, *word)), record)
+    sum_given(sum_word(sum, reply.code), record, reply)
 }
 
 // ---- the library
@@ -260,13 +275,13 @@ extern "C" {
     fn vcpu_start(record: *mut Record, trap: *const [u64; 5], out: *mut [u64; 8]) -> u64;
     fn vcpu_answer(record: *mut Record, answer: *const [u64; 3], out: *mut [u64; 8]) -> u64;
     fn vcpu_complete_load(record: *mut Record, number: u64) -> u64;
-    fn vcpu_to_print(record: *const Record) -> u64;
+    fn vcpu_to_print(record: *const Record, length: u64) -> u64;
 }
 
-/// Makes the call on the library, with `fill` in every word of `out` before it.
+/// Makes the call on the library. Where it takes an `out`, each of its words is `fill` before; where it takes none, 0.
 pub fn by_library(record: &mut Record, call: &Call, fill: u64) -> Reply {
     let [kind, a, b, c, d, e] = *call;
-    let mut out = [fill; 8];
+    let mut out = [if matches!(kind, 3 | 10 | 11) { fill } else { 0 }; 8];
     let r: *mut Record = record;
     // SAFETY: the words are ours and do not overlap; every pattern is allowed.
     let code = unsafe {
@@ -284,13 +299,10 @@ pub fn by_library(record: &mut Record, call: &Call, fill: u64) -> Reply {
             11 => vcpu_answer(r, &[a, b, c], &mut out),
             12 => vcpu_complete_load(r, a),
             13 => {
-                out[0] = vcpu_to_print(r);
+                out[0] = vcpu_to_print(r, a);
                 0x41
             }
-            14 => {
-                vcpu_new(r, a, b);
-                0x40
-            }
+            14 => vcpu_new(r, a, b),
             _ => unreachable!(),
         }
     };
@@ -300,9 +312,9 @@ pub fn by_library(record: &mut Record, call: &Call, fill: u64) -> Reply {
 // ---- the safe interface
 
 /// Makes the call on the safe interface, where its types can say it.
-pub fn by_interface(vcpu: &mut api::Vcpu, call: &Call, fill: u64) -> Option<Reply> {
+pub fn by_interface(vcpu: &mut api::Vcpu, call: &Call) -> Option<Reply> {
     let [kind, a, b, c, d, e] = *call;
-    let mut out = [fill; 8];
+    let mut out = [0; 8];
     let done = |result: Result<(), api::Refusal>| match result {
         Ok(()) => 0x40,
         Err(refusal) => 0x100 + refusal.number(),
@@ -336,11 +348,10 @@ pub fn by_interface(vcpu: &mut api::Vcpu, call: &Call, fill: u64) -> Option<Repl
                 1 => api::IpiAbi::SbiV02,
                 _ => return None,
             };
-            let completion = match b {
+            let completion = match COMPLETIONS.iter().position(|number| *number == b)? {
                 0 => api::IpiCompletion::Success,
                 1 => api::IpiCompletion::InvalidParameter,
-                2 => api::IpiCompletion::Failed,
-                _ => return None,
+                _ => api::IpiCompletion::Failed,
             };
             let request = api::IpiRequest { hart_mask: 0, hart_mask_base: 0, abi };
             done(vcpu.complete_ipi(request, completion))
@@ -375,14 +386,11 @@ pub fn by_interface(vcpu: &mut api::Vcpu, call: &Call, fill: u64) -> Option<Repl
         12 => done(vcpu.complete_load(a)),
         13 => {
             static BUFFER: [u8; 8192] = [7; 8192];
-            let part = vcpu.to_print(&BUFFER).len() as u64;
-            // a part that the buffer does not have is empty
-            let waits = vcpu.to_words();
-            if waits[54] == 6 && waits[55] > 8192 {
-                assert_eq!(part, 0);
-                return None;
-            }
-            out[0] = part;
+            let lent = BUFFER.get(..usize::try_from(a).ok()?)?;
+            let part = vcpu.to_print(lent);
+            // the part is the buffer's own
+            assert!(part.is_empty() || part.as_ptr() == lent.as_ptr());
+            out[0] = part.len() as u64;
             0x41
         }
         14 => {
@@ -462,79 +470,14 @@ fn step(result: Result<api::Step, api::Error>, out: &mut [u64; 8]) -> u64 {
 
 // ---- the plain Rust program of document 01
 
-/// Makes the call on the model: the reply, and what the later record's words stand for.
-pub fn by_model(record: &Record, call: &Call, fill: u64) -> (Reply, Record) {
-    let [kind, a, b, c, d, e] = *call;
-    let mut out = [fill; 8];
-    let before = view(record);
-    if kind == 13 {
-        out[0] = if before[54] == 6 { before[55] } else { 0 };
-        return (Reply { code: 0x41, out }, before);
+/// Makes the call on from01. The reply in the words of the library: a hypercall's array stands from word 2 of `out` on.
+pub fn by_from01(record: &mut Record, call: &Call) -> Reply {
+    let [kind, numbers @ ..] = *call;
+    let reply = from01::call(record, kind, numbers);
+    let mut out = reply.values;
+    if (reply.kind, reply.number) == (0, 6) {
+        out[2..].copy_from_slice(&reply.args);
     }
-    if kind == 14 {
-        return (Reply { code: 0x40, out }, model::Vcpu::new(a, b).to_words([0; 4]));
-    }
-    let waits = model::Waiting::from_words([before[54], before[55], before[56], before[57]]);
-    let mut vcpu = model::Vcpu::from_words(&before, waits);
-    // A fetch for a fault of neither direction, which no trap leaves: it counts as execute, and no word is a load or store
-    // under it. The model has no such state, so it gets a word of the same length that is neither.
-    let neither = before[54] == 3 && before[56] == 4;
-    let b = if neither && kind == 11 && a == 1 && c == 0 { (b & 0x1f) | 0x60 } else { b };
-    let reply = vcpu.call(&model::Call::from_words(kind, [a, b, c, d, e]));
-    let waiting = if vcpu.waiting == waits {
-        [before[54], before[55], before[56], before[57]]
-    } else {
-        vcpu.waiting.to_words()
-    };
-    let after = vcpu.to_words(waiting);
-    let code = reply_words(reply, &mut out);
-    if neither && code == 8 {
-        out[1] = 4;
-    }
-    (Reply { code, out }, after)
-}
-
-fn reply_words(reply: model::Reply, out: &mut [u64; 8]) -> u64 {
-    use model::{Ask, Exit, Reply};
-    let mut carry = |words: &[u64]| out[..words.len()].copy_from_slice(words);
-    match reply {
-        Reply::Done => 0x40,
-        Reply::Value(value) => {
-            carry(&[value]);
-            0x41
-        }
-        Reply::Error(error) => 0x100 + error.number(),
-        Reply::Exit(exit) => {
-            match exit {
-                Exit::Nothing | Exit::Halt | Exit::SystemDown => {}
-                Exit::ExternalInterrupt { vector } => carry(&[vector]),
-                Exit::SendIpi { mask, base, abi } => carry(&[mask, base, (abi == model::IpiAbi::SbiV02) as u64]),
-                Exit::CpuUp { target, entry, arg } => carry(&[target, entry.0, arg]),
-                Exit::CpuDown { state } => carry(&[state]),
-                Exit::Hypercall { number, args } => {
-                    carry(&[number]);
-                    out[2..].copy_from_slice(&args);
-                }
-                Exit::NestedPageFault { addr, access } => carry(&[addr.0, access.bits()]),
-                Exit::MmioRead { addr, width } => carry(&[addr.0, width.bytes()]),
-                Exit::MmioWrite { addr, width, data } => carry(&[addr.0, width.bytes(), data]),
-            }
-            exit.number()
-        }
-        Reply::Ask(ask) => {
-            match ask {
-                Ask::Fetch { at, supervisor } => carry(&[at.0, supervisor as u64]),
-                Ask::Mask { at } => carry(&[at.0]),
-                Ask::CopyIn { n, at } | Ask::CopyOut { n, at } => carry(&[at.0, n]),
-                Ask::Print { n } | Ask::Read { n } => carry(&[n]),
-                Ask::Emit { number } => carry(&[number]),
-                Ask::GetChar => {}
-                Ask::Forward { eid, fid, args } => {
-                    carry(&[eid, fid]);
-                    out[2..].copy_from_slice(&args);
-                }
-            }
-            0x20 + ask.number()
-        }
-    }
+    // an exit, an ask, done, a value, an error
+    Reply { code: [0, 0x20, 0x40, 0x41, 0x100][reply.kind as usize] + reply.number, out }
 }

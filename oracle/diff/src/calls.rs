@@ -49,7 +49,7 @@ fn ecall_number(r: &mut Random) -> u64 {
 }
 
 /// A page-table root, aligned or off by one bit.
-fn root(r: &mut Random) -> u64 {
+pub fn root(r: &mut Random) -> u64 {
     let aligned = r.number() & !0x3fff;
     match r.below(4) {
         0 => r.edgy(),

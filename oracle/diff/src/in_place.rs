@@ -21,11 +21,63 @@ extern "C" {
     fn vcpu_set_pending(record: *mut Words, vector: u64, level: u64) -> u64;
     fn vcpu_latch_hvip(record: *mut Words, bits: u64) -> u64;
     fn vcpu_complete_ipi(record: *mut Words, abi: u64, completion: u64) -> u64;
-    fn vcpu_to_print(record: *const Words) -> u64;
+    fn vcpu_to_print(record: *const Words, length: u64) -> u64;
+    fn vcpu_new(record: *mut Words, hart_id: u64, dtb_addr: u64) -> u64;
 }
 
-/// What the words hold that a reply doesn't carry: they must keep it.
-const KEPT: u64 = 0x6b65_7074_6b65_7074;
+/// A call by words, on a record by words: its exported function by its kind,
+/// 1 to 14.
+pub fn call_words(record: &mut Words, kind: u64, [a, b, c, d, e]: [u64; 5]) -> ReplyWords {
+    let mut out = [LENT; 8];
+    // The sizes are those that the functions take, and all of it lives for
+    // the call.
+    let code = unsafe {
+        match kind {
+            3 => vcpu_get_gpr(record, a, &mut out),
+            10 => vcpu_start(record, &[a, b, c, d, e], &mut out),
+            11 => vcpu_answer(record, &[a, b, c], &mut out),
+            _ => {
+                // These have no words for their reply.
+                out = [0; 8];
+                match kind {
+                    1 => vcpu_setup(record),
+                    2 => vcpu_set_entry(record, a),
+                    4 => vcpu_set_gpr(record, a, b),
+                    5 => vcpu_set_return_value(record, a),
+                    6 => vcpu_set_nested_page_table(record, a, b, c),
+                    7 => vcpu_set_pending(record, a, b),
+                    8 => vcpu_latch_hvip(record, a),
+                    9 => vcpu_complete_ipi(record, a, b),
+                    12 => vcpu_complete_load(record, a),
+                    13 => {
+                        out[0] = vcpu_to_print(record, a);
+                        0x41
+                    }
+                    14 => vcpu_new(record, a, b),
+                    _ => unreachable!("no exported function has kind {kind}"),
+                }
+            }
+        }
+    };
+    let (kind, number) = match code {
+        0..=10 => (0, code),
+        0x21..=0x29 => (1, code - 0x20),
+        0x40 => (2, 0),
+        0x41 => (3, 0),
+        0x101..=0x107 => (4, code - 0x100),
+        _ => stray("reply", &[code]),
+    };
+    // A hypercall's arguments stand from the third word on.
+    match code {
+        6 => ReplyWords {
+            kind,
+            number,
+            values: [out[0], out[1], 0, 0, 0, 0, 0, 0],
+            args: std::array::from_fn(|i| out[2 + i]),
+        },
+        _ => ReplyWords { kind, number, values: out, args: [0; 6] },
+    }
+}
 
 pub struct InPlace(pub Words);
 
@@ -35,7 +87,7 @@ impl Subject for InPlace {
     }
 
     fn load(&mut self, record: &Vcpu) {
-        self.0 = words_of(record);
+        self.0 = record.to_words();
     }
 
     fn record(&self) -> Vcpu {
@@ -43,65 +95,16 @@ impl Subject for InPlace {
     }
 
     fn call(&mut self, call: &Call) -> Reply {
-        let mut out = [KEPT; 8];
-        let code = exported(&mut self.0, call, &mut out);
-        reply_of(code, &out)
+        let (kind, numbers) = words_of_call(call);
+        reply_of(&call_words(&mut self.0, kind, numbers))
     }
 
     fn to_print<'a>(&self, buffer: &'a [u8]) -> &'a [u8] {
         // The record is 58 words and is only read.
-        let n = unsafe { vcpu_to_print(&self.0) };
-        buffer.get(..n as usize).unwrap_or(&[])
-    }
-}
-
-/// Makes the call by its exported function.
-fn exported(record: &mut Words, call: &Call, out: &mut Out) -> u64 {
-    // The sizes are those that the functions take, and all of it lives for
-    // the call.
-    unsafe {
-        match *call {
-            Call::Setup => vcpu_setup(record),
-            Call::SetEntry { entry } => vcpu_set_entry(record, entry),
-            Call::GetGpr { index } => vcpu_get_gpr(record, index, out),
-            Call::SetGpr { index, value } => vcpu_set_gpr(record, index, value),
-            Call::SetReturnValue { value } => vcpu_set_return_value(record, value),
-            Call::SetNestedPageTable { levels, mode, root } => {
-                vcpu_set_nested_page_table(record, levels, mode, root)
-            }
-            Call::SetVirtualInterruptPending { vector, pending } => {
-                vcpu_set_pending(record, vector, pending as u64)
-            }
-            Call::InjectInterrupt { vector } => vcpu_set_pending(record, vector, 1),
-            Call::SetVseipLevel { asserted } => vcpu_set_pending(record, 9, asserted as u64),
-            Call::LatchHvip { bits } => vcpu_latch_hvip(record, bits),
-            Call::CompleteIpi { abi, completion } => {
-                vcpu_complete_ipi(record, convention_word(abi), completion_word(completion))
-            }
-            Call::Start(t) => {
-                vcpu_start(record, &[t.scause, t.stval, t.htval, t.htinst, t.room], out)
-            }
-            Call::Answer(answer) => vcpu_answer(record, &answer_words(&answer), out),
-            Call::CompleteLoad { number } => vcpu_complete_load(record, number),
+        let n = unsafe { vcpu_to_print(&self.0, buffer.len() as u64) };
+        match buffer.get(..n as usize) {
+            Some(bytes) => bytes,
+            None => stray("part to print", &[n]),
         }
     }
-}
-
-/// The reply by its code and the words that it carries.
-fn reply_of(code: u64, out: &Out) -> Reply {
-    let args = std::array::from_fn(|i| out[2 + i]);
-    let (reply, carried) = match code {
-        0..=10 => (Reply::Exit(exit_of(code, out, args)), exit_carries(code)),
-        0x21..=0x29 => (Reply::Ask(ask_of(code - 0x20, out)), ask_carries(code - 0x20)),
-        0x40 => (Reply::Done, 0),
-        0x41 => (Reply::Value(out[0]), 1),
-        0x101..=0x107 => (Reply::Error(error_of(code - 0x100)), 0),
-        _ => stray("reply", &[code]),
-    };
-    // A hypercall's arguments stand behind its number and a kept word.
-    let kept = if code == 6 { &out[1..2] } else { &out[carried..] };
-    if kept.iter().any(|&word| word != KEPT) {
-        stray("reply", out);
-    }
-    reply
 }

@@ -17,7 +17,6 @@ mod options;
 mod outcome;
 mod random;
 #[cfg(any(has_abi, has_in_place))]
-#[cfg_attr(not(has_abi), allow(dead_code))]
 mod record_words;
 mod refusals;
 mod run;
@@ -29,7 +28,7 @@ mod smallest;
 mod subject;
 mod switches;
 mod tally;
-#[cfg(has_abi)]
+#[cfg(any(has_abi, has_in_place))]
 mod wild_words;
 mod words;
 
@@ -68,8 +67,8 @@ fn main() -> ExitCode {
     }
     let passed = match options.mode {
         Mode::Refusals => run_refusals(&options, subject),
-        Mode::Words if options.subject != SubjectName::Abi => {
-            println!("mode words makes calls of crate words_entry: give --subject abi");
+        Mode::Words if options.subject == SubjectName::Model => {
+            println!("mode words makes calls by words: give --subject abi or --subject in-place");
             false
         }
         Mode::Words => run_words(&options),
@@ -136,24 +135,35 @@ fn run_switches(options: &Options, subject: &mut dyn Subject) -> bool {
     needed
 }
 
-#[cfg(has_abi)]
+/// True if every call agreed with from01 and everything was reached.
+#[cfg(any(has_abi, has_in_place))]
 fn run_words(options: &Options) -> bool {
-    println!("seed {}, subject abi", options.seed);
+    let entry = match options.subject {
+        #[cfg(has_abi)]
+        SubjectName::Abi => wild_words::Entry { name: "abi", call: abi::call_words, any_kind: true },
+        #[cfg(has_in_place)]
+        SubjectName::InPlace => {
+            wild_words::Entry { name: "in-place", call: in_place::call_words, any_kind: false }
+        }
+        // Not reached: main has said that the library is missing.
+        _ => return false,
+    };
+    println!("seed {}, subject {}", options.seed, entry.name);
     let mut random = Random::new(options.seed);
     let mut tally = wild_words::Tally::default();
     while tally.calls < options.traps {
-        if let Err(text) = wild_words::one(&mut random, &mut tally) {
+        if let Err(text) = wild_words::one(&mut random, &entry, &mut tally) {
             println!("mismatch: {text}\n1 unexplained");
             return false;
         }
     }
-    tally.print();
+    let reached = tally.print(&entry);
     println!("{} calls, 0 unexplained", tally.calls);
-    tally.reached_all()
+    reached
 }
 
 /// Not reached: main has said that the library is missing.
-#[cfg(not(has_abi))]
+#[cfg(not(any(has_abi, has_in_place)))]
 fn run_words(_options: &Options) -> bool {
     false
 }

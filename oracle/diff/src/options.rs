@@ -15,8 +15,8 @@ pub enum Mode {
     Both,
     /// Calls out of turn, judged by the model; `--traps` counts calls.
     Refusals,
-    /// Calls and waiting parts of any words, judged by the model; `--traps`
-    /// counts calls.
+    /// Calls and records of any words, judged by from01; `--traps` counts
+    /// calls.
     Words,
     /// A run for each switch with it off, up to the first mismatch.
     Switches,
@@ -58,11 +58,11 @@ requests and the whole later record. Ends with `0 unexplained` and status 0 if
 they agree but for the switches and everything was reached.
 
 Mode refusals compares calls in and out of turn on the subject and the model,
-and mode words calls of the proved library by any words with the model; --traps
-counts calls there. Mode switches turns each switch off in turn and runs up to
---traps traps: every switch must be needed. --enough is the number of
-mismatches that ends a run. --captures writes captures for the replay program
-with the Rust's output for each, and runs nothing else.";
+and mode words any calls on any words, by the subject's entry and by from01, in
+every word; --traps counts calls there. Mode switches turns each switch off in
+turn and runs up to --traps traps: every switch must be needed. --enough is the
+number of mismatches that ends a run. --captures writes captures for the replay
+program with the Rust's output for each, and runs nothing else.";
 
 /// The options, or the text to print instead of a run.
 pub fn read(mut args: impl Iterator<Item = String>) -> Result<Options, String> {

@@ -6,23 +6,23 @@ use model::*;
 /// x0 to x31, 13 CSRs, 9 counts, 4 words for what waits.
 pub type Words = [u64; 58];
 
-pub fn words_of(record: &Vcpu) -> Words {
-    record.to_words(record.waiting.to_words())
+/// What the words hold that an entry is lent for its reply: it must set each.
+pub const LENT: u64 = 99;
+
+/// What a call gives back, in words.
+#[repr(C)]
+#[derive(Clone, Copy, Debug, PartialEq, Eq)]
+pub struct ReplyWords {
+    pub kind: u64,
+    pub number: u64,
+    pub values: [u64; 8],
+    pub args: [u64; 6],
 }
 
 /// The record that the words stand for. Words that what waits doesn't carry
 /// count for nothing.
 pub fn record_of(words: &Words) -> Vcpu {
     Vcpu::from_words(words, waiting_of(&words[54..]))
-}
-
-/// The same, where those words must be 0.
-pub fn record_of_whole(words: &Words) -> Vcpu {
-    let record = record_of(words);
-    if words_of(&record) != *words {
-        stray("waiting part", &words[54..]);
-    }
-    record
 }
 
 /// What waits by its words. A kind or number that no call leaves is a fault
@@ -69,8 +69,57 @@ fn width_of(bytes: u64) -> Width {
     }
 }
 
+/// A call as its kind and five numbers.
+pub fn words_of_call(call: &Call) -> (u64, [u64; 5]) {
+    match *call {
+        Call::Setup => (1, [0; 5]),
+        Call::SetEntry { entry } => (2, [entry, 0, 0, 0, 0]),
+        Call::GetGpr { index } => (3, [index, 0, 0, 0, 0]),
+        Call::SetGpr { index, value } => (4, [index, value, 0, 0, 0]),
+        Call::SetReturnValue { value } => (5, [value, 0, 0, 0, 0]),
+        Call::SetNestedPageTable { levels, mode, root } => (6, [levels, mode, root, 0, 0]),
+        Call::SetVirtualInterruptPending { vector, pending } => {
+            (7, [vector, pending as u64, 0, 0, 0])
+        }
+        Call::InjectInterrupt { vector } => (7, [vector, 1, 0, 0, 0]),
+        Call::SetVseipLevel { asserted } => (7, [9, asserted as u64, 0, 0, 0]),
+        Call::LatchHvip { bits } => (8, [bits, 0, 0, 0, 0]),
+        Call::CompleteIpi { abi, completion } => {
+            (9, [convention_word(abi), completion.number(), 0, 0, 0])
+        }
+        Call::Start(t) => (10, [t.scause, t.stval, t.htval, t.htinst, t.room]),
+        Call::Answer(answer) => {
+            let [ask, a, b] = answer_words(&answer);
+            (11, [ask, a, b, 0, 0])
+        }
+        Call::CompleteLoad { number } => (12, [number, 0, 0, 0, 0]),
+    }
+}
+
+/// The reply by its words; every word that it doesn't carry must be 0.
+pub fn reply_of(words: &ReplyWords) -> Reply {
+    let number = words.number;
+    let (reply, carried) = match words.kind {
+        0 => {
+            let exit = exit_of(number, &words.values, words.args);
+            (Reply::Exit(exit), exit_carries(number))
+        }
+        1 => (Reply::Ask(ask_of(number, &words.values)), ask_carries(number)),
+        2 => (Reply::Done, 0),
+        3 => (Reply::Value(words.values[0]), 1),
+        4 => (Reply::Error(error_of(number)), 0),
+        kind => stray("reply", &[kind]),
+    };
+    let has_number = matches!(words.kind, 0 | 1 | 4) || number == 0;
+    let has_args = words.kind == 0 && number == 6 || words.args == [0; 6];
+    if words.values[carried..].iter().any(|&word| word != 0) || !has_number || !has_args {
+        stray("reply", &words.values);
+    }
+    reply
+}
+
 /// An exit by its number and values; a hypercall's arguments stand apart.
-pub fn exit_of(number: u64, values: &[u64; 8], args: [u64; 6]) -> Exit {
+fn exit_of(number: u64, values: &[u64; 8], args: [u64; 6]) -> Exit {
     let [a, b, c, ..] = *values;
     match number {
         0 => Exit::Nothing,
@@ -105,17 +154,17 @@ pub fn exit_of(number: u64, values: &[u64; 8], args: [u64; 6]) -> Exit {
 }
 
 /// How many values an exit carries; a hypercall's arguments stand apart.
-pub fn exit_carries(number: u64) -> usize {
+fn exit_carries(number: u64) -> usize {
     [0, 1, 3, 3, 1, 0, 1, 0, 2, 2, 3][number as usize]
 }
 
 /// How many values an ask carries.
-pub fn ask_carries(number: u64) -> usize {
+fn ask_carries(number: u64) -> usize {
     [2, 1, 2, 1, 1, 2, 1, 0, 8][number as usize - 1]
 }
 
 /// An ask by its number and values.
-pub fn ask_of(number: u64, values: &[u64; 8]) -> Ask {
+fn ask_of(number: u64, values: &[u64; 8]) -> Ask {
     let [a, b, ..] = *values;
     match number {
         1 => Ask::Fetch { at: GuestVirtAddr(a), supervisor: flag_of(b) },
@@ -131,7 +180,7 @@ pub fn ask_of(number: u64, values: &[u64; 8]) -> Ask {
     }
 }
 
-pub fn error_of(number: u64) -> Error {
+fn error_of(number: u64) -> Error {
     match number {
         1 => Error::InvalidInput,
         2 => Error::BadState,
@@ -145,7 +194,7 @@ pub fn error_of(number: u64) -> Error {
 }
 
 /// An answer as its ask's number and two words.
-pub fn answer_words(answer: &Answer) -> [u64; 3] {
+fn answer_words(answer: &Answer) -> [u64; 3] {
     match *answer {
         Answer::Fetch(FetchAnswer::Word(word)) => [1, word as u64, 0],
         Answer::Fetch(FetchAnswer::Page(at)) => [1, at.0, 1],
@@ -161,19 +210,12 @@ pub fn answer_words(answer: &Answer) -> [u64; 3] {
         Answer::Emit => [7, 0, 0],
         Answer::GetChar { number } => [8, number, 0],
         Answer::Forward { error, value } => [9, error, value],
+        Answer::Other { number } => [number, 0, 0],
     }
 }
 
-pub fn convention_word(abi: IpiAbi) -> u64 {
+fn convention_word(abi: IpiAbi) -> u64 {
     (abi == IpiAbi::SbiV02) as u64
-}
-
-pub fn completion_word(completion: IpiCompletion) -> u64 {
-    match completion {
-        IpiCompletion::Success => 0,
-        IpiCompletion::InvalidParameter => 1,
-        IpiCompletion::Failed => 2,
-    }
 }
 
 /// The library gave a word that its definitions have no meaning for.

@@ -60,6 +60,7 @@ fn any_call(r: &mut Random, record: &Vcpu) -> Call {
     match r.below(5) {
         0 => Call::SetVirtualInterruptPending { vector: vector(r), pending: r.coin() },
         1 => start(r, record),
+        2 if r.once_in(4) => Call::Answer(Answer::Other { number: r.pick(&[0, 10, u64::MAX]) }),
         2 => {
             let kind = r.pick(&waitings());
             Call::Answer(fitting_answer(r, &kind))

@@ -1,89 +1,241 @@
-//! Calls of the proved library by words, sound and unsound: unknown kinds and
-//! numbers, and waiting parts that no call leaves. The model judges the
-//! meaning that crates/words_record and crates/calls give them.
+//! Random calls on random words by one entry of the proved library, each held
+//! to from01 in every word of the reply and of the record: unknown kinds,
+//! numbers that are no ask's, waiting parts that no call leaves, words beside
+//! them that are nobody's.
 
-use model::*;
-
-use crate::abi::{call_words, reply_of};
+use crate::calls::{root, vector};
 use crate::generate;
+use crate::instructions::{load, other, stimecmp, store};
 use crate::random::Random;
-use crate::record_words::{words_of, Words};
+use crate::record_words::{ReplyWords, Words};
 
-/// Kinds and numbers from 0 to this are drawn; the last stands for all above.
-const KINDS: usize = 14;
+/// An entry over words.
+pub struct Entry {
+    pub name: &'static str,
+    /// Makes the call of this kind with these numbers.
+    pub call: fn(&mut Words, u64, [u64; 5]) -> ReplyWords,
+    /// Whether it can be given a kind that is no call's.
+    pub any_kind: bool,
+}
 
+/// Calls are of kinds 1 to this.
+const CALLS: u64 = 14;
+/// What waits is of kinds 0 to this.
+const WAITING: u64 = 12;
+/// Asks are 1 to this.
+const ASKS: u64 = 9;
+/// The ask of each kind of what waits; 0 where none does.
+const ASK_OF: [u64; 13] = [0, 0, 1, 1, 2, 3, 4, 5, 6, 7, 7, 8, 9];
+/// Numbers that are no ask's.
+const NO_ASKS: [u64; 3] = [0, 10, u64::MAX];
+
+/// How often each number was drawn and each reply given. The last of a row
+/// stands for all above.
 #[derive(Default)]
 pub struct Tally {
     pub calls: u64,
-    kinds: [u64; KINDS],
-    waiting: [u64; KINDS],
-    answers: [u64; KINDS],
+    kinds: [u64; CALLS as usize + 2],
+    waiting: [u64; WAITING as usize + 2],
+    answers: [u64; ASKS as usize + 3],
+    exits: [u64; 11],
+    asks: [u64; 10],
+    done: [u64; 1],
+    values: [u64; 1],
+    errors: [u64; 8],
+    /// Of the replies to kind 13, those that print.
+    printed: u64,
 }
 
 impl Tally {
-    pub fn print(&self) {
-        for kind in 0..KINDS {
-            let above = if kind == KINDS - 1 { " and above" } else { "" };
-            println!(
-                "number {kind:2}{above:10} as call {:>10}, as waiting part {:>10}, as answer {:>10}",
-                self.kinds[kind], self.waiting[kind], self.answers[kind]
-            );
-        }
+    fn rows(&self) -> [(&'static str, &[u64]); 8] {
+        [
+            ("call", &self.kinds),
+            ("waits", &self.waiting),
+            ("answer", &self.answers),
+            ("exit", &self.exits),
+            ("ask", &self.asks),
+            ("done", &self.done),
+            ("value", &self.values),
+            ("error", &self.errors),
+        ]
     }
 
-    pub fn reached_all(&self) -> bool {
-        [self.kinds, self.waiting, self.answers].iter().all(|row| !row.contains(&0))
+    /// Prints the counts; true if everything was reached.
+    pub fn print(&self, entry: &Entry) -> bool {
+        let mut reached = self.printed != 0;
+        for (what, row) in self.rows() {
+            for (number, count) in row.iter().enumerate() {
+                // Asks and errors are from 1 on; kinds of call too, and to
+                // CALLS, where the entry is a function for each.
+                let from_1 = matches!(what, "ask" | "error");
+                let unknown = what == "call" && !(1..=CALLS as usize).contains(&number);
+                if from_1 && number == 0 || unknown && !entry.any_kind {
+                    continue;
+                }
+                println!("{what:8}{number:>3}{count:>12}");
+                reached &= *count != 0;
+            }
+        }
+        println!("bytes to print{:>9}", self.printed);
+        if !reached {
+            println!("a number was not reached");
+        }
+        reached
+    }
+
+    fn count(row: &mut [u64], number: u64) {
+        row[(number as usize).min(row.len() - 1)] += 1;
+    }
+
+    fn reply(&mut self, kind: u64, due: &from01::Reply) {
+        match due.kind {
+            0 => Tally::count(&mut self.exits, due.number),
+            1 => Tally::count(&mut self.asks, due.number),
+            2 => self.done[0] += 1,
+            3 => self.values[0] += 1,
+            _ => Tally::count(&mut self.errors, due.number),
+        }
+        self.printed += (kind == 13 && due.values[0] != 0) as u64;
     }
 }
 
 /// Makes one call on a record of any words; the mismatch in words if there is
 /// one.
-pub fn one(r: &mut Random, tally: &mut Tally) -> Result<(), String> {
-    let mut judge = generate::record(r);
-    let wild = [kind(r), number(r), number(r), number(r)];
-    // A waiting fetch for a fault has READ or WRITE: 01 has no third.
-    let wild = if wild[0] == 3 { [3, wild[1], 1 + r.below(2), wild[3]] } else { wild };
-    judge.waiting = Waiting::from_words(wild);
-    let mut words: Words = judge.to_words(wild);
-    let call_kind = kind(r);
-    let mut numbers: [u64; 5] = std::array::from_fn(|_| number(r));
-    if call_kind == 10 {
-        let class = r.below(generate::CLASSES.len() as u64) as usize;
-        let trap = generate::input(r, class, judge.clone()).trap;
-        numbers = [trap.scause, trap.stval, trap.htval, trap.htinst, trap.room];
-    }
-    let fits = wild[0] >= 2 && wild[0] <= 12 && r.coin();
-    if call_kind == 11 && fits {
-        numbers[0] = [1, 1, 2, 3, 4, 5, 6, 7, 7, 8, 9][wild[0] as usize - 2];
-    }
-    let at = |number: u64| (number as usize).min(KINDS - 1);
+pub fn one(r: &mut Random, entry: &Entry, tally: &mut Tally) -> Result<(), String> {
+    let (before, kind, numbers) = drawn(r, entry.any_kind);
     tally.calls += 1;
-    tally.kinds[at(call_kind)] += 1;
-    tally.waiting[at(wild[0])] += 1;
-    if call_kind == 11 {
-        tally.answers[at(numbers[0])] += 1;
+    Tally::count(&mut tally.kinds, kind);
+    Tally::count(&mut tally.waiting, before[54]);
+    if kind == 11 {
+        Tally::count(&mut tally.answers, numbers[0]);
     }
-    let due = judge.call(&Call::from_words(call_kind, numbers));
-    let is = reply_of(&call_words(&mut words, call_kind, numbers));
-    if due == is && words == words_of(&judge) {
+    let (mut due_words, mut words) = (before, before);
+    let due = from01::call(&mut due_words, kind, numbers);
+    let is = (entry.call)(&mut words, kind, numbers);
+    tally.reply(kind, &due);
+    let same = is.kind == due.kind
+        && is.number == due.number
+        && is.values == due.values
+        && is.args == due.args;
+    if same && words == due_words {
         return Ok(());
     }
-    Err(format!(
-        "call {call_kind} {numbers:x?} with {wild:x?} waiting\n  model {due:x?}\n    {:x?}\n  abi {is:x?}\n    {words:x?}",
-        words_of(&judge),
-    ))
+    let mut text = format!("call {kind} {numbers:x?} on {before:x?}\n");
+    text += &format!("  from01 {due:x?}\n  {} {is:x?}\n", entry.name);
+    for at in (0..58).filter(|&at| words[at] != due_words[at]) {
+        let (was, due, is) = (before[at], due_words[at], words[at]);
+        text += &format!("  word {at} was {was:x}, from01 {due:x}, {} {is:x}\n", entry.name);
+    }
+    Err(text)
 }
 
-/// A kind, known or not.
-fn kind(r: &mut Random) -> u64 {
-    match r.below(16) {
-        0 => r.edgy(),
-        1 => 1 << (32 + r.below(32)) | r.below(14),
-        _ => r.below(14),
+/// A record of random words, a call and its numbers. Half of the calls start a
+/// trap or answer an ask: they have the most rules.
+fn drawn(r: &mut Random, any_kind: bool) -> (Words, u64, [u64; 5]) {
+    let kind = match r.below(16) {
+        0 if any_kind => strange(r, CALLS),
+        1..=4 => 10,
+        5..=8 => 11,
+        _ => 1 + r.below(CALLS),
+    };
+    let waiting = waiting(r, kind);
+    let mut record = generate::record(r);
+    let mut numbers: [u64; 5] = std::array::from_fn(|_| number(r));
+    match kind {
+        6 => {
+            (numbers[0], numbers[1]) = r.pick(&[(3, 8), (4, 9), (3, 9), (4, 8), (5, 10), (2, 8)]);
+            numbers[2] = root(r);
+        }
+        7 => numbers[0] = vector(r),
+        9 if r.coin() => numbers[1] = r.pick(&[0, -3_i64 as u64, -1_i64 as u64]),
+        10 => {
+            let class = r.below(generate::CLASSES.len() as u64) as usize;
+            let input = generate::input(r, class, record);
+            let trap = input.trap;
+            record = input.record;
+            numbers = [trap.scause, trap.stval, trap.htval, trap.htinst, trap.room];
+        }
+        11 => answer(r, &waiting, &mut numbers),
+        13 => numbers[0] = length(r, waiting[1]),
+        _ => {}
+    }
+    let mut words = record.to_words();
+    words[54..].copy_from_slice(&waiting);
+    (words, kind, numbers)
+}
+
+/// Four waiting words; half of them are of a kind that the call asks for.
+fn waiting(r: &mut Random, call: u64) -> [u64; 4] {
+    let kind = match r.below(8) {
+        0 => strange(r, WAITING),
+        1..=3 => r.below(WAITING + 1),
+        _ => match call {
+            11 => 2 + r.below(WAITING - 1),
+            12 => 1,
+            13 => 6,
+            _ => 0,
+        },
+    };
+    let bytes = r.pick(&[1, 2, 4, 8]);
+    let second = if r.coin() { bytes } else { number(r) };
+    [kind, number(r), second, if r.coin() { r.below(2) } else { number(r) }]
+}
+
+/// An answer to the ask that waits, more often than not; else of another
+/// number, or of none.
+fn answer(r: &mut Random, waiting: &[u64; 4], numbers: &mut [u64; 5]) {
+    let n = waiting[1];
+    let ask = ASK_OF.get(waiting[0] as usize).copied().unwrap_or(0);
+    numbers[0] = match r.below(8) {
+        0 => r.pick(&NO_ASKS),
+        1 => strange(r, ASKS),
+        2 => r.below(ASKS + 1),
+        _ => ask,
+    };
+    match ask {
+        1 if r.coin() => {
+            let word = match r.below(4) {
+                0 => load(r),
+                1 => store(r),
+                2 => stimecmp(r),
+                _ => other(r),
+            };
+            (numbers[1], numbers[2]) = (r.number() << 32 | word as u64, 0);
+        }
+        1 => numbers[2] = r.below(8),
+        2 => numbers[1] = r.around(8),
+        3 | 6 => numbers[1] = r.around(n),
+        5 if r.coin() => {
+            (numbers[1], numbers[2]) = (0, if r.coin() { r.around(n) } else { r.below(64) });
+        }
+        _ => {}
     }
 }
 
-/// Small numbers often: they are kinds, indexes and flags.
+/// The length of a buffer to print n bytes of: that has them, or just not.
+fn length(r: &mut Random, n: u64) -> u64 {
+    match r.below(6) {
+        0 => 0,
+        1 => r.below(64),
+        2 => n.wrapping_sub(1),
+        3 => n,
+        4 => n.wrapping_add(1),
+        _ => r.edgy(),
+    }
+}
+
+/// A number that may be none of 0 to `last`: one above, one whose low half is
+/// known, any.
+fn strange(r: &mut Random, last: u64) -> u64 {
+    match r.below(4) {
+        0 => 0,
+        1 => last + 1,
+        2 => 1 << (32 + r.below(32)) | r.below(last + 1),
+        _ => r.edgy(),
+    }
+}
+
+/// Small numbers often: they are indexes, counts and flags.
 fn number(r: &mut Random) -> u64 {
     if r.coin() {
         r.below(34)

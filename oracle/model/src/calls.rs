@@ -139,12 +139,7 @@ impl Vcpu {
         if self.ask_waits() {
             return Reply::Error(Error::BadState);
         }
-        let error = match completion {
-            IpiCompletion::Success => SUCCESS,
-            IpiCompletion::InvalidParameter => INVALID_PARAM,
-            IpiCompletion::Failed => FAILED,
-        };
-        self.write(A0, error);
+        self.write(A0, completion.number());
         if abi == IpiAbi::SbiV02 {
             self.write(A1, 0);
         }

@@ -25,6 +25,9 @@ fn every_answer() -> Vec<Answer> {
         Answer::Emit,
         Answer::GetChar { number: 1 },
         Answer::Forward { error: 0, value: 1 },
+        Answer::Other { number: 0 },
+        Answer::Other { number: 10 },
+        Answer::Other { number: u64::MAX },
     ]
 }
 

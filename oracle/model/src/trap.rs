@@ -21,6 +21,7 @@ impl Vcpu {
         }
     }
 
+    /// "WrongAnswer: no ask waits, or the answer is of another ask's kind".
     pub fn answer(&mut self, answer: &Answer) -> Reply {
         let waiting = self.waiting;
         match (waiting, *answer) {

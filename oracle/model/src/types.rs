@@ -1,5 +1,7 @@
 //! The record, a trap's numbers, asks and answers, exits and errors.
 
+use crate::{FAILED, INVALID_PARAM, SUCCESS};
+
 /// A guest virtual address.
 #[derive(Clone, Copy, Debug, PartialEq, Eq, Hash)]
 pub struct GuestVirtAddr(pub u64);
@@ -125,6 +127,8 @@ pub enum Answer {
     Emit,
     GetChar { number: u64 },
     Forward { error: u64, value: u64 },
+    /// A number that is no ask's: of another kind than any ask that waits.
+    Other { number: u64 },
 }
 
 /// Either an instruction word or a fault.
@@ -210,6 +214,17 @@ pub enum IpiCompletion {
     Success,
     InvalidParameter,
     Failed,
+}
+
+impl IpiCompletion {
+    /// "IPI completion (0, -3, -1)".
+    pub fn number(self) -> u64 {
+        match self {
+            IpiCompletion::Success => SUCCESS,
+            IpiCompletion::InvalidParameter => INVALID_PARAM,
+            IpiCompletion::Failed => FAILED,
+        }
+    }
 }
 
 /// A finished trap's exit.

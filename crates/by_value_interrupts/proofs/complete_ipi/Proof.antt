@@ -1,5 +1,5 @@
 -- `by_value_interrupts::complete_ipi` meets its contract.
-use Rattle.scope.specs.Calls.{calledOf, effectOf}
+use Rattle.scope.specs.Calls.{baseOf, calledOf, effectOf}
 use Rattle.by_value_interrupts.proofs.complete_ipi.Statement.{statement}
 use Rattle.by_value_interrupts.proofs.complete_ipi.Tie as tie
 use borrow.Author.Needs.{needs}
@@ -17,7 +17,7 @@ unless-asking-requires : tie.Need-unless-asking-requires
 unless-asking-requires c κs = search needs
 
 returns : tie.Need-returns
-unfolding calledOf effectOf
+unfolding calledOf baseOf effectOf
 returns c = simp (c .unless-asking .ensures, c .before .done .ensures, c .before .before .ipi-writes .ensures, c .before .before .before .completion-number .ensures)
 
 pub complete-ipi-spec : {M : Type 1} → statement M

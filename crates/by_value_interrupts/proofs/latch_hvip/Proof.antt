@@ -1,5 +1,5 @@
 -- `by_value_interrupts::latch_hvip` meets its contract.
-use Rattle.scope.specs.Calls.{calledOf, effectOf}
+use Rattle.scope.specs.Calls.{baseOf, calledOf, effectOf}
 use Rattle.by_value_interrupts.proofs.latch_hvip.Statement.{statement}
 use Rattle.by_value_interrupts.proofs.latch_hvip.Tie as tie
 use borrow.Author.Needs.{needs}
@@ -14,7 +14,7 @@ unless-asking-requires : tie.Need-unless-asking-requires
 unless-asking-requires c κs = search needs
 
 returns : tie.Need-returns
-unfolding calledOf effectOf
+unfolding calledOf baseOf effectOf
 returns c = simp (c .unless-asking .ensures, c .before .done .ensures, c .before .before .with-hvip .ensures)
 
 pub latch-hvip-spec : {M : Type 1} → statement M

@@ -1,8 +1,8 @@
 -- `by_value_printing::to_print` meets its contract.
-use Rattle.scope.specs.Calls.{printedOf}
+use Rattle.scope.specs.Calls.{printedOf, printable}
+use borrow.Author.Needs.{needs}
 use Rattle.by_value_printing.proofs.to_print.Statement.{statement}
 use Rattle.by_value_printing.proofs.to_print.Tie as tie
-use borrow.Author.Needs.{needs}
 
 print-count-requires : tie.Need-print-count-requires
 print-count-requires c κs = search needs
@@ -11,7 +11,7 @@ first-requires : tie.Need-first-requires
 first-requires c κs = search needs
 
 returns : tie.Need-returns
-unfolding printedOf
+unfolding printedOf printable
 returns c = simp (c .first .ensures, c .before .print-count .ensures)
 
 pub to-print-spec : {M : Type 1} → statement M

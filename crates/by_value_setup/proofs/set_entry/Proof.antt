@@ -1,5 +1,5 @@
 -- `by_value_setup::set_entry` meets its contract.
-use Rattle.scope.specs.Calls.{calledOf, effectOf}
+use Rattle.scope.specs.Calls.{baseOf, calledOf, effectOf}
 use Rattle.by_value_setup.proofs.set_entry.Statement.{statement}
 use Rattle.by_value_setup.proofs.set_entry.Tie as tie
 use borrow.Author.Needs.{needs}
@@ -14,7 +14,7 @@ unless-asking-requires : tie.Need-unless-asking-requires
 unless-asking-requires c κs = search needs
 
 returns : tie.Need-returns
-unfolding calledOf effectOf
+unfolding calledOf baseOf effectOf
 returns c = simp (c .unless-asking .ensures, c .before .done .ensures, c .before .before .entry-csrs .ensures)
 
 pub set-entry-spec : {M : Type 1} → statement M

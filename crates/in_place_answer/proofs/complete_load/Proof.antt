@@ -1,6 +1,6 @@
 -- `in_place_answer::complete_load` meets its contract.
 use mathlib.Core.Path.{refl}
-use Rattle.scope.specs.Calls.{calledOf, effectOf}
+use Rattle.scope.specs.Calls.{calledOf, baseOf, effectOf}
 use Rattle.in_place_record.specs.Laws.{complete-done}
 use Rattle.in_place_answer.specs.Laws.{done-by}
 use borrow.Author.Needs.{needs}
@@ -17,7 +17,7 @@ complete-requires : tie.Need-complete-requires
 complete-requires c κs = search needs
 
 returns : tie.Need-returns
-unfolding calledOf effectOf
+unfolding calledOf baseOf effectOf
 returns c = done-by (complete-done _ (c .before .before .before .before .sized .ensures) _ _ refl) (simp (c .before .before .waiting .ensures) at (c .complete .ensures))
 
 pub complete-load-spec : {M : Type 1} → statement M

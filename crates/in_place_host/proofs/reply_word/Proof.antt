@@ -1,5 +1,5 @@
 -- `in_place_host::reply_word` meets its contract.
-use Rattle.in_place_record.specs.View.{replyWord}
+use Rattle.scope.specs.ReplyWords.{replyWord}
 use borrow.Author.Needs.{needs}
 use Rattle.in_place_host.proofs.reply_word.Statement.{statement}
 use Rattle.in_place_host.proofs.reply_word.Tie as tie

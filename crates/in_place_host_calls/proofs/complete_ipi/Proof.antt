@@ -1,5 +1,5 @@
 -- `in_place_host_calls::complete_ipi` meets its contract.
-use Rattle.scope.specs.Calls.{calledOf, effectOf}
+use Rattle.scope.specs.Calls.{baseOf, calledOf, effectOf}
 use Rattle.in_place_host.specs.Laws.{done-keeps}
 use Rattle.in_place_host_calls.proofs.complete_ipi.Statement.{statement}
 use Rattle.in_place_host_calls.proofs.complete_ipi.Tie as tie
@@ -24,7 +24,7 @@ unless-asking-requires : tie.Need-unless-asking-requires
 unless-asking-requires c κs = search needs
 
 returns : tie.Need-returns
-unfolding calledOf effectOf
+unfolding calledOf baseOf effectOf
 returns c = simp (c .before .before .done .ensures, c .before .before .before .ipi-writes .ensures, c .before .before .before .before .completion-number .ensures, c .before .before .before .before .before .waiting .ensures, c .before .before .before .before .before .before .before .csrs .ensures) at (c .unless-asking .ensures (c .before .before .before .before .before .waiting .ensures) (rw (c .before .before .done .ensures) (done-keeps _ _ _)))
 
 pub complete-ipi-spec : {M : Type 1} → statement M

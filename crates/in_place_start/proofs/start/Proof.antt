@@ -1,5 +1,5 @@
 -- `in_place_start::start` meets its contract.
-use Rattle.scope.specs.Calls.{calledOf, effectOf}
+use Rattle.scope.specs.Calls.{calledOf, baseOf, effectOf}
 use Rattle.scope.specs.Classes.{startEffect}
 use borrow.Author.Needs.{needs}
 use Rattle.in_place_start.proofs.start.Statement.{statement}
@@ -15,7 +15,7 @@ started-requires : tie.Need-started-requires
 started-requires c κs = search needs
 
 returns : tie.Need-returns
-unfolding calledOf effectOf startEffect
+unfolding calledOf baseOf effectOf startEffect
 returns c = simp (c .before .before .before .is-idle .ensures, c .before .before .before .before .waiting .ensures) at (c .started .ensures)
 
 pub start-spec : {M : Type 1} → statement M

@@ -14,8 +14,8 @@ abi-of-requires c κs = search needs
 completion-of-requires : tie.Need-completion-of-requires
 completion-of-requires c κs = search needs
 
-answer-of-requires : tie.Need-answer-of-requires
-answer-of-requires c κs = search needs
+answer-for-requires : tie.Need-answer-for-requires
+answer-for-requires c κs = search needs
 
 returns : tie.Need-returns
 unfolding callBy
@@ -59,7 +59,7 @@ returns-10 c = simp (c .match .keys10)
 
 returns-11 : tie.Need-returns-11
 unfolding callBy
-returns-11 c = simp (c .answer-of .ensures, c .before .match .keys11)
+returns-11 c = simp (c .answer-for .ensures, c .before .match .keys11)
 
 returns-12 : tie.Need-returns-12
 unfolding callBy
@@ -67,7 +67,15 @@ returns-12 c = simp (c .match .keys12)
 
 returns-13 : tie.Need-returns-13
 unfolding callBy
-returns-13 c = simp (ne-eqb _ _ (c .match .rest .1), ne-eqb _ _ (c .match .rest .0 .1), ne-eqb _ _ (c .match .rest .0 .0 .1), ne-eqb _ _ (c .match .rest .0 .0 .0 .1), ne-eqb _ _ (c .match .rest .0 .0 .0 .0 .1), ne-eqb _ _ (c .match .rest .0 .0 .0 .0 .0 .1), ne-eqb _ _ (c .match .rest .0 .0 .0 .0 .0 .0 .1), ne-eqb _ _ (c .match .rest .0 .0 .0 .0 .0 .0 .0 .1), ne-eqb _ _ (c .match .rest .0 .0 .0 .0 .0 .0 .0 .0 .1), ne-eqb _ _ (c .match .rest .0 .0 .0 .0 .0 .0 .0 .0 .0 .1), ne-eqb _ _ (c .match .rest .0 .0 .0 .0 .0 .0 .0 .0 .0 .0 .1), ne-eqb _ _ (c .match .rest .0 .0 .0 .0 .0 .0 .0 .0 .0 .0 .0 .1))
+returns-13 c = simp (c .match .keys13)
+
+returns-14 : tie.Need-returns-14
+unfolding callBy
+returns-14 c = simp (c .match .keys14)
+
+returns-15 : tie.Need-returns-15
+unfolding callBy
+returns-15 c = simp (ne-eqb _ _ (c .match .rest .1), ne-eqb _ _ (c .match .rest .0 .1), ne-eqb _ _ (c .match .rest .0 .0 .1), ne-eqb _ _ (c .match .rest .0 .0 .0 .1), ne-eqb _ _ (c .match .rest .0 .0 .0 .0 .1), ne-eqb _ _ (c .match .rest .0 .0 .0 .0 .0 .1), ne-eqb _ _ (c .match .rest .0 .0 .0 .0 .0 .0 .1), ne-eqb _ _ (c .match .rest .0 .0 .0 .0 .0 .0 .0 .1), ne-eqb _ _ (c .match .rest .0 .0 .0 .0 .0 .0 .0 .0 .1), ne-eqb _ _ (c .match .rest .0 .0 .0 .0 .0 .0 .0 .0 .0 .1), ne-eqb _ _ (c .match .rest .0 .0 .0 .0 .0 .0 .0 .0 .0 .0 .1), ne-eqb _ _ (c .match .rest .0 .0 .0 .0 .0 .0 .0 .0 .0 .0 .0 .1), ne-eqb _ _ (c .match .rest .0 .0 .0 .0 .0 .0 .0 .0 .0 .0 .0 .0 .1), ne-eqb _ _ (c .match .rest .0 .0 .0 .0 .0 .0 .0 .0 .0 .0 .0 .0 .0 .1))
 
 pub call-by-spec : {M : Type 1} → statement M
 call-by-spec =
@@ -76,7 +84,7 @@ call-by-spec =
     test-requires
     abi-of-requires
     completion-of-requires
-    answer-of-requires
+    answer-for-requires
     returns
     returns-2
     returns-3
@@ -89,4 +97,6 @@ call-by-spec =
     returns-10
     returns-11
     returns-12
-    returns-13)
+    returns-13
+    returns-14
+    returns-15)

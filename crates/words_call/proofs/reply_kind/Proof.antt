@@ -1,5 +1,5 @@
 -- `words_call::reply_kind` meets its contract.
-use Rattle.words_call.specs.Words.{replyKind}
+use Rattle.scope.specs.ReplyWords.{replyKind}
 use borrow.Author.Needs.{needs}
 use Rattle.words_call.proofs.reply_kind.Statement.{statement}
 use Rattle.words_call.proofs.reply_kind.Tie as tie

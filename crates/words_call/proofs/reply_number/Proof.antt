@@ -1,5 +1,5 @@
 -- `words_call::reply_number` meets its contract.
-use Rattle.words_call.specs.Words.{replyNumber}
+use Rattle.scope.specs.ReplyWords.{replyNumber}
 use borrow.Author.Needs.{needs}
 use Rattle.words_call.proofs.reply_number.Statement.{statement}
 use Rattle.words_call.proofs.reply_number.Tie as tie

@@ -1,5 +1,5 @@
 -- `words_call::reply_values` meets its contract.
-use Rattle.words_call.specs.Words.{replyValues}
+use Rattle.scope.specs.ReplyWords.{replyValues}
 use borrow.Author.Needs.{needs}
 use Rattle.words_call.proofs.reply_values.Statement.{statement}
 use Rattle.words_call.proofs.reply_values.Tie as tie

@@ -1,8 +1,8 @@
 -- `words_numbers::answer_number` meets its contract.
 use Rattle.scope.specs.OneTrap.{answerNumber}
+use borrow.Author.Needs.{needs}
 use Rattle.words_numbers.proofs.answer_number.Statement.{statement}
 use Rattle.words_numbers.proofs.answer_number.Tie as tie
-use borrow.Author.Needs.{needs}
 
 enum-told : tie.Need-enum-told
 enum-told c = search needs
@@ -30,6 +30,9 @@ enum-told-8 c = search needs
 
 enum-told-9 : tie.Need-enum-told-9
 enum-told-9 c = search needs
+
+enum-told-10 : tie.Need-enum-told-10
+enum-told-10 c = search needs
 
 returns : tie.Need-returns
 unfolding answerNumber
@@ -67,6 +70,10 @@ returns-9 : tie.Need-returns-9
 unfolding answerNumber
 returns-9 c = simp (c .enum-told9 .given .1)
 
+returns-10 : tie.Need-returns-10
+unfolding answerNumber
+returns-10 c = simp (c .enum-told10 .given .1)
+
 pub answer-number-spec : {M : Type 1} → statement M
 answer-number-spec =
     tie.close
@@ -80,6 +87,7 @@ answer-number-spec =
     enum-told-7
     enum-told-8
     enum-told-9
+    enum-told-10
     returns
     returns-2
     returns-3
@@ -88,4 +96,5 @@ answer-number-spec =
     returns-6
     returns-7
     returns-8
-    returns-9)
+    returns-9
+    returns-10)

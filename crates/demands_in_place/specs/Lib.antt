@@ -1,4 +1,0 @@
-pub mod One
-pub mod Back
-pub mod Places
-pub mod Demands

@@ -1,0 +1,260 @@
+-- Demands 1 and 3, and the counts, of the entries that hosts call: in place, in all 58 words, and by words.
+use Prim.Native.Nat.{ℕ, suc, _+_, _<_}
+use native.Mathlib.Omega.{arith}
+use mathlib.Core.Bool.{Bool, true, false}
+use mathlib.Core.List.{List, [], _∷_}
+use mathlib.Core.Path.{_≡_, refl, ap, ap₂, sym, subst, _∙_}
+use lib.Dec.{eqb}
+use lib.ListN.{drop, getD, length, replicate}
+use Rattle.isa_types.specs.Pick.{and, or, wrapped}
+use Rattle.scope.specs.Calls.{calledOf}
+use Rattle.scope.specs.declared.hosts.HostCall.the-variants as hostCall
+use Rattle.scope.specs.declared.hosts.HostCall.{HostCall}
+use Rattle.scope.specs.declared.machine.Record.{Record}
+use Rattle.scope.specs.declared.machine.Vcpu.{Vcpu}
+use Rattle.scope.specs.declared.traps.Ask.the-variants as ask
+use Rattle.scope.specs.declared.traps.Ask.{Ask}
+use Rattle.scope.specs.declared.traps.Error.the-variants as error
+use Rattle.scope.specs.declared.traps.Error.{Error}
+use Rattle.scope.specs.declared.traps.Exit.the-variants as exit
+use Rattle.scope.specs.declared.traps.Reply.the-variants as reply
+use Rattle.scope.specs.declared.traps.Reply.{Reply}
+use Rattle.scope.specs.declared.traps.Trap.{Trap}
+use Rattle.scope.specs.OneTrap.{askNumber, exitNumber}
+use Rattle.scope.specs.Refusals.{errorNumber, refusal, refuses}
+use Rattle.scope.specs.ReplyWords.{outOf, replyKind, replyNumber, replyValues, replyWord}
+use Rattle.scope.specs.Words.{leftOf, unpackOf}
+use Rattle.words_call.specs.declared.CallWords.{CallWords}
+use Rattle.words_call.specs.declared.ReplyWords.{ReplyWords}
+use Rattle.words_call.specs.Words.{callOf, replyWordsOf}
+use Rattle.words_entry.specs.Words.{Exported, exportedOf}
+use Rattle.in_place_record.specs.Told.{told}
+use Rattle.in_place_record.specs.View.{Done, Made, recordOf, viewOf}
+use Rattle.demand1.specs.Demand1.{Pending, ask-waits}
+use Rattle.demand1.specs.When.{callWhen}
+use Rattle.demand1.specs.Whole.{Middles, inError, wholeOf}
+use Rattle.demand3.specs.Counting as counting
+use Rattle.demand3.specs.Counting.{Counted}
+use Rattle.demand3.specs.Kinds.{traps}
+use Rattle.demand3_table.specs.Runs.{Lasting, Sight, Untouched, runOf, seenOf, sightOf, stepOf, written}
+use Rattle.demands_lent.specs.Entries.{turnsOf}
+use Rattle.demands_words.specs.Left.{Sized, left-shows, left-sized, leftAfter}
+use Rattle.demands_words.specs.First.{OverWords, error-leaves-the-words, number-when, read-leaves-the-words, refusal-leaves-the-words, word-when}
+use Rattle.demands_words.specs.Places as places
+use Rattle.demands_words.specs.Places.{Entered, Leads, Places, Shown, Step, Use, callsIn, callsOf, leads, one-place, record-sized, showsOf, useCall}
+use Rattle.demands_words.specs.Third.{AlikeWords, WordsThird, after-run, words-third}
+
+-- a sequence in place leaves the words of that sequence, and shows what a host sees of it
+
+pub record Ran (r : List ℕ) (cs : List Use) (u : List ℕ) : Type 0 where
+  pub sized : length u ≡ 58
+  pub left : recordOf u ≡ leftAfter (recordOf r) (callsOf cs)
+
+ran : {r u : List ℕ} {cs : List Use} {ws : List Shown} → length r ≡ 58 → Places r cs ws u → Ran r cs u
+unfolding callsOf leftAfter
+ran e places.none = record { sized = e; left = refl }
+ran {r} e (places.next {s = s} {c = c} {cs = cs} k p) =
+    let one = leads e k in
+    let rest = ran (one .sized) p in
+    record { sized = rest .sized; left = rest .left ∙ ap (λ (z : Record). leftAfter z (callsOf cs)) (one .left) }
+
+-- what is shown, of what a host sees
+unfoldable pub shownFor : List Use → List Sight → List Shown
+shownFor [] ss = []
+shownFor (c ∷ cs) [] = []
+shownFor (c ∷ cs) (s ∷ ss) = showsOf c (s .reply) (s .args) ∷ shownFor cs ss
+
+told-by : {r u : List ℕ} {cs : List Use} {ws : List Shown} → length r ≡ 58 → Places r cs ws u → ws ≡ shownFor cs (seenOf (viewOf r) (turnsOf (callsOf cs)))
+unfolding callsOf turnsOf seenOf shownFor sightOf stepOf
+told-by e places.none = refl
+told-by {r} e (places.next {c = c} {cs = cs} k p) =
+    let one = leads e k in
+    ap₂ _∷_ (one .says) (told-by (one .sized) p ∙ ap (λ (v : Vcpu). shownFor cs (seenOf v (turnsOf (callsOf cs)))) (one .shows))
+
+-- demand 1: a refusal leaves all 58 words as they were, and zeros for its reply
+
+-- refusals 1, 2 and 7, by the word returned
+unfoldable pub refusalWord : ℕ → Bool
+refusalWord w = or (eqb w 0x101) (or (eqb w 0x102) (eqb w 0x107))
+
+refusal-word : (p : Reply) → refusalWord (replyWord p) ≡ refuses p
+unfolding refusalWord replyWord refuses refusal exitNumber askNumber errorNumber
+refusal-word (reply.Exit exit.Nothing) = refl
+refusal-word (reply.Exit (exit.ExternalInterrupt v)) = refl
+refusal-word (reply.Exit (exit.SendIpi r)) = refl
+refusal-word (reply.Exit (exit.CpuUp t e a)) = refl
+refusal-word (reply.Exit (exit.CpuDown s)) = refl
+refusal-word (reply.Exit exit.Halt) = refl
+refusal-word (reply.Exit (exit.Hypercall n)) = refl
+refusal-word (reply.Exit exit.SystemDown) = refl
+refusal-word (reply.Exit (exit.NestedPageFault a k)) = refl
+refusal-word (reply.Exit (exit.MmioRead a w)) = refl
+refusal-word (reply.Exit (exit.MmioWrite a w d)) = refl
+refusal-word (reply.Ask (ask.Fetch a s)) = refl
+refusal-word (reply.Ask (ask.CopyMask a)) = refl
+refusal-word (reply.Ask (ask.CopyIn a n)) = refl
+refusal-word (reply.Ask (ask.Print n)) = refl
+refusal-word (reply.Ask (ask.ReadConsole n)) = refl
+refusal-word (reply.Ask (ask.CopyOut a n)) = refl
+refusal-word (reply.Ask (ask.Emit n)) = refl
+refusal-word (reply.Ask ask.GetChar) = refl
+refusal-word (reply.Ask (ask.Forward e f a)) = refl
+refusal-word reply.Done = refl
+refusal-word (reply.Value n) = refl
+refusal-word (reply.Error error.InvalidInput) = refl
+refusal-word (reply.Error error.BadState) = refl
+refusal-word (reply.Error error.Unsupported) = refl
+refusal-word (reply.Error error.InvalidTrap) = refl
+refusal-word (reply.Error error.DecodeFailed) = refl
+refusal-word (reply.Error error.GuestMemoryFault) = refl
+refusal-word (reply.Error error.WrongAnswer) = refl
+
+never : {A : Type 0} → false ≡ true → A
+never h = let z : _≡_ {A = ℕ} 0 1 = cc in absurd (omega arith)
+
+blank-by : (p : Reply) (args : List ℕ) → refuses p ≡ true → outOf p args ≡ replicate 8 0
+unfolding outOf replyWord replyValues refuses refusal errorNumber
+blank-by (reply.Exit e) args h = never h
+blank-by (reply.Ask a) args h = never h
+blank-by reply.Done args h = never h
+blank-by (reply.Value n) args h = never h
+blank-by (reply.Error error.InvalidInput) args h = refl
+blank-by (reply.Error error.BadState) args h = refl
+blank-by (reply.Error error.Unsupported) args h = never h
+blank-by (reply.Error error.InvalidTrap) args h = never h
+blank-by (reply.Error error.DecodeFailed) args h = never h
+blank-by (reply.Error error.GuestMemoryFault) args h = never h
+blank-by (reply.Error error.WrongAnswer) args h = refl
+
+refused-place : (r s : List ℕ) (c : HostCall) (w : ℕ) → length r ≡ 58 → length s ≡ 58 → recordOf s ≡ leftOf (recordOf r) c → w ≡ replyWord (calledOf (viewOf r) c .reply) → refusalWord w ≡ true → s ≡ r
+unfolding viewOf
+refused-place r s c w e f left says h =
+    one-place s r f e (left ∙ refusal-leaves-the-words (recordOf r) c (record-sized r e) (sym (refusal-word (calledOf (viewOf r) c .reply)) ∙ ap refusalWord (sym says) ∙ h))
+
+pub place-refusal-keeps-the-record : (r s p : List ℕ) (c : HostCall) (w : ℕ) → length r ≡ 58 → Made r c s p w → refusalWord w ≡ true → (s ≡ r) × (p ≡ replicate 8 0)
+unfolding useCall
+place-refusal-keeps-the-record r s p c w e m h =
+    let one = leads e (places.gives m) in (
+      refused-place r s c w e (one .sized) (one .left) (m .says) h,
+      m .gives ∙ blank-by (calledOf (viewOf r) c .reply) (calledOf (viewOf r) c .args) (sym (refusal-word (calledOf (viewOf r) c .reply)) ∙ ap refusalWord (sym (m .says)) ∙ h),
+    )
+
+pub host-refusal-keeps-the-record : (r s : List ℕ) (c : HostCall) (w : ℕ) → length r ≡ 58 → Done r c s w → refusalWord w ≡ true → s ≡ r
+unfolding useCall
+host-refusal-keeps-the-record r s c w e d h =
+    let one = leads e (places.does d) in refused-place r s c w e (one .sized) (one .left) (d .says) h
+
+-- a register read leaves all 58
+pub place-read-keeps-the-record : (r s p : List ℕ) (index w : ℕ) → length r ≡ 58 → Made r (hostCall.GetGpr index) s p w → s ≡ r
+unfolding useCall
+place-read-keeps-the-record r s p index w e m =
+    let one = leads e (places.gives m) in
+    one-place s r (one .sized) e (one .left ∙ read-leaves-the-words (recordOf r) index (record-sized r e))
+
+-- 0x100 + e is returned exactly where 01's table has e
+pub place-when : (y : Error) (r s p : List ℕ) (c : HostCall) (w : ℕ) → Made r c s p w → eqb w (256 + errorNumber y) ≡ callWhen (viewOf r) c y
+place-when y r s p c w m = ap (λ (n : ℕ). eqb n (256 + errorNumber y)) (m .says) ∙ word-when y (viewOf r) c
+
+pub host-when : (y : Error) (r s : List ℕ) (c : HostCall) (w : ℕ) → Done r c s w → eqb w (256 + errorNumber y) ≡ callWhen (viewOf r) c y
+host-when y r s c w d = ap (λ (n : ℕ). eqb n (256 + errorNumber y)) (d .says) ∙ word-when y (viewOf r) c
+
+-- an ask leaves exactly that ask waiting
+pub place-ask-waits : (r s p : List ℕ) (c : HostCall) (w : ℕ) → Made r c s p w → (a : Ask) → calledOf (viewOf r) c .reply ≡ reply.Ask a → Pending (viewOf r) a (viewOf s)
+place-ask-waits r s p c w m a e =
+    subst (λ (v : Vcpu). Pending (viewOf r) a v) (sym (m .shows)) (ask-waits (viewOf r) c a e)
+
+start-first : (r : Record) (t : Trap) (cs : List Use) → leftAfter r (callsOf (places.given (hostCall.Start t) ∷ cs)) ≡ leftAfter r (hostCall.Start t ∷ callsOf cs)
+unfolding callsOf useCall
+start-first r t cs = refl
+
+-- a trap that ends in an error, from its start through its last answer, with refused calls and reads between
+pub place-error-changes-nothing : (r u : List ℕ) (t : Trap) (cs : List Use) (ws : List Shown) → length r ≡ 58 → Places r (places.given (hostCall.Start t) ∷ cs) ws u
+    → Middles (calledOf (viewOf r) (hostCall.Start t) .vcpu) (callsOf cs) → inError (wholeOf (viewOf r) t (callsOf cs) .reply) ≡ true → OverWords (recordOf r) (recordOf u)
+unfolding viewOf
+place-error-changes-nothing r u t cs ws e p m h =
+    subst (λ (z : Record). OverWords (recordOf r) z) (sym (ran e p .left ∙ start-first (recordOf r) t cs)) (error-leaves-the-words (recordOf r) t (callsOf cs) (record-sized r e) m h)
+
+-- demand 3, in all 58 words: two that are alike but in register k, and the same calls on both, the same words lent and lengths to
+-- print, none of which names k or reads it out
+pub record PlaceThird (k : ℕ) (r q u t : List ℕ) (cs : List Use) (ws xs : List Shown) : Type 0 where
+  pub shown : ws ≡ xs
+  pub alike : AlikeWords k (recordOf u) (recordOf t)
+  pub keeps : written k (viewOf r) (turnsOf (callsOf cs)) ≡ false
+      → (getD (recordOf u .x) k 0 ≡ getD (recordOf r .x) k 0) × (getD (recordOf t .x) k 0 ≡ getD (recordOf q .x) k 0)
+  pub joins : written k (viewOf r) (turnsOf (callsOf cs)) ≡ true → u ≡ t
+
+pub place-third : (k : ℕ) {r q u t : List ℕ} {cs : List Use} {ws xs : List Shown} → length r ≡ 58 → length q ≡ 58 → AlikeWords k (recordOf r) (recordOf q)
+    → Untouched k (viewOf r) (turnsOf (callsOf cs)) → Places r cs ws u → Places q cs xs t → PlaceThird k r q u t cs ws xs
+unfolding viewOf
+place-third k {r} {q} {u} {t} {cs} {ws} {xs} e f a n p o =
+    let both : WordsThird k (recordOf r) (recordOf q) (callsOf cs) = words-third k (recordOf r) (recordOf q) (callsOf cs) (record-sized r e) (record-sized q f) a n in
+    let here = ran e p in
+    let there = ran f o in
+    record {
+      shown = told-by e p ∙ ap (shownFor cs) (both .sights) ∙ sym (told-by f o);
+      alike = subst (λ (z : Record). AlikeWords k z (recordOf t)) (sym (here .left)) (subst (λ (z : Record). AlikeWords k (leftAfter (recordOf r) (callsOf cs)) z) (sym (there .left)) (both .alike));
+      keeps = λ h.
+          (ap (λ (z : Record). getD (z .x) k 0) (here .left) ∙ both .keeps h .0, ap (λ (z : Record). getD (z .x) k 0) (there .left) ∙ both .keeps h .1);
+      joins = λ h. one-place u t (here .sized) (there .sized) (here .left ∙ both .joins h ∙ sym (there .left));
+    }
+
+-- the counts, where no new record is made
+pub place-counts : {r u : List ℕ} {cs : List Use} {ws : List Shown} → length r ≡ 58 → Places r cs ws u → (i : ℕ) → Lasting (turnsOf (callsOf cs)) → Counted (viewOf r .counts) → i < 9
+    → getD (viewOf u .counts) i 0 ≡ wrapped (getD (viewOf r .counts) i 0 + traps (suc i) (viewOf r) (turnsOf (callsOf cs)))
+unfolding viewOf
+place-counts {r} {u} {cs} e p i l k h =
+    ap (λ (z : Record). getD (unpackOf z .counts) i 0) (ran e p .left)
+    ∙ ap (λ (v : Vcpu). getD (v .counts) i 0) (after-run (recordOf r) (callsOf cs) (record-sized r e))
+    ∙ counting.counts (unpackOf (recordOf r)) (turnsOf (callsOf cs)) i l k h
+
+-- the same of the entry over words
+
+entered-left : {r u : Record} {cs : List CallWords} {gs : List ReplyWords} → Entered r cs gs u → u ≡ leftAfter r (callsIn cs)
+unfolding callsIn leftAfter exportedOf
+entered-left places.none = refl
+entered-left (places.next {cs = cs} x p) = entered-left p ∙ ap (λ (z : Record). leftAfter z (callsIn cs)) (x .0)
+
+unfoldable pub givenIn : List Sight → List ReplyWords
+givenIn [] = []
+givenIn (s ∷ ss) = record { kind = replyKind (s .reply); number = replyNumber (s .reply); values = replyValues (s .reply); args = s .args } ∷ givenIn ss
+
+entered-gives : {r u : Record} {cs : List CallWords} {gs : List ReplyWords} → Sized r → Entered r cs gs u → gs ≡ givenIn (seenOf (unpackOf r) (turnsOf (callsIn cs)))
+unfolding callsIn turnsOf seenOf givenIn sightOf stepOf exportedOf replyWordsOf
+entered-gives z places.none = refl
+entered-gives {r} z (places.next {c = c} {cs = cs} x p) =
+    ap₂ _∷_ (x .1)
+    (entered-gives (subst (λ (k : Record). Sized k) (sym (x .0)) (left-sized r (callOf c) z)) p
+    ∙ ap (λ (v : Vcpu). givenIn (seenOf v (turnsOf (callsIn cs)))) (ap unpackOf (x .0) ∙ left-shows r (callOf c) z))
+
+pub words-refusal-keeps-the-record : (r s : Record) (c : CallWords) (g : ReplyWords) → Sized r → Exported r c s g → refuses (calledOf (unpackOf r) (callOf c) .reply) ≡ true → s ≡ r
+unfolding exportedOf
+words-refusal-keeps-the-record r s c g z x h = x .0 ∙ refusal-leaves-the-words r (callOf c) z h
+
+-- kind 4 and number e are given exactly where 01's table has e
+pub words-when : (y : Error) (r s : Record) (c : CallWords) (g : ReplyWords) → Exported r c s g → and (eqb (g .kind) 4) (eqb (errorNumber y) (g .number)) ≡ callWhen (unpackOf r) (callOf c) y
+unfolding exportedOf replyWordsOf
+words-when y r s c g x =
+    ap (λ (n : ReplyWords). and (eqb (n .kind) 4) (eqb (errorNumber y) (n .number))) (x .1) ∙ number-when y (unpackOf r) (callOf c)
+
+pub record EnteredThird (k : ℕ) (r q u t : Record) (cs : List CallWords) (gs hs : List ReplyWords) : Type 0 where
+  pub given : gs ≡ hs
+  pub alike : AlikeWords k u t
+  pub keeps : written k (unpackOf r) (turnsOf (callsIn cs)) ≡ false → (getD (u .x) k 0 ≡ getD (r .x) k 0) × (getD (t .x) k 0 ≡ getD (q .x) k 0)
+  pub joins : written k (unpackOf r) (turnsOf (callsIn cs)) ≡ true → u ≡ t
+
+pub entered-third : (k : ℕ) {r q u t : Record} {cs : List CallWords} {gs hs : List ReplyWords} → Sized r → Sized q → AlikeWords k r q → Untouched k (unpackOf r) (turnsOf (callsIn cs))
+    → Entered r cs gs u → Entered q cs hs t → EnteredThird k r q u t cs gs hs
+entered-third k {r} {q} {u} {t} {cs} {gs} {hs} z y a n p o =
+    let both : WordsThird k r q (callsIn cs) = words-third k r q (callsIn cs) z y a n in
+    record {
+      given = entered-gives z p ∙ ap givenIn (both .sights) ∙ sym (entered-gives y o);
+      alike = subst (λ (m : Record). AlikeWords k m t) (sym (entered-left p)) (subst (λ (m : Record). AlikeWords k (leftAfter r (callsIn cs)) m) (sym (entered-left o)) (both .alike));
+      keeps = λ h. (ap (λ (m : Record). getD (m .x) k 0) (entered-left p) ∙ both .keeps h .0, ap (λ (m : Record). getD (m .x) k 0) (entered-left o) ∙ both .keeps h .1);
+      joins = λ h. entered-left p ∙ both .joins h ∙ sym (entered-left o);
+    }
+
+pub entered-error-changes-nothing : (r u : Record) (t : Trap) (c : CallWords) (cs : List CallWords) (gs : List ReplyWords) → Sized r → callOf c ≡ hostCall.Start t → Entered r (c ∷ cs) gs u
+    → Middles (calledOf (unpackOf r) (hostCall.Start t) .vcpu) (callsIn cs) → inError (wholeOf (unpackOf r) t (callsIn cs) .reply) ≡ true → OverWords r u
+unfolding callsIn
+entered-error-changes-nothing r u t c cs gs z k p m h =
+    subst (λ (n : Record). OverWords r n) (sym (entered-left p ∙ ap (λ (l : HostCall). leftAfter r (l ∷ callsIn cs)) k)) (error-leaves-the-words r t (callsIn cs) z m h)

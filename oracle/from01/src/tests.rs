@@ -1,0 +1,1140 @@
+//! The marked cases, the refusal table, the rules of the waiting words and
+//! each rule of 01 by an example.
+
+use super::*;
+
+const TOP: u64 = 1 << 63;
+
+/// A record with a different number in each word and nothing waiting.
+/// hstatus bit 8 is clear.
+fn filled() -> [u64; 58] {
+    let mut words = [0; 58];
+    for (i, word) in words.iter_mut().enumerate() {
+        *word = 0x1111_0000_0000_0000 + 0x1_0000_0000 * i as u64 + 4 * i as u64;
+    }
+    words[HSTATUS] = 0x2_0000_0080;
+    words[WAITS] = 0;
+    words
+}
+
+/// `filled` with these words set.
+fn with(set: &[(usize, u64)]) -> [u64; 58] {
+    changed(filled(), set)
+}
+
+fn changed(mut words: [u64; 58], set: &[(usize, u64)]) -> [u64; 58] {
+    for &(word, number) in set {
+        words[word] = number;
+    }
+    words
+}
+
+/// An ecall's record: a7, a6, then a0 on.
+fn ecall_record(eid: u64, fid: u64, args: &[u64]) -> [u64; 58] {
+    let mut words = with(&[(17, eid), (16, fid)]);
+    for (i, &arg) in args.iter().enumerate() {
+        words[10 + i] = arg;
+    }
+    words
+}
+
+/// Makes the call and compares the reply and the whole later record: the
+/// earlier one with these words set.
+#[track_caller]
+fn check(
+    words: &mut [u64; 58],
+    kind: u64,
+    numbers: [u64; 5],
+    reply: Reply,
+    later: &[(usize, u64)],
+) {
+    let expected = changed(*words, later);
+    assert_eq!(call(words, kind, numbers), reply);
+    assert_eq!(*words, expected);
+}
+
+#[track_caller]
+fn ecall(words: &mut [u64; 58], reply: Reply, later: &[(usize, u64)]) {
+    check(words, 10, [10, 0, 0, 0, 4096], reply, later);
+}
+
+fn next(words: &[u64; 58]) -> u64 {
+    words[SEPC].wrapping_add(4)
+}
+
+fn nothing() -> Reply {
+    exit(NOTHING, &[])
+}
+
+// Marked cases
+
+#[test]
+fn case_1_time_wraps_sepc() {
+    let mut w = changed(ecall_record(0x54494D45, 0, &[5]), &[(SEPC, u64::MAX - 3)]);
+    let events = w[EVENTS] + 1;
+    ecall(
+        &mut w,
+        nothing(),
+        &[
+            (VSTIMECMP, 5),
+            (SEPC, 0),
+            (10, 0),
+            (11, 0),
+            (EVENTS, events),
+        ],
+    );
+}
+
+#[test]
+fn case_2_legacy_6_keeps_a0() {
+    let mut w = ecall_record(6, 0, &[77]);
+    let sepc = next(&w);
+    ecall(&mut w, nothing(), &[(SEPC, sepc)]);
+    assert_eq!(w[10], 77);
+}
+
+#[test]
+fn case_3_legacy_8_is_system_down() {
+    ecall(&mut ecall_record(8, 0, &[]), exit(SYSTEM_DOWN, &[]), &[]);
+}
+
+#[test]
+fn case_4_reads_rs1_before_writing_rd() {
+    let mut w = with(&[(VSTIMECMP, 7), (5, 9)]);
+    let sepc = next(&w);
+    check(
+        &mut w,
+        10,
+        [22, 0x14D292F3, 0, 0, 0],
+        nothing(),
+        &[(5, 7), (VSTIMECMP, 9), (SEPC, sepc)],
+    );
+}
+
+#[test]
+fn case_5_field_0_does_not_write() {
+    let mut w = with(&[(VSTIMECMP, 7)]);
+    let sepc = next(&w);
+    check(
+        &mut w,
+        10,
+        [22, 0x14D02373, 0, 0, 0],
+        nothing(),
+        &[(6, 7), (SEPC, sepc)],
+    );
+}
+
+#[test]
+fn case_6_field_as_a_number() {
+    let mut w = with(&[(VSTIMECMP, 7)]);
+    let sepc = next(&w);
+    check(
+        &mut w,
+        10,
+        [22, 0x14D1F073, 0, 0, 0],
+        nothing(),
+        &[(VSTIMECMP, 4), (SEPC, sepc)],
+    );
+}
+
+#[test]
+fn case_7_funct3_4_is_error_3_and_event_2() {
+    let mut w = filled();
+    let events = w[EVENTS + 1] + 1;
+    check(
+        &mut w,
+        10,
+        [22, 0x14D04073, 0, 0, 0],
+        error(3),
+        &[(EVENTS + 1, events)],
+    );
+}
+
+#[test]
+fn case_8_pseudo_and_length() {
+    for scause in [21, 23] {
+        check(&mut filled(), 10, [scause, 0, 0, 0x3000, 0], error(3), &[]);
+        check(&mut filled(), 10, [scause, 0, 0, 0x2000, 0], error(5), &[]);
+    }
+}
+
+#[test]
+fn case_9_store() {
+    for (htinst, length) in [(0x702023, 4), (0x702021, 2)] {
+        let mut w = with(&[(7, 0xFFFFFFFF12345678)]);
+        let sepc = w[SEPC] + length;
+        check(
+            &mut w,
+            10,
+            [23, 0, 0x4000000, htinst, 0],
+            exit(MMIO_WRITE, &[0x10000000, 4, 0x12345678]),
+            &[(SEPC, sepc)],
+        );
+    }
+}
+
+#[test]
+fn case_10_load_completion() {
+    for (htinst, signed, x7) in [(0x2383, 1, 0xFFFFFFFF80000000), (0x6383, 0, 0x80000000)] {
+        let mut w = filled();
+        let sepc = next(&w);
+        check(
+            &mut w,
+            10,
+            [21, 0, 0x4000000, htinst, 0],
+            exit(MMIO_READ, &[0x10000000, 4]),
+            &[(SEPC, sepc), (54, 1), (55, 7), (56, 4), (57, signed)],
+        );
+        check(
+            &mut w,
+            12,
+            [0x80000000, 0, 0, 0, 0],
+            done(),
+            &[(7, x7), (54, 0)],
+        );
+    }
+}
+
+#[test]
+fn case_11_page_table() {
+    check(
+        &mut filled(),
+        6,
+        [3, 8, 0x80004000, 0, 0],
+        done(),
+        &[(HGATP, 0x8000000000080004)],
+    );
+}
+
+#[test]
+fn case_12_injected_page_fault() {
+    for waits in [2, 3] {
+        let mut w = with(&[
+            (VSTVEC, 0x80200001),
+            (VSSTATUS, 2),
+            (HSTATUS, 0x100),
+            (WAITS, waits),
+        ]);
+        let sepc = w[SEPC];
+        check(
+            &mut w,
+            11,
+            [1, 0xabc, 1, 0, 0],
+            nothing(),
+            &[
+                (VSEPC, sepc),
+                (VSCAUSE, 12),
+                (VSTVAL, 0xabc),
+                (VSSTATUS, 0x120),
+                (SEPC, 0x80200000),
+                (WAITS, 0),
+            ],
+        );
+    }
+}
+
+// The refusal table
+
+#[test]
+fn refusal_1_invalid_input() {
+    let refused = [
+        (3, [32, 0, 0, 0, 0]),
+        (3, [u64::MAX, 0, 0, 0, 0]),
+        (4, [32, 5, 0, 0, 0]),
+        (6, [2, 8, 0, 0, 0]),
+        (6, [3, 9, 0, 0, 0]),
+        (6, [4, 8, 0, 0, 0]),
+        (6, [5, 10, 0, 0, 0]),
+        (6, [3, 8, 0x2000, 0, 0]),
+        (6, [4, 9, 1, 0, 0]),
+        (7, [1, 1, 0, 0, 0]),
+        (7, [5, 1, 0, 0, 0]),
+        (7, [0, 0, 0, 0, 0]),
+        (7, [TOP, 1, 0, 0, 0]),
+        (7, [TOP + 10, 1, 0, 0, 0]),
+        (0, [0; 5]),
+        (15, [0; 5]),
+        (u64::MAX, [0; 5]),
+    ];
+    for (kind, numbers) in refused {
+        check(&mut filled(), kind, numbers, error(1), &[]);
+    }
+    // Register read is refused with 1 while an ask waits too, and so is no
+    // call at all.
+    let mut w = with(&[(WAITS, 12)]);
+    check(&mut w, 3, [32, 0, 0, 0, 0], error(1), &[]);
+    check(&mut w, 15, [0; 5], error(1), &[]);
+}
+
+#[test]
+fn refusal_2_bad_state() {
+    for waits in 2..=12 {
+        // Also where the input is not allowed (2 goes before 1) and where
+        // nothing would change.
+        let refused = [
+            (1, [0; 5]),
+            (2, [0; 5]),
+            (4, [0; 5]),
+            (4, [32, 0, 0, 0, 0]),
+            (5, [0; 5]),
+            (6, [3, 8, 0, 0, 0]),
+            (6, [0; 5]),
+            (7, [9, 1, 0, 0, 0]),
+            (7, [0; 5]),
+            (8, [0; 5]),
+            (9, [0; 5]),
+            (10, [10, 0, 0, 0, 0]),
+            (10, [u64::MAX, 0, 0, 0, 0]),
+            (12, [0; 5]),
+        ];
+        for (kind, numbers) in refused {
+            check(&mut with(&[(WAITS, waits)]), kind, numbers, error(2), &[]);
+        }
+    }
+    // A start while a load waits, a load completion with none waiting.
+    check(
+        &mut with(&[(WAITS, 1)]),
+        10,
+        [u64::MAX, 0, 0, 0, 0],
+        error(2),
+        &[],
+    );
+    for waits in [0, 13, u64::MAX] {
+        check(&mut with(&[(WAITS, waits)]), 12, [5; 5], error(2), &[]);
+    }
+}
+
+#[test]
+fn error_3_unsupported() {
+    for code in [0, 2, 3, 4, 6, 7, 8, 10, 11, 12] {
+        check(&mut filled(), 10, [TOP + code, 0, 0, 0, 0], error(3), &[]);
+    }
+    for code in [0, 1, 2, 3, 4, 5, 6, 7, 8, 9, 11, 12, 13, 15, 20] {
+        check(&mut filled(), 10, [code, 0, 0, 0, 0], error(3), &[]);
+    }
+    for htinst in [0x3000, 0x3020, (1 << 32) + 0x3000, (7 << 32) + 0x3020] {
+        check(&mut filled(), 10, [21, 0, 0, htinst, 0], error(3), &[]);
+    }
+    // Another CSR, funct3 0 and 4, and a fetched word that doesn't end in 0x73.
+    for word in [0x14E29273, 0x14D00073, 0x14D04073, 0x14D29203, 0x1F, 0x3000] {
+        let mut w = with(&[(WAITS, 2)]);
+        let events = w[EVENTS + 1] + 1;
+        check(
+            &mut w,
+            11,
+            [1, word, 0, 0, 0],
+            error(3),
+            &[(EVENTS + 1, events), (WAITS, 0)],
+        );
+    }
+}
+
+#[test]
+fn error_4_invalid_trap() {
+    let unknown = [
+        14,
+        16,
+        17,
+        18,
+        19,
+        24,
+        63,
+        (1 << 32) + 10,
+        TOP - 1,
+        TOP + 13,
+        TOP + (1 << 32) + 1,
+        u64::MAX,
+    ];
+    for scause in unknown {
+        check(&mut filled(), 10, [scause, 0, 0, 0, 0], error(4), &[]);
+    }
+}
+
+#[test]
+fn error_5_decode_failed() {
+    for htinst in [2, 4, 0x2000, 0x702022, 1 << 32] {
+        check(&mut filled(), 10, [23, 0, 0, htinst, 0], error(5), &[]);
+    }
+    // Fetched: low five bits 1, also with an access that is EXECUTE.
+    for access in [1, 2, 4, 0, u64::MAX] {
+        let mut w = with(&[(54, 3), (56, access)]);
+        check(
+            &mut w,
+            11,
+            [1, 0xffff_ffff_0000_001f, 0, 0, 0],
+            error(5),
+            &[(WAITS, 0)],
+        );
+    }
+    // The rule is not asked of htinst: it decodes as nothing.
+    check(
+        &mut filled(),
+        10,
+        [23, 3, 1, 0x1f, 0],
+        exit(NESTED_PAGE_FAULT, &[7, 2]),
+        &[],
+    );
+}
+
+#[test]
+fn error_6_guest_memory_fault() {
+    for waits in [2, 3] {
+        for more in [5, 6, u64::MAX] {
+            check(
+                &mut with(&[(WAITS, waits)]),
+                11,
+                [1, 9, more, 0, 0],
+                error(6),
+                &[(WAITS, 0)],
+            );
+        }
+    }
+}
+
+#[test]
+fn refusal_7_wrong_answer() {
+    let ask_of = [
+        (2, 1),
+        (3, 1),
+        (4, 2),
+        (5, 3),
+        (6, 4),
+        (7, 5),
+        (8, 6),
+        (9, 7),
+        (10, 7),
+        (11, 8),
+        (12, 9),
+    ];
+    for (waits, number) in ask_of {
+        for answer in (0..=20).chain([u64::MAX]) {
+            let mut w = with(&[(WAITS, waits)]);
+            let reply = call(&mut w, 11, [answer, 0, 0, 0, 0]);
+            assert_eq!(reply == error(7), answer != number);
+            if answer != number {
+                assert_eq!(w, with(&[(WAITS, waits)]));
+            }
+        }
+    }
+    // No ask waits: nothing, a load, an unknown kind.
+    for waits in [0, 1, 13, u64::MAX] {
+        for answer in 0..=10 {
+            check(
+                &mut with(&[(WAITS, waits)]),
+                11,
+                [answer, 0, 0, 0, 0],
+                error(7),
+                &[],
+            );
+        }
+    }
+}
+
+// The waiting words
+
+#[test]
+fn waiting_words_reads_leave_all() {
+    for waits in (0..=14).chain([u64::MAX]) {
+        let mut w = with(&[(WAITS, waits)]);
+        let x5 = w[5];
+        check(&mut w, 3, [5, 0, 0, 0, 0], value(x5), &[]);
+        check(&mut w, 3, [0, 0, 0, 0, 0], value(0), &[]);
+        let n = if waits == 6 { w[55] } else { 0 };
+        check(&mut w, 13, [u64::MAX, 0, 0, 0, 0], value(n), &[]);
+    }
+}
+
+#[test]
+fn waiting_words_stay_under_a_hosts_call() {
+    // Nothing, a waiting load, unknown kinds.
+    for waits in [0, 1, 13, u64::MAX] {
+        let base = with(&[(WAITS, waits)]);
+        check(
+            &mut base.clone(),
+            1,
+            [0; 5],
+            done(),
+            &[
+                (SSTATUS, 0x2100),
+                (HSTATUS, 0x200000180),
+                (HIE, 0x444),
+                (VSTIMECMP, u64::MAX),
+                (HVIP, 0),
+                (HGEIE, 0),
+            ],
+        );
+        check(&mut base.clone(), 2, [3; 5], done(), &[(SEPC, 3)]);
+        check(&mut base.clone(), 4, [7, 3, 0, 0, 0], done(), &[(7, 3)]);
+        check(&mut base.clone(), 4, [0, 3, 0, 0, 0], done(), &[]);
+        check(&mut base.clone(), 5, [3; 5], done(), &[(10, 3)]);
+        check(
+            &mut base.clone(),
+            6,
+            [4, 9, u64::MAX << 14, 0, 0],
+            done(),
+            &[(HGATP, 0x9000_0fff_ffff_fffc)],
+        );
+        check(
+            &mut base.clone(),
+            8,
+            [u64::MAX; 5],
+            done(),
+            &[(HVIP, u64::MAX)],
+        );
+        check(&mut base.clone(), 9, [0; 5], done(), &[(10, 0)]);
+    }
+}
+
+#[test]
+fn waiting_words_under_new() {
+    for waits in (0..=14).chain([u64::MAX]) {
+        let mut w = with(&[(WAITS, waits)]);
+        assert_eq!(call(&mut w, 14, [4, 5, 6, 7, 8]), done());
+        assert_eq!(w, changed([0; 58], &[(10, 4), (11, 5)]));
+    }
+}
+
+#[test]
+fn waiting_words_of_a_start() {
+    // An unknown kind is nothing waiting; a start that is taken writes the
+    // kind, and of the numbers only those that the kind carries.
+    for unknown in [0, 13, u64::MAX] {
+        let base = with(&[(WAITS, unknown)]);
+        let sepc = base[SEPC];
+        check(
+            &mut base.clone(),
+            10,
+            [TOP + 5, 0, 0, 0, 0],
+            exit(EXTERNAL_INTERRUPT, &[TOP + 5]),
+            &[(54, 0)],
+        );
+        check(
+            &mut base.clone(),
+            10,
+            [14, 0, 0, 0, 0],
+            error(4),
+            &[(54, 0)],
+        );
+        check(
+            &mut base.clone(),
+            10,
+            [22, 0, 0, 0, 0],
+            ask(ASK_FETCH, &[sepc, 0]),
+            &[(54, 2)],
+        );
+        check(
+            &mut base.clone(),
+            10,
+            [23, 7, TOP + 4, 0, 0],
+            ask(ASK_FETCH, &[sepc, 0]),
+            &[(54, 3), (55, 19), (56, 2)],
+        );
+        let supervisor = changed(base, &[(HSTATUS, 0x180)]);
+        check(
+            &mut supervisor.clone(),
+            10,
+            [21, 0, 4, 0, 0],
+            ask(ASK_FETCH, &[sepc, 1]),
+            &[(54, 3), (55, 16), (56, 1)],
+        );
+    }
+}
+
+#[test]
+fn waiting_words_of_an_answer_and_a_load_completion() {
+    // Copy in leads to print, console read to copy out; all else ends.
+    check(
+        &mut with(&[(54, 5), (55, 9)]),
+        11,
+        [3, 9, 1, 0, 0],
+        ask(ASK_PRINT, &[9]),
+        &[(54, 6)],
+    );
+    check(
+        &mut with(&[(54, 7), (55, 9), (56, 0x8000)]),
+        11,
+        [5, 0, 4, 0, 0],
+        ask(ASK_COPY_OUT, &[0x8000, 4]),
+        &[(54, 8), (55, 4)],
+    );
+    for waits in 2..=12 {
+        let mut w = with(&[(WAITS, waits), (55, 9)]);
+        let kept = [w[55], w[56], w[57]];
+        let number = ask_number(&mut w);
+        call(&mut w, 11, [number, 0, 0, 0, 0]);
+        assert_eq!(w[54..], [0, kept[0], kept[1], kept[2]]);
+    }
+    // A load's numbers: bytes other than 1, 2, 4 are 8, any sign but 0 is
+    // yes, and rd 0 or above 31 writes no register.
+    for (rd, bytes, sign, later) in [
+        (7, 1, 9, Some(!0x7f)),
+        (7, 1, 0, Some(0x80)),
+        (7, 2, 1, Some(!0x7f7f)),
+        (7, 4, 1, Some(!0x7f7f_7f7f)),
+        (7, 8, 1, Some(0x8080_8080_8080_8080)),
+        (7, 3, 0, Some(0x8080_8080_8080_8080)),
+        (0, 8, 0, None),
+        (32, 8, 0, None),
+        (u64::MAX, 8, 0, None),
+    ] {
+        let mut w = with(&[(54, 1), (55, rd), (56, bytes), (57, sign)]);
+        let numbers = [0x8080_8080_8080_8080, 0, 0, 0, 0];
+        match later {
+            Some(x) => check(&mut w, 12, numbers, done(), &[(7, x), (54, 0)]),
+            None => check(&mut w, 12, numbers, done(), &[(54, 0)]),
+        }
+    }
+}
+
+fn ask_number(words: &mut [u64; 58]) -> u64 {
+    Record(words).waits().ask_number().unwrap()
+}
+
+#[test]
+fn waiting_fetch_with_execute_decodes_nothing() {
+    for word in [0x2383, 0x702023, 0x13, 0x2381] {
+        check(
+            &mut with(&[(54, 3), (55, 0x1000), (56, 3)]),
+            11,
+            [1, word, 0, 0, 0],
+            exit(NESTED_PAGE_FAULT, &[0x1000, 4]),
+            &[(54, 0)],
+        );
+    }
+}
+
+// Host's calls
+
+#[test]
+fn interrupt_pending_bits() {
+    for (vector, bit) in [(TOP + 1, 2), (TOP + 5, 6), (9, 10), (TOP + 9, 10)] {
+        for hvip in [0, u64::MAX] {
+            let mut w = with(&[(HVIP, hvip)]);
+            check(
+                &mut w,
+                7,
+                [vector, 2, 0, 0, 0],
+                done(),
+                &[(HVIP, hvip | 1 << bit)],
+            );
+            check(
+                &mut w,
+                7,
+                [vector, 0, 0, 0, 0],
+                done(),
+                &[(HVIP, hvip & !(1 << bit))],
+            );
+        }
+    }
+}
+
+#[test]
+fn ipi_completions() {
+    for (given, result) in [(0, 0), (INVALID_PARAM, INVALID_PARAM), (FAILED, FAILED)]
+        .into_iter()
+        .chain([(1, FAILED), (NOT_SUPPORTED, FAILED)])
+    {
+        check(
+            &mut filled(),
+            9,
+            [0, given, 0, 0, 0],
+            done(),
+            &[(10, result)],
+        );
+        check(
+            &mut filled(),
+            9,
+            [2, given, 0, 0, 0],
+            done(),
+            &[(10, result), (11, 0)],
+        );
+    }
+}
+
+#[test]
+fn bytes_to_print_are_all_n_or_none() {
+    let mut w = with(&[(54, 6), (55, 9)]);
+    for (length, n) in [(0, 0), (8, 0), (9, 9), (4096, 9)] {
+        check(&mut w, 13, [length, 0, 0, 0, 0], value(n), &[]);
+    }
+}
+
+// Ecalls
+
+#[test]
+fn external_interrupts() {
+    for code in [1, 5, 9] {
+        check(
+            &mut filled(),
+            10,
+            [TOP + code, 1, 2, 3, 4],
+            exit(EXTERNAL_INTERRUPT, &[TOP + code]),
+            &[],
+        );
+    }
+}
+
+#[test]
+fn legacy_calls() {
+    // Whatever a6 holds.
+    for fid in [0, 5] {
+        let mut w = ecall_record(0, fid, &[8]);
+        let (sepc, events) = (next(&w), w[EVENTS] + 1);
+        let later = [(VSTIMECMP, 8), (10, 0), (SEPC, sepc), (EVENTS, events)];
+        ecall(&mut w, nothing(), &later);
+
+        let mut w = ecall_record(1, fid, &[0x1234]);
+        ecall(&mut w, ask(ASK_EMIT, &[0x1234]), &[(54, 9)]);
+        check(
+            &mut w,
+            11,
+            [7, 1, 1, 0, 0],
+            nothing(),
+            &[(54, 0), (SEPC, sepc)],
+        );
+
+        let mut w = ecall_record(2, fid, &[8]);
+        ecall(&mut w, ask(ASK_GET_CHARACTER, &[]), &[(54, 11)]);
+        check(
+            &mut w,
+            11,
+            [8, 0x1234, 1, 0, 0],
+            nothing(),
+            &[(54, 0), (10, 0x1234), (SEPC, sepc)],
+        );
+
+        let mut w = changed(ecall_record(3, fid, &[8]), &[(HVIP, u64::MAX)]);
+        ecall(
+            &mut w,
+            nothing(),
+            &[(HVIP, !4), (10, 0), (SEPC, sepc), (54, 0)],
+        );
+
+        for (count, reply, later) in [
+            (8, exit(SEND_IPI, &[6, 0, 0]), vec![]),
+            (7, nothing(), vec![(10, FAILED), (11, 0)]),
+            (9, nothing(), vec![(10, FAILED), (11, 0)]),
+        ] {
+            let mut w = ecall_record(4, fid, &[0x9000]);
+            ecall(&mut w, ask(ASK_COPY_8, &[0x9000]), &[(54, 4)]);
+            let later = [later, vec![(54, 0), (SEPC, sepc)]].concat();
+            check(&mut w, 11, [2, count, 6, 0, 0], reply, &later);
+        }
+        for eid in 5..=7 {
+            ecall(
+                &mut ecall_record(eid, fid, &[8]),
+                nothing(),
+                &[(SEPC, sepc)],
+            );
+        }
+        ecall(
+            &mut ecall_record(8, fid, &[8]),
+            exit(SYSTEM_DOWN, &[]),
+            &[(54, 0)],
+        );
+    }
+}
+
+#[test]
+fn extensions_that_ask_nothing() {
+    let sepc = next(&filled());
+    let down = exit(SYSTEM_DOWN, &[]);
+    let ipi = exit(SEND_IPI, &[1, 2, 1]);
+    let up = exit(CPU_UP, &[1, 2, 3]);
+    ecall(&mut ecall_record(0x735049, 0, &[1, 2]), ipi, &[(32, sepc)]);
+    ecall(
+        &mut ecall_record(0x48534D, 0, &[1, 2, 3]),
+        up,
+        &[(32, sepc)],
+    );
+    ecall(
+        &mut ecall_record(0x48534D, 1, &[5]),
+        exit(CPU_DOWN, &[0]),
+        &[(54, 0)],
+    );
+    ecall(
+        &mut ecall_record(0x48534D, 3, &[5]),
+        exit(HALT, &[]),
+        &[(54, 0)],
+    );
+    ecall(&mut ecall_record(0x53525354, 0, &[0]), down, &[(54, 0)]);
+    let hypercall = Reply {
+        args: [1, 2, 3, 4, 5, 6],
+        ..exit(HYPERCALL, &[9])
+    };
+    let mut w = ecall_record(0x485643, 9, &[1, 2, 3, 4, 5, 6]);
+    ecall(&mut w, hypercall, &[(SEPC, sepc)]);
+    for (eid, fid) in [
+        (0x53525354, 0), // with a0 = 1 below
+        (0x53525354, 1),
+        (0x54494D45, 1),
+        (0x54494D45, 1 << 32),
+        (0x735049, 1),
+        (0x48534D, 2),
+        (0x48534D, 4),
+        (0x4442434E, 3),
+    ] {
+        let later = [(10, NOT_SUPPORTED), (11, 0), (SEPC, sepc)];
+        ecall(&mut ecall_record(eid, fid, &[1]), nothing(), &later);
+    }
+}
+
+#[test]
+fn console_write_and_read() {
+    let sepc = next(&filled());
+    let result = |e, v| vec![(54, 0), (10, e), (11, v), (SEPC, sepc)];
+    for fid in [0, 1] {
+        // a0 = 0 before a2, a2 before room 0.
+        for (args, room, e) in [
+            ([0, 1, 2], 0, 0),
+            ([1, 1, 2], 0, INVALID_PARAM),
+            ([1, 1, 0], 0, 0),
+        ] {
+            let mut w = ecall_record(0x4442434E, fid, &args);
+            check(&mut w, 10, [10, 0, 0, 0, room], nothing(), &result(e, 0));
+        }
+    }
+    // n is the lesser of a0 and room; room above 4,096 is 4,096.
+    for (a0, room, n) in [(5, 9, 5), (9, 5, 5), (9999, u64::MAX, 4096)] {
+        let base = ecall_record(0x4442434E, 0, &[a0, 0x8000, 0]);
+        let asked = changed(base, &[(54, 5), (55, n)]);
+        check(
+            &mut base.clone(),
+            10,
+            [10, 0, 0, 0, room],
+            ask(ASK_COPY_IN, &[0x8000, n]),
+            &[(54, 5), (55, n)],
+        );
+        for count in [0, n - 1, n + 1] {
+            check(
+                &mut asked.clone(),
+                11,
+                [3, count, 0, 0, 0],
+                nothing(),
+                &result(FAILED, 0),
+            );
+        }
+        let mut w = asked;
+        check(
+            &mut w,
+            11,
+            [3, n, 0, 0, 0],
+            ask(ASK_PRINT, &[n]),
+            &[(54, 6)],
+        );
+        check(&mut w, 11, [4, 77, 88, 0, 0], nothing(), &result(77, 88));
+
+        let base = ecall_record(0x4442434E, 1, &[a0, 0x8000, 0]);
+        let waits = [(54, 7), (55, n), (56, 0x8000)];
+        let asked = changed(base, &waits);
+        check(
+            &mut base.clone(),
+            10,
+            [10, 0, 0, 0, room],
+            ask(ASK_CONSOLE_READ, &[n]),
+            &waits,
+        );
+        for (e, v) in [(0, 0), (0, n + 1), (1, 1), (FAILED, 0)] {
+            check(
+                &mut asked.clone(),
+                11,
+                [5, e, v, 0, 0],
+                nothing(),
+                &result(e, v),
+            );
+        }
+        for v in [1, n] {
+            let mut w = asked;
+            let out = ask(ASK_COPY_OUT, &[0x8000, v]);
+            check(&mut w, 11, [5, 0, v, 0, 0], out, &[(54, 8), (55, v)]);
+            check(
+                &mut w.clone(),
+                11,
+                [6, v, 0, 0, 0],
+                nothing(),
+                &result(0, v),
+            );
+            check(
+                &mut w,
+                11,
+                [6, v + 1, 0, 0, 0],
+                nothing(),
+                &result(FAILED, 0),
+            );
+        }
+    }
+    let mut w = ecall_record(0x4442434E, 2, &[0x1234]);
+    ecall(&mut w, ask(ASK_EMIT, &[0x34]), &[(54, 10)]);
+    check(&mut w, 11, [7, 5, 5, 0, 0], nothing(), &result(0, 0));
+}
+
+#[test]
+fn forwarded_calls() {
+    let sepc = next(&filled());
+    for (eid, fid, event) in [
+        (0x52464E43, 0, Some(3)),
+        (0x52464E43, 1, Some(4)),
+        (0x52464E43, 2, Some(5)),
+        (0x52464E43, 3, Some(6)),
+        (0x52464E43, 4, Some(7)),
+        (0x52464E43, 5, Some(8)),
+        (0x52464E43, 6, Some(9)),
+        (0x52464E43, 7, None),
+        (0x504D55, 0, None),
+        (0x10, 0, None),
+        (9, 0, None),
+        ((1 << 32) + 0x54494D45, 0, None),
+    ] {
+        let mut w = ecall_record(eid, fid, &[1, 2, 3, 4, 5, 6]);
+        let mut later = vec![(54, 12)];
+        if let Some(event) = event {
+            later.push((EVENTS + event - 1, w[EVENTS + event - 1] + 1));
+        }
+        ecall(
+            &mut w,
+            ask(ASK_FORWARD, &[eid, fid, 1, 2, 3, 4, 5, 6]),
+            &later,
+        );
+        let later = [(54, 0), (10, 77), (11, 88), (SEPC, sepc)];
+        check(&mut w, 11, [9, 77, 88, 0, 0], nothing(), &later);
+    }
+}
+
+#[test]
+fn event_counts_wrap() {
+    let mut w = changed(ecall_record(0x52464E43, 6, &[]), &[(53, u64::MAX)]);
+    call(&mut w, 10, [10, 0, 0, 0, 0]);
+    assert_eq!(w[53], 0);
+    let mut w = with(&[(EVENTS + 1, u64::MAX)]);
+    check(&mut w, 10, [22, 0x73, 0, 0, 0], error(3), &[(46, 0)]);
+}
+
+// Virtual instruction and guest page fault
+
+#[test]
+fn stimecmp_by_funct3() {
+    // rd 6, field 5; x5 = 0b1100, old 0b1010. Both from stval and fetched.
+    for (funct3, new) in [
+        (1, 0b1100),
+        (2, 0b1110),
+        (3, 0b0010),
+        (5, 5),
+        (6, 0b1111),
+        (7, 0b1010),
+    ] {
+        let word = 0x14d << 20 | 5 << 15 | funct3 << 12 | 6 << 7 | 0x73;
+        let base = with(&[(VSTIMECMP, 0b1010), (5, 0b1100)]);
+        let later = [(VSTIMECMP, new), (6, 0b1010), (SEPC, next(&base)), (54, 0)];
+        check(
+            &mut base.clone(),
+            10,
+            [22, 7 << 32 | word, 0, 0, 0],
+            nothing(),
+            &later,
+        );
+        let mut w = changed(base, &[(54, 2)]);
+        check(&mut w, 11, [1, 7 << 32 | word, 0, 0, 0], nothing(), &later);
+    }
+    // Field 0: 1 and 5 write 0, the others don't write; rd 0 gets nothing.
+    for (funct3, new) in [(1, 0), (2, 7), (3, 7), (5, 0), (6, 7), (7, 7)] {
+        let word = 0x14d << 20 | funct3 << 12 | 0x73;
+        let mut w = with(&[(VSTIMECMP, 7)]);
+        let later = [(VSTIMECMP, new), (SEPC, next(&w))];
+        check(&mut w, 10, [22, word, 0, 0, 0], nothing(), &later);
+    }
+}
+
+#[test]
+fn fetch_faults() {
+    for waits in [2, 3] {
+        for (more, cause) in [(1, 12), (2, 1), (3, 0)] {
+            // SIE clear, SPIE and SPP set; from user mode.
+            let mut w = with(&[(54, waits), (VSSTATUS, !2), (VSTVEC, u64::MAX)]);
+            let later = [
+                (54, 0),
+                (VSEPC, w[SEPC]),
+                (VSCAUSE, cause),
+                (VSTVAL, 5),
+                (VSSTATUS, !0x122),
+                (SEPC, u64::MAX - 3),
+            ];
+            check(&mut w, 11, [1, 5, more, 0, 0], nothing(), &later);
+        }
+        let nested = exit(NESTED_PAGE_FAULT, &[5, 4]);
+        check(
+            &mut with(&[(54, waits)]),
+            11,
+            [1, 5, 4, 0, 0],
+            nested,
+            &[(54, 0)],
+        );
+    }
+}
+
+#[test]
+fn loads_and_stores() {
+    for (funct3, bytes, signed) in [
+        (0, 1, 1),
+        (1, 2, 1),
+        (2, 4, 1),
+        (3, 8, 1),
+        (4, 1, 0),
+        (5, 2, 0),
+        (6, 4, 0),
+    ] {
+        let word = funct3 << 12 | 31 << 7 | 3;
+        let sepc = filled()[SEPC];
+        let read = exit(MMIO_READ, &[7, bytes]);
+        let later = |length| {
+            [
+                (54, 1),
+                (55, 31),
+                (56, bytes),
+                (57, signed),
+                (SEPC, sepc + length),
+            ]
+        };
+        check(
+            &mut filled(),
+            10,
+            [21, 3, 1, 5 << 32 | word, 0],
+            read,
+            &later(4),
+        );
+        check(&mut filled(), 10, [21, 3, 1, word & !2, 0], read, &later(2));
+        let mut w = with(&[(54, 3), (55, 7), (56, 1)]);
+        check(&mut w, 11, [1, 5 << 32 | word, 0, 0, 0], read, &later(4));
+        // A load under 23.
+        let nested = exit(NESTED_PAGE_FAULT, &[7, 2]);
+        check(&mut filled(), 10, [23, 3, 1, word, 0], nested, &[]);
+    }
+    for (funct3, bytes, data) in [
+        (0, 1, 0x88),
+        (1, 2, 0x8788),
+        (2, 4, 0x8586_8788),
+        (3, 8, 0x8182_8384_8586_8788),
+    ] {
+        let word = funct3 << 12 | 31 << 20 | 0x23;
+        let base = with(&[(31, 0x8182_8384_8586_8788)]);
+        let later = [(54, 0), (SEPC, next(&base))];
+        let write = exit(MMIO_WRITE, &[7, bytes, data]);
+        check(&mut base.clone(), 10, [23, 3, 1, word, 0], write, &later);
+        let mut w = changed(base, &[(54, 3), (55, 7), (56, 2)]);
+        check(&mut w, 11, [1, word, 0, 0, 0], write, &later);
+        // rs2 0 stores 0, whatever slot 0 holds.
+        let zero = exit(MMIO_WRITE, &[7, bytes, 0]);
+        check(
+            &mut base.clone(),
+            10,
+            [23, 3, 1, word & 0xfffff, 0],
+            zero,
+            &later,
+        );
+        // A store under 21.
+        let nested = exit(NESTED_PAGE_FAULT, &[7, 1]);
+        check(
+            &mut base.clone(),
+            10,
+            [21, 3, 1, word, 0],
+            nested,
+            &[(54, 0)],
+        );
+    }
+    // Neither a load nor a store: funct3 7, SQ's place, another opcode. A
+    // fetched 16-bit word decodes as nothing, 0x3000 among them.
+    for word in [0x7003, 0x4023, 0x13] {
+        let nested = exit(NESTED_PAGE_FAULT, &[4, 1]);
+        check(&mut filled(), 10, [21, 0, 1, word, 0], nested, &[]);
+    }
+    for word in [0x2381, 0x3000, 0x3020, 0] {
+        let nested = exit(NESTED_PAGE_FAULT, &[7, 1]);
+        let mut w = with(&[(54, 3), (55, 7), (56, 1)]);
+        check(&mut w, 11, [1, word, 0, 0, 0], nested, &[(54, 0)]);
+    }
+    // A load with rd 0 waits, and its completion writes no register.
+    let mut w = filled();
+    let sepc = next(&w);
+    let later = [(54, 1), (55, 0), (56, 8), (57, 1), (SEPC, sepc)];
+    check(
+        &mut w,
+        10,
+        [21, 0, 0, 0x3003, 0],
+        exit(MMIO_READ, &[0, 8]),
+        &later,
+    );
+    check(&mut w, 12, [5, 0, 0, 0, 0], done(), &[(54, 0)]);
+}
+
+// Any words
+
+#[test]
+fn total_and_refusals_change_nothing() {
+    let interesting = [
+        0,
+        1,
+        2,
+        3,
+        4,
+        5,
+        6,
+        7,
+        8,
+        9,
+        10,
+        21,
+        22,
+        23,
+        31,
+        32,
+        40,
+        0x3000,
+        0x73,
+        0x14D292F3,
+        0x2383,
+        0x702023,
+        0x54494D45,
+        0x735049,
+        0x48534D,
+        0x485643,
+        0x53525354,
+        0x4442434E,
+        0x52464E43,
+        TOP,
+        TOP + 9,
+        u64::MAX,
+    ];
+    let mut state: u64 = 1;
+    let mut random = || {
+        // xorshift
+        state ^= state << 13;
+        state ^= state >> 7;
+        state ^= state << 17;
+        state
+    };
+    for _ in 0..200_000 {
+        let mut pick = || match random() % 4 {
+            0 => random(),
+            _ => interesting[random() as usize % interesting.len()],
+        };
+        let mut words = [0; 58];
+        words.iter_mut().for_each(|word| *word = pick());
+        words[WAITS] = pick() % 14;
+        let kind = pick() % 16;
+        let numbers = [pick(), pick(), pick(), pick(), pick()];
+        let before = words;
+        let reply = call(&mut words, kind, numbers);
+        assert!(reply.kind <= 4);
+        if reply.kind == 4 && matches!(reply.number, 1 | 2 | 7) || matches!(kind, 3 | 13) {
+            assert_eq!(words, before);
+        }
+        if matches!(kind, 1 | 2 | 4..=9) {
+            assert_eq!(words[WAITS..], before[WAITS..]);
+        }
+        if kind != 14 {
+            assert_eq!(words[0], before[0]);
+        }
+        if reply.kind == 1 {
+            assert_eq!(Record(&mut words).waits().ask_number(), Some(reply.number));
+        }
+    }
+}
