@@ -7,7 +7,13 @@ fn main() {
     println!("cargo:rerun-if-env-changed=CURBIZZOLU_LIB_DIR");
     let arch = env::var("CARGO_CFG_TARGET_ARCH").unwrap_or_default();
     let none = env::var("CARGO_CFG_TARGET_OS").is_ok_and(|os| os == "none");
-    let processor = if none { format!("{arch}-none") } else { arch };
+    // riscv64gc is lp64d, riscv64imac lp64, and a linker takes no object of the other; a stable compiler tells no more of it
+    let soft = env::var("TARGET").is_ok_and(|target| !target.starts_with("riscv64gc"));
+    let processor = match (none, arch.as_str()) {
+        (true, "riscv64") if soft => format!("{arch}-none-lp64"),
+        (true, _) => format!("{arch}-none"),
+        (false, _) => arch,
+    };
     let dir = match env::var_os("CURBIZZOLU_LIB_DIR") {
         Some(dir) => PathBuf::from(dir),
         None => Path::new(&env::var("CARGO_MANIFEST_DIR").unwrap())

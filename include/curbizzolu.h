@@ -158,6 +158,66 @@ uint64_t vcpu_complete_load(struct vcpu *v, uint64_t number);
  * has that many; else 0. */
 uint64_t vcpu_to_print(const struct vcpu *v, uint64_t length);
 
+/* ---- Names for hosts. docs/HOSTS.md says how they are used. */
+
+/* The eid (a7) of a guest's call to its host, VCPU_EXIT_HYPERCALL: "HVC". */
+enum { VCPU_EID_HVC = 0x485643 };
+
+/* What goes straight to the guest: load hedeleg and hideleg with these. The record's rules count on them. */
+enum {
+    VCPU_HEDELEG = 0xb10d, /* exceptions 0, 2, 3, 8, 12, 13 and 15 */
+    VCPU_HIDELEG = 0x444   /* the guest's software, timer and external interrupt */
+};
+
+/* Interrupt vectors: of VCPU_EXIT_EXTERNAL_INTERRUPT, where they are the host's own interrupts, and of vcpu_set_pending, where they
+ * are the guest's. vcpu_set_pending takes 9 for the external one too. */
+#define VCPU_VECTOR_SOFT (UINT64_C(1) << 63 | 1)
+#define VCPU_VECTOR_TIMER (UINT64_C(1) << 63 | 5)
+#define VCPU_VECTOR_EXTERNAL (UINT64_C(1) << 63 | 9)
+
+/* The words of vcpu_out by name. Of an exit: */
+enum {
+    VCPU_WORD_INTERRUPT_VECTOR = 0,
+    VCPU_WORD_IPI_MASK = 0,
+    VCPU_WORD_IPI_BASE = 1,
+    VCPU_WORD_IPI_ABI = 2,
+    VCPU_WORD_UP_HART = 0,
+    VCPU_WORD_UP_ENTRY = 1,
+    VCPU_WORD_UP_ARGUMENT = 2,
+    VCPU_WORD_DOWN_STATE = 0,
+    VCPU_WORD_HYPERCALL_NUMBER = 0,
+    VCPU_WORD_HYPERCALL_A0 = 2, /* a0 to a5 */
+    VCPU_WORD_FAULT_ADDRESS = 0,
+    VCPU_WORD_FAULT_ACCESS = 1,
+    VCPU_WORD_MMIO_ADDRESS = 0,
+    VCPU_WORD_MMIO_BYTES = 1,
+    VCPU_WORD_MMIO_DATA = 2
+};
+/* and of an ask: */
+enum {
+    VCPU_WORD_FETCH_ADDRESS = 0,
+    VCPU_WORD_FETCH_SUPERVISOR = 1,
+    VCPU_WORD_COPY_ADDRESS = 0,  /* VCPU_ASK_COPY_MASK, _COPY_IN, _COPY_OUT */
+    VCPU_WORD_COPY_COUNT = 1,    /* VCPU_ASK_COPY_IN, _COPY_OUT */
+    VCPU_WORD_CONSOLE_COUNT = 0, /* VCPU_ASK_PRINT, _READ_CONSOLE */
+    VCPU_WORD_EMIT_CHARACTER = 0,
+    VCPU_WORD_FORWARD_EID = 0,
+    VCPU_WORD_FORWARD_FID = 1,
+    VCPU_WORD_FORWARD_A0 = 2 /* a0 to a5 */
+};
+
+/* Whether a reply is an ask. Its number is then reply - VCPU_ASK. */
+static inline int vcpu_is_ask(uint64_t reply) {
+    return reply > VCPU_ASK && reply <= VCPU_ASK + VCPU_ASK_FORWARD;
+}
+
+/* Whether a trap is the second half of a load or store that crosses a page's end: the hart reports the second page, and bits 19..15
+ * of the transformed word say how far before it the access began. The handler would serve it as a whole access at the second page,
+ * and the guest would get wrong data. Ask before vcpu_start. Where htinst is 0 nothing tells it. */
+static inline int vcpu_crosses_page(const struct vcpu_trap *trap) {
+    return (trap->scause == 21 || trap->scause == 23) && (trap->htinst >> 15 & 31) != 0;
+}
+
 #ifdef __cplusplus
 }
 #endif

@@ -1,4 +1,5 @@
-/* A host in C, shorter than host.rs: tools/host-c builds and runs it. */
+/* The calls in C, shorter than host.rs: a list of traps with what is asked for each. It enters no guest; examples/hypervisor does.
+ * tools/host-c builds and runs it. */
 #include "curbizzolu.h"
 
 #include <inttypes.h>
@@ -10,7 +11,7 @@ static const char line[] = "title 7 is on screen 3";
 /* One trap to its exit: every ask is answered from here. */
 static uint64_t handle(struct vcpu *v, struct vcpu_trap trap, struct vcpu_out *out) {
     uint64_t given = vcpu_start(v, &trap, out);
-    while (given > VCPU_ASK && given <= VCPU_ASK + VCPU_ASK_FORWARD) {
+    while (vcpu_is_ask(given)) {
         struct vcpu_answer_words answer = {given - VCPU_ASK, 0, 0};
         switch (answer.ask) {
         case VCPU_ASK_FETCH:

@@ -1,4 +1,5 @@
-//! A host in one screen: a list of traps, what the handler asks for each, and what comes of it, in plain words.
+//! The calls in one screen: a list of traps, what the handler asks for each, and what comes of it, in plain words. It enters no guest:
+//! examples/hypervisor, in C, does.
 //!
 //!     cargo run --example host
 

@@ -53,8 +53,10 @@
 #![warn(missing_docs)]
 
 mod library;
+mod names;
 mod types;
 mod vcpu;
 
+pub use names::*;
 pub use types::*;
 pub use vcpu::Vcpu;
