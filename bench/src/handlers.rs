@@ -1,12 +1,13 @@
-//! The traps, and every handler behind one trait. Each program here has its own copy, compiled with its own SEE, so that what is timed
-//! has no code for looking at replies, and is inlined as if there were none.
+//! Every handler behind one trait. Each program here has its own copy, compiled with its own SEE, so that what is timed has no code
+//! for looking at replies. `set` and `trap` are always inlined: a trap that passes through memory between two functions of the driver
+//! is stored in words and loaded in pairs, and that costs more than some handlers.
 
+use crate::traps::{Record, Work};
 use crate::SEE;
-use plain::{enums, words};
+use plain::{enums, words, Forms};
 use std::hint::black_box;
+use std::marker::PhantomData;
 use std::mem::MaybeUninit;
-
-pub type Record = [u64; 58];
 
 #[repr(C)]
 struct CallWords {
@@ -29,57 +30,10 @@ extern "C" {
     fn vcpu_call_at(reply: *mut ReplyWords, record: *mut Record, call: *const CallWords) -> *mut ReplyWords;
 }
 
-// ---- the traps
-
-/// What a trap needs: its registers, its numbers, and what the host gives after it.
-#[derive(Clone, Copy)]
-pub struct Work {
-    pub a0: u64,
-    pub a6: u64,
-    pub a7: u64,
-    pub trap: [u64; 5],
-    pub given: u64,
-}
-
-/// SplitMix64.
-pub struct Random(pub u64);
-
-impl Random {
-    #[inline]
-    pub fn number(&mut self) -> u64 {
-        self.0 = self.0.wrapping_add(0x9E37_79B9_7F4A_7C15);
-        let mut z = self.0;
-        z = (z ^ (z >> 30)).wrapping_mul(0xBF58_476D_1CE4_E5B9);
-        z = (z ^ (z >> 27)).wrapping_mul(0x94D0_49BB_1331_11EB);
-        z ^ (z >> 31)
-    }
-}
-
-/// Eight kinds of trap by the low bits of a random number: TIME, the legacy timer, a forwarded call with its answer, a byte by DBCN
-/// with its answer, two writes to stimecmp, a load with its completion, a store.
-#[inline]
-pub fn work(r: &mut Random) -> Work {
-    let n = r.number();
-    let (scause, a7, a6, stval, htinst) = match n % 8 {
-        0 => (10, 0x5449_4D45, 0, 0, 0),
-        1 => (10, 0, 0, 0, 0),
-        2 => (10, 0x10, 0, 0, 0),
-        3 => (10, 0x4442_434E, 2, 0, 0),
-        // csrrw x0, stimecmp, a0
-        4 => (22, 0, 0, 0x14d5_1073, 0),
-        // csrrs a1, stimecmp, a0
-        5 => (22, 0, 0, 0x14d5_25f3, 0),
-        // lb to lwu a2, of the seven loads
-        6 => (21, 0, 0, 0, 0x603 | ((n >> 8) % 7) << 12),
-        // sb to sd a0
-        _ => (23, 0, 0, 0, 0xa0_0023 | ((n >> 8) % 4) << 12),
-    };
-    Work { a0: n >> 3, a6, a7, trap: [scause, stval, n >> 34, htinst, 4096], given: n >> 5 }
-}
-
 pub trait Handler {
+    fn new(record: &Record) -> Self;
     fn set(&mut self, work: &Work);
-    /// One trap to its end, and something of what came of it. Where SEE, `seen` gets each reply as the library's words.
+    /// One trap to its end, and a number from all that came of it, so that no handler is spared what a host would look at. Where SEE, `seen` gets each reply as the library's words.
     fn trap(&mut self, work: &Work, seen: &mut Vec<Reply>) -> u64;
     /// The record as the library's words.
     fn record(&self) -> Record;
@@ -88,7 +42,7 @@ pub trait Handler {
 /// A call's reply: the number that the library returns for it, and the words that it carries.
 pub type Reply = (u64, [u64; 8]);
 
-/// The words that a reply carries, with zeros for those that it leaves as they were. The traps of `work` get no other replies.
+/// The words that a reply carries, with zeros for those that it leaves as they were. The traps of the bench get no other replies.
 #[inline]
 fn reply(code: u64, out: &[u64; 8]) -> Reply {
     let carried = match code {
@@ -138,55 +92,56 @@ fn meant(mut r: Record) -> Record {
     r
 }
 
-/// Plain Rust's record from the library's words, and back. The traps of `work` leave nothing waiting.
-macro_rules! plain_record {
-    ($module:ident) => {
-        pub fn from_words(r: &Record) -> $module::Vcpu {
-            $module::Vcpu {
-                x: std::array::from_fn(|i| r[i]),
-                sepc: r[32],
-                sstatus: r[33],
-                hstatus: r[34],
-                vsstatus: r[35],
-                vstvec: r[36],
-                vsepc: r[37],
-                vscause: r[38],
-                vstval: r[39],
-                vstimecmp: r[40],
-                hie: r[41],
-                hvip: r[42],
-                hgeie: r[43],
-                hgatp: r[44],
-                counts: std::array::from_fn(|i| r[45 + i]),
-                ..$module::Vcpu::zero()
-            }
-        }
-        fn to_words(v: &$module::Vcpu) -> Record {
-            let mut r = [0; 58];
-            r[..32].copy_from_slice(&v.x);
-            let numbers = [
-                v.sepc, v.sstatus, v.hstatus, v.vsstatus, v.vstvec, v.vsepc, v.vscause, v.vstval, v.vstimecmp, v.hie, v.hvip, v.hgeie, v.hgatp,
-            ];
-            r[32..45].copy_from_slice(&numbers);
-            r[45..54].copy_from_slice(&v.counts);
-            r[54] = (v.waiting != $module::Vcpu::zero().waiting) as u64;
-            r
-        }
-    };
+/// Plain Rust's record from the library's words. Nothing waits in it.
+fn from_words(r: &Record) -> plain::Vcpu {
+    plain::Vcpu {
+        x: std::array::from_fn(|i| r[i]),
+        sepc: r[32],
+        sstatus: r[33],
+        hstatus: r[34],
+        vsstatus: r[35],
+        vstvec: r[36],
+        vsepc: r[37],
+        vscause: r[38],
+        vstval: r[39],
+        vstimecmp: r[40],
+        hie: r[41],
+        hvip: r[42],
+        hgeie: r[43],
+        hgatp: r[44],
+        counts: std::array::from_fn(|i| r[45 + i]),
+        waiting: plain::Waiting::Idle,
+    }
+}
+
+/// And back. No trap of the bench leaves anything waiting.
+fn to_words(v: &plain::Vcpu) -> Record {
+    let mut r = [0; 58];
+    r[..32].copy_from_slice(&v.x);
+    let numbers =
+        [v.sepc, v.sstatus, v.hstatus, v.vsstatus, v.vstvec, v.vsepc, v.vscause, v.vstval, v.vstimecmp, v.hie, v.hvip, v.hgeie, v.hgatp];
+    r[32..45].copy_from_slice(&numbers);
+    r[45..54].copy_from_slice(&v.counts);
+    r[54] = (v.waiting != plain::Waiting::Idle) as u64;
+    r
 }
 
 /// No handler: what the traps cost to make.
-pub struct Nothing(pub Record);
+pub struct Nothing(Record);
 
 impl Handler for Nothing {
-    #[inline]
+    fn new(record: &Record) -> Self {
+        Nothing(*record)
+    }
+    #[inline(always)]
     fn set(&mut self, work: &Work) {
         set_words(&mut self.0, work);
     }
-    #[inline]
+    #[inline(always)]
     fn trap(&mut self, work: &Work, _: &mut Vec<Reply>) -> u64 {
         black_box(&mut self.0);
-        work.trap[0] ^ work.given
+        black_box(&work.trap);
+        work.given[0] ^ work.given[1]
     }
     fn record(&self) -> Record {
         self.0
@@ -200,14 +155,17 @@ fn set_words(r: &mut Record, work: &Work) {
 }
 
 /// The entry that hosts are told to call.
-pub struct InPlace(pub Record);
+pub struct InPlace(Record);
 
 impl Handler for InPlace {
-    #[inline]
+    fn new(record: &Record) -> Self {
+        InPlace(*record)
+    }
+    #[inline(always)]
     fn set(&mut self, work: &Work) {
         set_words(&mut self.0, work);
     }
-    #[inline]
+    #[inline(always)]
     fn trap(&mut self, work: &Work, seen: &mut Vec<Reply>) -> u64 {
         let mut out = MaybeUninit::<[u64; 8]>::uninit();
         // SAFETY: our own words, which do not overlap; the call sets all eight of `out`.
@@ -216,19 +174,21 @@ impl Handler for InPlace {
         if SEE {
             seen.push(reply(code, out));
         }
+        let mut asked = 0;
         while code > 0x20 && code < 0x40 {
-            code = unsafe { vcpu_answer(&mut self.0, &[code - 0x20, 0, work.given], out) };
+            asked ^= out[0] ^ out[1] ^ out[2];
+            code = unsafe { vcpu_answer(&mut self.0, &[code - 0x20, work.given[0], work.given[1]], out) };
             if SEE {
                 seen.push(reply(code, out));
             }
         }
         if code == 9 {
-            let code = unsafe { vcpu_complete_load(&mut self.0, work.given) };
+            let code = unsafe { vcpu_complete_load(&mut self.0, work.given[1]) };
             if SEE {
                 seen.push(reply(code, &[0; 8]));
             }
         }
-        code ^ out[2]
+        asked ^ code ^ out[0] ^ out[1] ^ out[2]
     }
     fn record(&self) -> Record {
         meant(self.0)
@@ -236,14 +196,17 @@ impl Handler for InPlace {
 }
 
 /// The same through the host's Rust interface.
-pub struct Interface(pub curbizzolu::Vcpu);
+pub struct Interface(curbizzolu::Vcpu);
 
 impl Handler for Interface {
-    #[inline]
+    fn new(record: &Record) -> Self {
+        Interface(curbizzolu::Vcpu::from_words(*record))
+    }
+    #[inline(always)]
     fn set(&mut self, work: &Work) {
         (self.0.x[10], self.0.x[16], self.0.x[17]) = (work.a0, work.a6, work.a7);
     }
-    #[inline]
+    #[inline(always)]
     fn trap(&mut self, work: &Work, seen: &mut Vec<Reply>) -> u64 {
         use curbizzolu::{Answer, Ask, Exit, Step, Trap};
         let [scause, stval, htval, htinst, room] = work.trap;
@@ -255,9 +218,17 @@ impl Handler for Interface {
         if SEE {
             seen.push(words(&step));
         }
+        let mut asked = 0;
         while let Ok(Step::Ask(ask)) = step {
             let answer = match ask {
-                Ask::Forward { .. } => Answer::Forwarded { error: 0, value: work.given },
+                Ask::Forward { eid, fid, args } => {
+                    asked ^= eid ^ fid ^ args[0];
+                    Answer::Forwarded { error: work.given[0], value: work.given[1] }
+                }
+                Ask::Emit { number } => {
+                    asked ^= number;
+                    Answer::Emitted
+                }
                 _ => Answer::Emitted,
             };
             step = self.0.answer(&answer);
@@ -266,15 +237,15 @@ impl Handler for Interface {
             }
         }
         match step {
-            Ok(Step::Exit(Exit::MmioRead { .. })) => {
-                let done = self.0.complete_load(work.given);
+            Ok(Step::Exit(Exit::MmioRead { addr, width })) => {
+                let done = self.0.complete_load(work.given[1]);
                 if SEE {
                     seen.push(reply(done.map_or_else(|refusal| 0x100 + refusal.number(), |()| 0x40), &[0; 8]));
                 }
-                9
+                9 ^ addr.0 ^ width.bytes()
             }
-            Ok(Step::Exit(Exit::MmioWrite { data, .. })) => 10 ^ data,
-            Ok(Step::Exit(Exit::Nothing)) => 0,
+            Ok(Step::Exit(Exit::MmioWrite { addr, width, data })) => 10 ^ addr.0 ^ width.bytes() ^ data,
+            Ok(Step::Exit(Exit::Nothing)) => asked,
             _ => 1,
         }
     }
@@ -284,10 +255,10 @@ impl Handler for Interface {
 }
 
 /// Document 01's thin entry, which calls the step by value.
-pub struct Thin(pub Record);
+pub struct Thin(Record);
 
 impl Thin {
-    #[inline]
+    #[inline(always)]
     fn call(&mut self, kind: u64, numbers: [u64; 5]) -> ReplyWords {
         let mut reply = std::mem::MaybeUninit::uninit();
         // SAFETY: the library writes the whole reply.
@@ -299,11 +270,14 @@ impl Thin {
 }
 
 impl Handler for Thin {
-    #[inline]
+    fn new(record: &Record) -> Self {
+        Thin(*record)
+    }
+    #[inline(always)]
     fn set(&mut self, work: &Work) {
         set_words(&mut self.0, work);
     }
-    #[inline]
+    #[inline(always)]
     fn trap(&mut self, work: &Work, seen: &mut Vec<Reply>) -> u64 {
         // an exit, an ask, done, a value, an error
         let words = |r: &ReplyWords| reply([0, 0x20, 0x40, 0x41, 0x100][(r.kind % 5) as usize] + r.number, &r.values);
@@ -311,19 +285,21 @@ impl Handler for Thin {
         if SEE {
             seen.push(words(&given));
         }
+        let mut asked = 0;
         while given.kind == 1 {
-            given = self.call(11, [given.number, 0, work.given, 0, 0]);
+            asked ^= given.values[0] ^ given.values[1] ^ given.values[2];
+            given = self.call(11, [given.number, work.given[0], work.given[1], 0, 0]);
             if SEE {
                 seen.push(words(&given));
             }
         }
         if given.kind == 0 && given.number == 9 {
-            let done = self.call(12, [work.given, 0, 0, 0, 0]);
+            let done = self.call(12, [work.given[1], 0, 0, 0, 0]);
             if SEE {
                 seen.push(words(&done));
             }
         }
-        given.number ^ given.values[2] ^ given.args[0]
+        asked ^ given.number ^ given.values[0] ^ given.values[1] ^ given.values[2] ^ given.args[0]
     }
     fn record(&self) -> Record {
         meant(self.0)
@@ -331,90 +307,99 @@ impl Handler for Thin {
 }
 
 /// Plain Rust behind the same boundary.
-pub struct PlainWords(pub words::Vcpu);
+pub struct PlainWords<F>(plain::Vcpu, PhantomData<F>);
 
-impl PlainWords {
-    plain_record!(words);
-}
-
-impl Handler for PlainWords {
-    #[inline]
+impl<F: Forms> Handler for PlainWords<F> {
+    fn new(record: &Record) -> Self {
+        PlainWords(from_words(record), PhantomData)
+    }
+    #[inline(always)]
     fn set(&mut self, work: &Work) {
         (self.0.x[10], self.0.x[16], self.0.x[17]) = (work.a0, work.a6, work.a7);
     }
-    #[inline]
+    #[inline(always)]
     fn trap(&mut self, work: &Work, seen: &mut Vec<Reply>) -> u64 {
         let mut out = [0; 8];
-        let mut code = words::start(&mut self.0, &work.trap, &mut out);
+        let mut code = words::start::<F>(&mut self.0, &work.trap, &mut out);
         if SEE {
             seen.push(reply(code, &out));
         }
+        let mut asked = 0;
         while code > 0x20 && code < 0x40 {
-            code = words::answer(&mut self.0, &[code - 0x20, 0, work.given], &mut out);
+            asked ^= out[0] ^ out[1] ^ out[2];
+            code = words::answer::<F>(&mut self.0, &[code - 0x20, work.given[0], work.given[1]], &mut out);
             if SEE {
                 seen.push(reply(code, &out));
             }
         }
         if code == 9 {
-            let code = words::complete_load(&mut self.0, work.given);
+            let code = words::complete_load::<F>(&mut self.0, work.given[1]);
             if SEE {
                 seen.push(reply(code, &[0; 8]));
             }
         }
-        code ^ out[2]
+        asked ^ code ^ out[0] ^ out[1] ^ out[2]
     }
     fn record(&self) -> Record {
-        Self::to_words(&self.0)
+        to_words(&self.0)
     }
 }
 
 /// Plain Rust that returns its enum.
-pub struct PlainEnums(pub enums::Vcpu);
+pub struct PlainEnums<F>(plain::Vcpu, PhantomData<F>);
 
-impl PlainEnums {
-    plain_record!(enums);
-}
-
-impl Handler for PlainEnums {
-    #[inline]
+impl<F: Forms> Handler for PlainEnums<F> {
+    fn new(record: &Record) -> Self {
+        PlainEnums(from_words(record), PhantomData)
+    }
+    #[inline(always)]
     fn set(&mut self, work: &Work) {
         (self.0.x[10], self.0.x[16], self.0.x[17]) = (work.a0, work.a6, work.a7);
     }
-    #[inline]
+    #[inline(always)]
     fn trap(&mut self, work: &Work, seen: &mut Vec<Reply>) -> u64 {
-        use enums::{Answer, Ask, Exit, Step, Trap};
+        use plain::{Answer, Ask, Exit, Step, Trap};
         let [scause, stval, htval, htinst, room] = work.trap;
-        let mut step = enums::start(&mut self.0, &Trap { scause, stval, htval, htinst, room });
+        let mut step = enums::start::<F>(&mut self.0, &Trap { scause, stval, htval, htinst, room });
         let words = |step: &Step| reply_of_step!(*step, |addr: u64| addr);
         if SEE {
             seen.push(words(&step));
         }
+        let mut asked = 0;
         while let Step::Ask(ask) = step {
             let answer = match ask {
-                Ask::Forward { .. } => Answer::Forwarded { error: 0, value: work.given },
+                Ask::Forward { eid, fid, args } => {
+                    asked ^= eid ^ fid ^ args[0];
+                    Answer::Forwarded { error: work.given[0], value: work.given[1] }
+                }
+                Ask::Emit { number } => {
+                    asked ^= number;
+                    Answer::Emitted
+                }
                 _ => Answer::Emitted,
             };
-            step = enums::answer(&mut self.0, &answer);
+            step = enums::answer::<F>(&mut self.0, &answer);
             if SEE {
                 seen.push(words(&step));
             }
         }
         match step {
-            Step::Exit(Exit::MmioRead { .. }) => {
-                let done = enums::complete_load(&mut self.0, work.given);
+            Step::Exit(Exit::MmioRead { addr, width }) => {
+                let done = enums::complete_load::<F>(&mut self.0, work.given[1]);
                 if SEE {
                     seen.push(reply(if done { 0x40 } else { 0x102 }, &[0; 8]));
                 }
-                9
+                9 ^ addr ^ width.bytes()
             }
-            Step::Exit(Exit::MmioWrite { data, .. }) => 10 ^ data,
-            Step::Exit(Exit::Nothing) => 0,
+            Step::Exit(Exit::MmioWrite { addr, width, data }) => 10 ^ addr ^ width.bytes() ^ data,
+            Step::Exit(Exit::Nothing) => asked,
             _ => 1,
         }
     }
     fn record(&self) -> Record {
-        Self::to_words(&self.0)
+        to_words(&self.0)
     }
 }
 
-pub const NAMES: [&str; 6] = ["generator", "plain-enums", "plain-words", "in-place", "interface", "thin"];
+pub const NAMES: [&str; 8] =
+    ["generator", "straight-enums", "straight-words", "first-enums", "first-words", "in-place", "interface", "thin"];

@@ -1,25 +1,29 @@
 //! The cost of a trap: the proved library's two entries beside plain Rust, on the same generated traps.
 //!
-//!     bench time TRAPS ROUNDS      interleaved runs, the least time of each
-//!     bench run HANDLER TRAPS      one run of one handler, to count its instructions
+//!     bench mix                    the shares of the mix
+//!     bench time TRAPS ROUNDS      interleaved runs, the least time of each handler in each row
+//!     bench run HANDLER TRAPS      one run of one handler on the mix, to count its instructions
 //!
-//! bench/trap runs the program `compare`, then both of these, and prints the table.
+//! bench/trap runs the program `compare`, then these, and prints the tables.
 
 mod handlers;
+mod traps;
 
 use handlers::*;
+use plain::{First, Straight};
 use std::hint::black_box;
 use std::time::Instant;
+use traps::*;
 
 /// Nothing looks at the replies.
 const SEE: bool = false;
 
 #[inline(never)]
-fn run<H: Handler>(handler: &mut H, traps: u64) -> u64 {
+fn run<H: Handler, const FORESEEN: bool>(handler: &mut H, row: &Row, traps: u64) -> u64 {
     let mut r = Random(1);
     let mut sum = 0u64;
     for _ in 0..traps {
-        let work = work(&mut r);
+        let work = work::<FORESEEN>(row, &mut r);
         handler.set(&work);
         sum = sum.wrapping_add(handler.trap(&work, &mut vec![]));
     }
@@ -27,20 +31,41 @@ fn run<H: Handler>(handler: &mut H, traps: u64) -> u64 {
 }
 
 /// Runs a handler by its number: nanoseconds, and the record that it ends in.
-fn once(which: usize, traps: u64) -> (u64, Record) {
-    fn timed<H: Handler>(mut handler: H, traps: u64) -> (u64, Record) {
+fn once(which: usize, row: &Row, traps: u64) -> (u64, Record) {
+    fn timed<H: Handler>(row: &Row, traps: u64) -> (u64, Record) {
+        let mut handler = H::new(&Random(2).record());
+        let traps = black_box(traps);
         let begin = Instant::now();
-        black_box(run(&mut handler, black_box(traps)));
+        black_box(if row.foreseen { run::<H, true>(&mut handler, row, traps) } else { run::<H, false>(&mut handler, row, traps) });
         (begin.elapsed().as_nanos() as u64, handler.record())
     }
     match which {
-        0 => timed(Nothing([0; 58]), traps),
-        1 => timed(PlainEnums(PlainEnums::from_words(&[0; 58])), traps),
-        2 => timed(PlainWords(PlainWords::from_words(&[0; 58])), traps),
-        3 => timed(InPlace([0; 58]), traps),
-        4 => timed(Interface(curbizzolu::Vcpu::from_words([0; 58])), traps),
-        _ => timed(Thin([0; 58]), traps),
+        0 => timed::<Nothing>(row, traps),
+        1 => timed::<PlainEnums<Straight>>(row, traps),
+        2 => timed::<PlainWords<Straight>>(row, traps),
+        3 => timed::<PlainEnums<First>>(row, traps),
+        4 => timed::<PlainWords<First>>(row, traps),
+        5 => timed::<InPlace>(row, traps),
+        6 => timed::<Interface>(row, traps),
+        _ => timed::<Thin>(row, traps),
     }
+}
+
+/// Runs `f` some 256 bytes down the stack for each step.
+///
+/// A store of two words that lies across two pages costs some ten nanoseconds on x86-64. The library clears the reply's words in
+/// pairs, and where the stack begins at such a place, as it does in one process of some sixty, one handler is twice as slow from the
+/// first run to the last. So each round lies elsewhere, once round a page, and the least is of a good place.
+#[inline(never)]
+fn lower(steps: u64, f: &mut dyn FnMut()) {
+    let mut piece = [0u8; 240];
+    black_box(&mut piece);
+    if steps == 0 {
+        f()
+    } else {
+        lower(steps - 1, f)
+    }
+    black_box(&mut piece);
 }
 
 /// A number of traps or rounds.
@@ -54,28 +79,34 @@ fn number(text: &str) -> u64 {
 fn main() {
     let args: Vec<String> = std::env::args().skip(1).collect();
     match args.iter().map(String::as_str).collect::<Vec<_>>()[..] {
+        ["mix"] => println!("{}", shares()),
         ["time", traps, rounds] => {
             let (traps, rounds) = (number(traps), number(rounds));
-            let mut least = [u64::MAX; NAMES.len()];
-            for _ in 0..rounds {
-                let mut records = [[0; 58]; NAMES.len()];
-                for which in 0..NAMES.len() {
-                    let (time, record) = once(which, traps);
-                    least[which] = least[which].min(time);
-                    records[which] = record;
-                }
-                assert!(records[1..].iter().all(|record| *record == records[1]), "the handlers end in different records: bench/trap compares them");
+            let mut least = [[u64::MAX; NAMES.len()]; ROWS.len()];
+            for round in 0..rounds {
+                lower(round % 16, &mut || {
+                    for (row, least) in ROWS.iter().zip(&mut least) {
+                        let (times, records): (Vec<_>, Vec<_>) = (0..NAMES.len()).map(|which| once(which, row, traps)).unzip();
+                        let alike = records[1..].iter().all(|record| *record == records[1]);
+                        assert!(alike, "the handlers end in different records: bench/trap compares them");
+                        for (least, time) in least.iter_mut().zip(times) {
+                            *least = time.min(*least);
+                        }
+                    }
+                });
             }
-            for (name, time) in NAMES.iter().zip(least) {
-                println!("{name} {:.3}", time as f64 / traps as f64);
+            for (row, least) in ROWS.iter().zip(least) {
+                for (name, time) in NAMES.iter().zip(least) {
+                    println!("{}\t{name}\t{:.3}", row.name, time as f64 / traps as f64);
+                }
             }
         }
         ["run", name, traps] => {
             let which = NAMES.iter().position(|known| *known == name).expect("no such handler");
-            black_box(once(which, number(traps)));
+            black_box(once(which, &ROWS[0], number(traps)));
         }
         _ => {
-            eprintln!("usage: bench time TRAPS ROUNDS | bench run HANDLER TRAPS");
+            eprintln!("usage: bench mix | bench time TRAPS ROUNDS | bench run HANDLER TRAPS");
             std::process::exit(2);
         }
     }

@@ -450,13 +450,12 @@ fn six(out: &Out) -> [u64; 6] {
 
 #[inline]
 fn width(bytes: u64) -> Width {
-    match bytes {
-        1 => Width::Byte,
-        2 => Width::Half,
-        4 => Width::Word,
-        8 => Width::Double,
-        _ => unknown(bytes),
+    // by a table: a jump that follows the widths of a guest's loads is often foretold wrong
+    const WIDTHS: [Width; 4] = [Width::Byte, Width::Half, Width::Word, Width::Double];
+    if !bytes.is_power_of_two() || bytes > 8 {
+        unknown(bytes)
     }
+    WIDTHS[bytes.trailing_zeros() as usize % 4]
 }
 
 #[inline]

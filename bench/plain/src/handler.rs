@@ -1,133 +1,7 @@
-//! The handler with `&mut self`.
+//! The handler with `&mut self`, in either of two forms.
 
-#[derive(Clone, Copy, Debug, PartialEq, Eq)]
-pub enum Width {
-    Byte,
-    Half,
-    Word,
-    Double,
-}
-
-impl Width {
-    #[inline]
-    pub fn bytes(self) -> u64 {
-        1 << self as u64
-    }
-
-    #[inline]
-    fn cut(self, number: u64) -> u64 {
-        match self {
-            Width::Byte => number as u8 as u64,
-            Width::Half => number as u16 as u64,
-            Width::Word => number as u32 as u64,
-            Width::Double => number,
-        }
-    }
-
-    #[inline]
-    fn extend(self, signed: bool, number: u64) -> u64 {
-        match (self, signed) {
-            (Width::Byte, true) => number as i8 as u64,
-            (Width::Half, true) => number as i16 as u64,
-            (Width::Word, true) => number as i32 as u64,
-            _ => self.cut(number),
-        }
-    }
-}
-
-#[derive(Clone, Copy, Debug, PartialEq, Eq)]
-pub enum Waiting {
-    Idle,
-    Load { rd: usize, width: Width, signed: bool },
-    FetchCsr,
-    FetchFault { at: u64, write: bool },
-    CopyMask,
-    CopyIn { count: u64 },
-    Print { count: u64 },
-    ReadConsole { count: u64, at: u64 },
-    CopyOut { count: u64 },
-    PutChar,
-    PutByte,
-    GetChar,
-    Forward,
-}
-
-#[derive(Clone, Copy, Debug, PartialEq, Eq)]
-pub enum Exit {
-    Nothing,
-    ExternalInterrupt { vector: u64 },
-    SendIpi { mask: u64, base: u64, legacy: bool },
-    CpuUp { target: u64, entry: u64, arg: u64 },
-    CpuDown { state: u64 },
-    Halt,
-    Hypercall { nr: u64, args: [u64; 6] },
-    SystemDown,
-    NestedPageFault { addr: u64, access: u64 },
-    MmioRead { addr: u64, width: Width },
-    MmioWrite { addr: u64, width: Width, data: u64 },
-}
-
-#[derive(Clone, Copy, Debug, PartialEq, Eq)]
-pub enum Ask {
-    Fetch { at: u64, supervisor: bool },
-    CopyMask { at: u64 },
-    CopyIn { at: u64, count: u64 },
-    Print { count: u64 },
-    ReadConsole { count: u64 },
-    CopyOut { at: u64, count: u64 },
-    Emit { number: u64 },
-    GetChar,
-    Forward { eid: u64, fid: u64, args: [u64; 6] },
-}
-
-#[derive(Clone, Copy, Debug, PartialEq, Eq)]
-pub enum Fetch {
-    Word(u32),
-    Page(u64),
-    Access(u64),
-    Misaligned(u64),
-    GuestPage(u64),
-    Unhandled,
-}
-
-#[derive(Clone, Copy, Debug, PartialEq, Eq)]
-pub enum Answer {
-    Fetched(Fetch),
-    MaskCopied { count: u64, bytes: u64 },
-    CopiedIn { count: u64 },
-    Printed { error: u64, value: u64 },
-    ConsoleRead { error: u64, value: u64 },
-    CopiedOut { count: u64 },
-    Emitted,
-    Char { number: u64 },
-    Forwarded { error: u64, value: u64 },
-}
-
-#[derive(Clone, Copy, Debug, PartialEq, Eq)]
-pub enum Error {
-    BadState = 2,
-    Unsupported = 3,
-    InvalidTrap = 4,
-    DecodeFailed = 5,
-    GuestMemoryFault = 6,
-    WrongAnswer = 7,
-}
-
-#[derive(Clone, Copy, Debug, PartialEq, Eq)]
-pub enum Step {
-    Exit(Exit),
-    Ask(Ask),
-    Error(Error),
-}
-
-#[derive(Clone, Copy, Debug)]
-pub struct Trap {
-    pub scause: u64,
-    pub stval: u64,
-    pub htval: u64,
-    pub htinst: u64,
-    pub room: u64,
-}
+use crate::forms::Forms;
+use crate::types::*;
 
 #[derive(Clone, Debug, PartialEq, Eq)]
 pub struct Vcpu {
@@ -160,43 +34,6 @@ const A6: usize = 16;
 const A7: usize = 17;
 
 impl Vcpu {
-    pub fn zero() -> Vcpu {
-        Vcpu {
-            x: [0; 32],
-            sepc: 0,
-            sstatus: 0,
-            hstatus: 0,
-            vsstatus: 0,
-            vstvec: 0,
-            vsepc: 0,
-            vscause: 0,
-            vstval: 0,
-            vstimecmp: 0,
-            hie: 0,
-            hvip: 0,
-            hgeie: 0,
-            hgatp: 0,
-            counts: [0; 9],
-            waiting: Waiting::Idle,
-        }
-    }
-
-    #[inline]
-    fn read(&self, i: u32) -> u64 {
-        if i == 0 {
-            0
-        } else {
-            self.x[(i % 32) as usize]
-        }
-    }
-
-    #[inline]
-    fn write(&mut self, i: usize, number: u64) {
-        if i != 0 && i < 32 {
-            self.x[i] = number;
-        }
-    }
-
     #[inline]
     fn advance(&mut self, by: u64) {
         self.sepc = self.sepc.wrapping_add(by);
@@ -232,16 +69,16 @@ impl Vcpu {
     }
 
     /// Starts a trap.
-    #[inline]
-    pub fn start(&mut self, t: &Trap) -> Step {
+    #[inline(always)]
+    pub fn start<F: Forms>(&mut self, t: &Trap) -> Step {
         if self.waiting != Waiting::Idle {
             return Step::Error(Error::BadState);
         }
         match t.scause {
             10 => self.ecall(t.room.min(4096)),
-            21 => self.page_fault(t, false),
-            22 => self.virtual_instruction(t.stval as u32),
-            23 => self.page_fault(t, true),
+            21 => self.page_fault::<F>(t, false),
+            22 => self.virtual_instruction::<F>(t.stval as u32),
+            23 => self.page_fault::<F>(t, true),
             0x8000_0000_0000_0001 | 0x8000_0000_0000_0005 | 0x8000_0000_0000_0009 => {
                 Step::Exit(Exit::ExternalInterrupt { vector: t.scause })
             }
@@ -328,36 +165,32 @@ impl Vcpu {
     }
 
     #[inline(always)]
-    fn virtual_instruction(&mut self, word: u32) -> Step {
+    fn virtual_instruction<F: Forms>(&mut self, word: u32) -> Step {
         if word & 0x7f == 0x73 {
-            return self.csr(word);
+            return self.csr::<F>(word);
         }
         let ask = Ask::Fetch { at: self.sepc, supervisor: self.supervisor() };
         self.asks(Waiting::FetchCsr, ask)
     }
 
     #[inline(always)]
-    fn csr(&mut self, word: u32) -> Step {
+    fn csr<F: Forms>(&mut self, word: u32) -> Step {
         let f3 = word >> 12 & 7;
         if word & 0x7f != 0x73 || word >> 20 != 0x14d || f3 & 3 == 0 {
             self.count(2);
             return Step::Error(Error::Unsupported);
         }
         let field = word >> 15 & 31;
-        let given = if f3 < 4 { self.read(field) } else { field as u64 };
+        let given = F::given(&self.x, f3, field);
         let old = self.vstimecmp;
-        self.write((word >> 7 & 31) as usize, old);
-        self.vstimecmp = match f3 & 3 {
-            1 => given,
-            2 => old | given,
-            _ => old & !given,
-        };
+        F::write(&mut self.x, word >> 7 & 31, old);
+        self.vstimecmp = F::stimecmp(f3, old, given);
         self.advance(4);
         NOTHING
     }
 
     #[inline(always)]
-    fn page_fault(&mut self, t: &Trap, write: bool) -> Step {
+    fn page_fault<F: Forms>(&mut self, t: &Trap, write: bool) -> Step {
         let at = t.htval << 2 | t.stval & 3;
         if t.htinst == 0 {
             let ask = Ask::Fetch { at: self.sepc, supervisor: self.supervisor() };
@@ -370,11 +203,11 @@ impl Vcpu {
         if word & 1 == 0 {
             return Step::Error(Error::DecodeFailed);
         }
-        self.access(at, write, word | 2, if word & 2 == 0 { 2 } else { 4 })
+        self.access::<F>(at, write, word | 2, F::length(word))
     }
 
     #[inline(always)]
-    fn access(&mut self, at: u64, write: bool, word: u32, length: u64) -> Step {
+    fn access<F: Forms>(&mut self, at: u64, write: bool, word: u32, length: u64) -> Step {
         let f3 = word >> 12 & 7;
         let width = match f3 & 3 {
             0 => Width::Byte,
@@ -384,12 +217,12 @@ impl Vcpu {
         };
         match (word & 0x7f, write) {
             (0x03, false) if f3 != 7 => {
-                self.waiting = Waiting::Load { rd: (word >> 7 & 31) as usize, width, signed: f3 < 4 };
+                self.waiting = Waiting::Load { rd: word >> 7 & 31, width, signed: f3 < 4 };
                 self.advance(length);
                 Step::Exit(Exit::MmioRead { addr: at, width })
             }
             (0x23, true) if f3 < 4 => {
-                let data = width.cut(self.read(word >> 20 & 31));
+                let data = F::cut(width, F::read(&self.x, word >> 20 & 31));
                 self.advance(length);
                 Step::Exit(Exit::MmioWrite { addr: at, width, data })
             }
@@ -398,19 +231,19 @@ impl Vcpu {
     }
 
     /// Answers the ask that waits.
-    #[inline]
-    pub fn answer(&mut self, answer: &Answer) -> Step {
+    #[inline(always)]
+    pub fn answer<F: Forms>(&mut self, answer: &Answer) -> Step {
         let waits = self.waiting;
         self.waiting = Waiting::Idle;
         match (waits, *answer) {
             (Waiting::FetchCsr, Answer::Fetched(fetch)) => match fetch {
-                Fetch::Word(word) => self.csr(word),
+                Fetch::Word(word) => self.csr::<F>(word),
                 fault => self.missed(fault),
             },
             (Waiting::FetchFault { at, write }, Answer::Fetched(fetch)) => match fetch {
-                Fetch::Word(word) if word & 3 != 3 => self.access(at, write, word & 0xffff, 2),
+                Fetch::Word(word) if word & 3 != 3 => self.access::<F>(at, write, word & 0xffff, 2),
                 Fetch::Word(word) if word >> 2 & 7 == 7 => Step::Error(Error::DecodeFailed),
-                Fetch::Word(word) => self.access(at, write, word, 4),
+                Fetch::Word(word) => self.access::<F>(at, write, word, 4),
                 fault => self.missed(fault),
             },
             (Waiting::CopyMask, Answer::MaskCopied { count: 8, bytes }) => {
@@ -474,13 +307,13 @@ impl Vcpu {
     }
 
     /// Completes the load that waits.
-    #[inline]
-    pub fn complete_load(&mut self, number: u64) -> bool {
+    #[inline(always)]
+    pub fn complete_load<F: Forms>(&mut self, number: u64) -> bool {
         let Waiting::Load { rd, width, signed } = self.waiting else {
             return false;
         };
         self.waiting = Waiting::Idle;
-        self.write(rd, width.extend(signed, number));
+        F::write(&mut self.x, rd, F::extend(width, signed, number));
         true
     }
 }

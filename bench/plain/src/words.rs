@@ -1,19 +1,17 @@
 //! The handler behind the proved library's boundary.
 
-#[path = "handler.rs"]
-mod handler;
-
-use handler::*;
-pub use handler::Vcpu;
+use crate::forms::Forms;
+use crate::handler::Vcpu;
+use crate::types::*;
 
 #[inline(never)]
-pub extern "C" fn start(vcpu: &mut Vcpu, t: &[u64; 5], out: &mut [u64; 8]) -> u64 {
+pub extern "C" fn start<F: Forms>(vcpu: &mut Vcpu, t: &[u64; 5], out: &mut [u64; 8]) -> u64 {
     let trap = Trap { scause: t[0], stval: t[1], htval: t[2], htinst: t[3], room: t[4] };
-    step(vcpu.start(&trap), out)
+    step(vcpu.start::<F>(&trap), out)
 }
 
 #[inline(never)]
-pub extern "C" fn answer(vcpu: &mut Vcpu, a: &[u64; 3], out: &mut [u64; 8]) -> u64 {
+pub extern "C" fn answer<F: Forms>(vcpu: &mut Vcpu, a: &[u64; 3], out: &mut [u64; 8]) -> u64 {
     let [_, word, more] = *a;
     let answer = match a[0] {
         1 => Answer::Fetched(match more {
@@ -34,19 +32,19 @@ pub extern "C" fn answer(vcpu: &mut Vcpu, a: &[u64; 3], out: &mut [u64; 8]) -> u
         9 => Answer::Forwarded { error: word, value: more },
         _ => return 0x101,
     };
-    step(vcpu.answer(&answer), out)
+    step(vcpu.answer::<F>(&answer), out)
 }
 
 #[inline(never)]
-pub extern "C" fn complete_load(vcpu: &mut Vcpu, number: u64) -> u64 {
-    if vcpu.complete_load(number) {
+pub extern "C" fn complete_load<F: Forms>(vcpu: &mut Vcpu, number: u64) -> u64 {
+    if vcpu.complete_load::<F>(number) {
         0x40
     } else {
         0x102
     }
 }
 
-#[inline]
+#[inline(always)]
 fn step(step: Step, out: &mut [u64; 8]) -> u64 {
     match step {
         Step::Error(error) => 0x100 + error as u64,

@@ -4,11 +4,28 @@
 #[path = "../handlers.rs"]
 #[allow(dead_code)] // the traps alone are only timed
 mod handlers;
+#[path = "../traps.rs"]
+#[allow(dead_code)] // so are the rows
+mod traps;
 
 use handlers::*;
+use plain::{First, Straight};
+use traps::*;
 
 /// Each reply is looked at.
 const SEE: bool = true;
+
+type After = Box<dyn FnMut(&Work) -> (Vec<Reply>, Record)>;
+
+fn after<H: Handler + 'static>(record: &Record) -> After {
+    let mut handler = H::new(record);
+    Box::new(move |work| {
+        let mut replies = vec![];
+        handler.set(work);
+        handler.trap(work, &mut replies);
+        (replies, handler.record())
+    })
+}
 
 fn main() {
     let traps = match std::env::args().nth(1).map(|text| text.parse::<u64>()) {
@@ -18,32 +35,30 @@ fn main() {
             std::process::exit(2);
         }
     };
-    fn after<H: Handler>(handler: &mut H, work: &Work) -> (Vec<Reply>, Record) {
-        let mut replies = vec![];
-        handler.set(work);
-        handler.trap(work, &mut replies);
-        (replies, handler.record())
-    }
-    let mut r = Random(2);
-    let first: Record = std::array::from_fn(|i| if i < 54 { r.number() } else { 0 });
-    let (mut plain_enums, mut plain_words) = (PlainEnums(PlainEnums::from_words(&first)), PlainWords(PlainWords::from_words(&first)));
-    let (mut in_place, mut interface, mut thin) = (InPlace(first), Interface(curbizzolu::Vcpu::from_words(first)), Thin(first));
+    let record = Random(2).record();
+    // in the order of NAMES, the traps alone apart
+    let mut handlers = [
+        after::<PlainEnums<Straight>>(&record),
+        after::<PlainWords<Straight>>(&record),
+        after::<PlainEnums<First>>(&record),
+        after::<PlainWords<First>>(&record),
+        after::<InPlace>(&record),
+        after::<Interface>(&record),
+        after::<Thin>(&record),
+    ];
+    let names = &NAMES[1..];
     let mut r = Random(1);
     for i in 0..traps {
-        let work = work(&mut r);
-        let expected = after(&mut plain_enums, &work);
-        let others = [
-            after(&mut plain_words, &work),
-            after(&mut in_place, &work),
-            after(&mut interface, &work),
-            after(&mut thin, &work),
-        ];
-        for (name, given) in NAMES[2..].iter().zip(others) {
-            if given != expected {
-                eprintln!("compare: trap {i}, {:x?} with a0 {:x}, a6 {:x}, a7 {:x} and {:x} given:", work.trap, work.a0, work.a6, work.a7, work.given);
-                eprintln!("{} gives {:x?}\n{name} gives {:x?}", NAMES[1], expected.0, given.0);
-                for (word, (one, other)) in expected.1.iter().zip(given.1).enumerate().filter(|(_, (one, other))| *one != other) {
-                    eprintln!("word {word} of the record after it is {one:x} by {} and {other:x} by {name}", NAMES[1]);
+        let work = work::<false>(&ROWS[0], &mut r);
+        let given = handlers.each_mut().map(|handler| handler(&work));
+        // the plainest text is what the others are held to
+        let plain = 2;
+        for (name, given_by) in names.iter().zip(&given) {
+            if *given_by != given[plain] {
+                eprintln!("compare: trap {i}, {:x?} with a0 {:x}, a6 {:x}, a7 {:x} and {:x?} given:", work.trap, work.a0, work.a6, work.a7, work.given);
+                eprintln!("{} gives {:x?}\n{name} gives {:x?}", names[plain], given[plain].0, given_by.0);
+                for (word, (one, other)) in given[plain].1.iter().zip(given_by.1).enumerate().filter(|(_, (one, other))| *one != other) {
+                    eprintln!("word {word} of the record after it is {one:x} by {} and {other:x} by {name}", names[plain]);
                 }
                 std::process::exit(1);
             }

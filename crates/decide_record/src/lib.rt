@@ -67,7 +67,7 @@ pub fn ask_of(w: Waiting) -> u64
 }
 
 // The number of an ecall's ask.
-fn ecall_ask(a: EcallAsk) -> u64
+pub fn ecall_ask(a: EcallAsk) -> u64
     ensures { λ r. ⌜ r ≡ ecallAskNumber a ⌝ }
 {
     match a {

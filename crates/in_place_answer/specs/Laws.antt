@@ -6,7 +6,7 @@ use mathlib.Core.Path.{_≡_, refl, ap, sym, subst, _∙_}
 use native.Mathlib.Omega.{arith}
 use lib.ListN.{drop, getD, length}
 use lib.Dec.{eqb}
-use borrow.Author.Tests.{eqb-true}
+use borrow.Author.Tests.{eqb-true, ne-eqb}
 use Rattle.isa_types.specs.Pick.{pick}
 use Rattle.scope.specs.OneTrap.{answerFor, answerNumber, answerValues, fetchNumber, fetchOf}
 use Rattle.scope.specs.Refusals.{errorNumber, refusedOf, leavesOf}
@@ -125,10 +125,6 @@ pub wrong-made : (r o : List ℕ) (ask a b : ℕ) → eqb (waitingAsk (viewOf r 
 unfolding calledOf baseOf effectOf answerEffect
 wrong-made r o ask a b e = rw (unfit (viewOf r .waiting) ask a b e) (refused-made r o (viewOf r .waiting) refl)
 
-pub zero-made : (r o : List ℕ) (a b : ℕ) → Laid (trapLeaves r) o (calledOf (viewOf r) (hostCall.Answer (answerFor 0 a b))) r o 0x107
-unfolding calledOf baseOf effectOf answerEffect answerFor answerNumber
-zero-made r o a b = rw (ask-below (viewOf r .waiting)) (refused-made r o (viewOf r .waiting) refl)
-
 -- to the fetch that waits
 pub fetch-called : (v : Vcpu) (a b : ℕ) → waitingAsk (v .waiting) ≡ 1 → applied v (fetchEffect (v .x) (v .csrs) (v .waiting) (fetchOf a b)) ≡ calledOf v (hostCall.Answer (answerFor 1 a b))
 unfolding calledOf baseOf effectOf answerEffect answerNumber fittingEffect answerFor
@@ -157,20 +153,45 @@ numbers-by x k c (waiting.Ecall asked.Forward) ask a b e h = rw (← e) refl
 pub numbers-called : (v : Vcpu) (ask a b : ℕ) → waitingAsk (v .waiting) ≡ ask → 1 < ask → applied v (numbersEffect (v .csrs) (v .waiting) a b) ≡ calledOf v (hostCall.Answer (answerFor ask a b))
 numbers-called v ask a b e h = numbers-by (v .x) (v .counts) (v .csrs) (v .waiting) ask a b e h
 
+-- no answer has number 0, which is what waits where no ask does
+
+no-zero-by : (ask a b : ℕ) (t₁ t₂ t₃ t₄ t₅ t₆ t₇ t₈ t₉ : Bool)
+    → eqb ask 1 ≡ t₁ → eqb ask 2 ≡ t₂ → eqb ask 3 ≡ t₃ → eqb ask 4 ≡ t₄ → eqb ask 5 ≡ t₅ → eqb ask 6 ≡ t₆ → eqb ask 7 ≡ t₇ → eqb ask 8 ≡ t₈ → eqb ask 9 ≡ t₉
+    → eqb 0 (answerNumber (answerFor ask a b)) ≡ false
+unfolding answerFor answerNumber
+no-zero-by ask a b true t₂ t₃ t₄ t₅ t₆ t₇ t₈ t₉ e₁ e₂ e₃ e₄ e₅ e₆ e₇ e₈ e₉ = simp (e₁)
+no-zero-by ask a b false true t₃ t₄ t₅ t₆ t₇ t₈ t₉ e₁ e₂ e₃ e₄ e₅ e₆ e₇ e₈ e₉ = simp (e₁, e₂)
+no-zero-by ask a b false false true t₄ t₅ t₆ t₇ t₈ t₉ e₁ e₂ e₃ e₄ e₅ e₆ e₇ e₈ e₉ = simp (e₁, e₂, e₃)
+no-zero-by ask a b false false false true t₅ t₆ t₇ t₈ t₉ e₁ e₂ e₃ e₄ e₅ e₆ e₇ e₈ e₉ = simp (e₁, e₂, e₃, e₄)
+no-zero-by ask a b false false false false true t₆ t₇ t₈ t₉ e₁ e₂ e₃ e₄ e₅ e₆ e₇ e₈ e₉ = simp (e₁, e₂, e₃, e₄, e₅)
+no-zero-by ask a b false false false false false true t₇ t₈ t₉ e₁ e₂ e₃ e₄ e₅ e₆ e₇ e₈ e₉ = simp (e₁, e₂, e₃, e₄, e₅, e₆)
+no-zero-by ask a b false false false false false false true t₈ t₉ e₁ e₂ e₃ e₄ e₅ e₆ e₇ e₈ e₉ = simp (e₁, e₂, e₃, e₄, e₅, e₆, e₇)
+no-zero-by ask a b false false false false false false false true t₉ e₁ e₂ e₃ e₄ e₅ e₆ e₇ e₈ e₉ = simp (e₁, e₂, e₃, e₄, e₅, e₆, e₇, e₈)
+no-zero-by ask a b false false false false false false false false true e₁ e₂ e₃ e₄ e₅ e₆ e₇ e₈ e₉ = simp (e₁, e₂, e₃, e₄, e₅, e₆, e₇, e₈, e₉)
+no-zero-by ask a b false false false false false false false false false e₁ e₂ e₃ e₄ e₅ e₆ e₇ e₈ e₉ = simp (e₁, e₂, e₃, e₄, e₅, e₆, e₇, e₈, e₉)
+
+no-zero : (ask a b : ℕ) → eqb 0 (answerNumber (answerFor ask a b)) ≡ false
+no-zero ask a b =
+    no-zero-by ask a b (eqb ask 1) (eqb ask 2) (eqb ask 3) (eqb ask 4) (eqb ask 5) (eqb ask 6) (eqb ask 7) (eqb ask 8) (eqb ask 9) refl refl refl refl refl refl refl refl refl
+
+pub none-waits : (r o : List ℕ) (w : Waiting) (ask a b : ℕ) → w ≡ viewOf r .waiting → waitingAsk w ≡ 0 → Laid (trapLeaves r) o (calledOf (viewOf r) (hostCall.Answer (answerFor ask a b))) r o 0x107
+unfolding calledOf baseOf effectOf answerEffect
+none-waits r o w ask a b e z =
+    rw (ap waitingAsk (sym e) ∙ z, no-zero ask a b) (refused-made r o (viewOf r .waiting) refl)
+
 -- the same, as the functions come by it
 
-pub fetch-made : (r o s p : List ℕ) (w : Waiting) (waits ask a b c : ℕ) → w ≡ viewOf r .waiting → waits ≡ waitingAsk w → waits ≡ ask → ask ≡ 1
+pub fetch-made : (r o s p : List ℕ) (w : Waiting) (ask a b c : ℕ) → w ≡ viewOf r .waiting → waitingAsk w ≡ 1 → ask ≡ 1
     → Laid (trapLeaves r) o (applied (viewOf r) (fetchEffect (viewOf r .x) (viewOf r .csrs) w (fetchOf a b))) s p c → Laid (trapLeaves r) o (calledOf (viewOf r) (hostCall.Answer (answerFor ask a b))) s p c
-fetch-made r o s p w waits ask a b c e f g h m =
+fetch-made r o s p w ask a b c e f h m =
     subst (λ (n : ℕ). Laid (trapLeaves r) o (calledOf (viewOf r) (hostCall.Answer (answerFor n a b))) s p c) (sym h)
-    (subst (λ (q : Outcome). Laid (trapLeaves r) o q s p c) (fetch-called (viewOf r) a b (ap waitingAsk (sym e) ∙ sym f ∙ g ∙ h))
+    (subst (λ (q : Outcome). Laid (trapLeaves r) o q s p c) (fetch-called (viewOf r) a b (ap waitingAsk (sym e) ∙ f))
     (subst (λ (n : Waiting). Laid (trapLeaves r) o (applied (viewOf r) (fetchEffect (viewOf r .x) (viewOf r .csrs) n (fetchOf a b))) s p c) e m))
 
-pub numbers-made : (r o s p : List ℕ) (w : Waiting) (waits ask a b c : ℕ) → w ≡ viewOf r .waiting → waits ≡ waitingAsk w → waits ≡ ask → 1 < ask
-    → Laid (trapLeaves r) o (applied (viewOf r) (numbersEffect (viewOf r .csrs) w a b)) s p c → Laid (trapLeaves r) o (calledOf (viewOf r) (hostCall.Answer (answerFor ask a b))) s p c
-numbers-made r o s p w waits ask a b c e f g h m =
-    subst (λ (q : Outcome). Laid (trapLeaves r) o q s p c) (numbers-called (viewOf r) ask a b (ap waitingAsk (sym e) ∙ sym f ∙ g) h)
-    (subst (λ (n : Waiting). Laid (trapLeaves r) o (applied (viewOf r) (numbersEffect (viewOf r .csrs) n a b)) s p c) e m)
+pub unfit-made : (r o : List ℕ) (w : Waiting) (number ask a b : ℕ) → w ≡ viewOf r .waiting → waitingAsk w ≡ number → (ask ≡ number → ⊥)
+    → Laid (trapLeaves r) o (calledOf (viewOf r) (hostCall.Answer (answerFor ask a b))) r o 0x107
+unfit-made r o w number ask a b e f n =
+    wrong-made r o ask a b (ap (λ (k : ℕ). eqb k ask) (ap waitingAsk (sym e) ∙ f) ∙ ne-eqb number ask (λ h. n (sym h)))
 
 -- what was decided of the answer, done on the words
 pub asked-made : (r o s p : List ℕ) → length r ≡ 58 → (a : EcallAsk) (word more c : ℕ) (d : Answered) → ((q : Csrs) → answeredEffect q d ≡ ecallAnswer q a word more)
@@ -178,10 +199,42 @@ pub asked-made : (r o s p : List ℕ) → length r ≡ 58 → (a : EcallAsk) (wo
 asked-made r o s p n a word more c d h l =
     made-by (subst (λ (e : Effect). On r o e (answeredLeft r o d)) (h (viewOf r .csrs)) (answered-made r o n d)) l
 
-pub mismatch-made : (r o : List ℕ) (w : Waiting) (waits ask a b : ℕ) → w ≡ viewOf r .waiting → waits ≡ waitingAsk w → eqb waits ask ≡ false
+ecall-numbers : (c : Csrs) (e : EcallAsk) (a b : ℕ) → ecallAnswer c e a b ≡ numbersEffect c (waiting.Ecall e) a b
+unfolding numbersEffect
+ecall-numbers c e a b = refl
+
+above-one : (e : EcallAsk) → 1 < ecallAskNumber e
+unfolding ecallAskNumber
+above-one asked.CopyMask = omega arith
+above-one (asked.CopyIn n) = omega arith
+above-one (asked.Print n) = omega arith
+above-one (asked.ReadConsole n at) = omega arith
+above-one (asked.CopyOut n) = omega arith
+above-one asked.PutChar = omega arith
+above-one asked.PutByte = omega arith
+above-one asked.GetChar = omega arith
+above-one asked.Forward = omega arith
+
+ecall-number : (e : EcallAsk) → waitingAsk (waiting.Ecall e) ≡ ecallAskNumber e
+unfolding waitingAsk
+ecall-number e = refl
+
+ecall-called : (v : Vcpu) (e : EcallAsk) (a b : ℕ) → waiting.Ecall e ≡ v .waiting → applied v (ecallAnswer (v .csrs) e a b) ≡ calledOf v (hostCall.Answer (answerFor (ecallAskNumber e) a b))
+ecall-called v e a b h =
+    ap (applied v) (ecall-numbers (v .csrs) e a b ∙ ap (λ (w : Waiting). numbersEffect (v .csrs) w a b) h)
+    ∙ numbers-called v (ecallAskNumber e) a b (ap waitingAsk (sym h) ∙ ecall-number e) (above-one e)
+
+pub ecall-made : (r o s p : List ℕ) → length r ≡ 58 → (e : EcallAsk) (number ask word more c : ℕ) (d : Answered) → waiting.Ecall e ≡ viewOf r .waiting → number ≡ ecallAskNumber e → ask ≡ number
+    → ((q : Csrs) → answeredEffect q d ≡ ecallAnswer q e word more) → Leaves (answeredLeft r o d) s p c
+    → Laid (trapLeaves r) o (calledOf (viewOf r) (hostCall.Answer (answerFor ask word more))) s p c
+ecall-made r o s p n e number ask word more c d w f g h l =
+    subst (λ (k : ℕ). Laid (trapLeaves r) o (calledOf (viewOf r) (hostCall.Answer (answerFor k word more))) s p c) (sym (g ∙ f))
+    (subst (λ (q : Outcome). Laid (trapLeaves r) o q s p c) (ecall-called (viewOf r) e word more w)
+    (asked-made r o s p n e word more c d h l))
+
+pub ecall-unfit : (r o : List ℕ) (e : EcallAsk) (number ask a b : ℕ) → waiting.Ecall e ≡ viewOf r .waiting → number ≡ ecallAskNumber e → (ask ≡ number → ⊥)
     → Laid (trapLeaves r) o (calledOf (viewOf r) (hostCall.Answer (answerFor ask a b))) r o 0x107
-mismatch-made r o w waits ask a b e f g =
-    wrong-made r o ask a b (ap (λ (n : ℕ). eqb n ask) (ap waitingAsk (sym e) ∙ sym f) ∙ g)
+ecall-unfit r o e number ask a b w f n = unfit-made r o (waiting.Ecall e) number ask a b w (ecall-number e ∙ sym f) n
 
 pub missed-answer : (r o s p : List ℕ) (w : Waiting) (a b c : ℕ) → length r ≡ 58 → eqb b 0 ≡ false
     → Leaves (missedLeft r o (missedOf (fetchOf a b))) s p c → Laid (trapLeaves r) o (applied (viewOf r) (fetchEffect (viewOf r .x) (viewOf r .csrs) w (fetchOf a b))) s p c

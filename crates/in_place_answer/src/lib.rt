@@ -4,10 +4,11 @@ ghost use mathlib.Core.Path.{_≡_};
 ghost use Rattle.isa_fields.specs.Fields.{rs1Field};
 ghost use Rattle.isa_decoder.specs.Length.{fetchedOf};
 ghost use Rattle.scope.specs.declared.hosts.HostCall.the-variants as hostCall;
-ghost use Rattle.scope.specs.Record.{valueOf, waitingAsk, applied};
+ghost use Rattle.scope.specs.declared.machine.Waiting.the-variants as waiting;
+ghost use Rattle.scope.specs.Record.{ecallAskNumber, valueOf, waitingAsk, applied};
 ghost use Rattle.scope.specs.VirtualInstruction.{stimecmpEffect, stimecmpWord};
 ghost use Rattle.scope.specs.GuestPageFault.{mmioOf};
-ghost use Rattle.scope.specs.Answers.{fetchEffect, wordEffect, numbersEffect};
+ghost use Rattle.scope.specs.Answers.{fetchEffect, wordEffect};
 ghost use Rattle.scope.specs.Calls.{calledOf};
 ghost use Rattle.scope.specs.OneTrap.{answerFor, fetchOf};
 ghost use Rattle.in_place_record.specs.Steps.{Laid, Settled, trapLeaves};
@@ -15,6 +16,7 @@ ghost use Rattle.in_place_record.specs.View.{viewOf};
 ghost use Rattle.in_place_answer.specs.Words.{answerWords};
 use isa_types::GuestPhysAddr;
 use scope::Access;
+use scope::EcallAsk;
 use scope::Waiting;
 
 // An answer: the ask's number, and two numbers.
@@ -37,10 +39,10 @@ pub fn answer_words(a: &[u64; 3]) -> AnswerWords
 
 // Answers the ask that waits.
 pub fn answer(r: &mut [u64; 58], out: &mut [u64; 8], a: AnswerWords) -> u64
-    ensures { λ w. ⌜ Laid (trapLeaves (now (r .entry))) (now (out .entry)) (calledOf (viewOf (now (r .entry))) (hostCall.Answer (answerFor (a .ask) (a .word) (a .more)))) (now (r .exit)) (now (out .exit)) w ⌝ }
+    ensures { λ c. ⌜ Laid (trapLeaves (now (r .entry))) (now (out .entry)) (calledOf (viewOf (now (r .entry))) (hostCall.Answer (answerFor (a .ask) (a .word) (a .more)))) (now (r .exit)) (now (out .exit)) c ⌝ }
 {
     let w = in_place_read::waiting(r);
-    matched(decide_record::ask_of(w), r, out, w, a.ask, a.word, a.more)
+    waits(r, out, w, a.ask, a.word, a.more)
 }
 
 // Completes the load that waits.
@@ -52,36 +54,11 @@ pub fn complete_load(r: &mut [u64; 58], n: u64) -> u64
     in_place_record::complete(r, w, n)
 }
 
-// An answer of another ask's kind, or to no ask, is refused. (0 is what waits where no ask does, and no ask's number.)
-fn matched(
-    waits: u64,
-    r: &mut [u64; 58],
-    out: &mut [u64; 8],
-    w: Waiting,
-    ask: u64,
-    word: u64,
-    more: u64,
-) -> u64
-    ensures { λ c. ⌜ (w ≡ viewOf (now (r .entry)) .waiting → waits ≡ waitingAsk w → Laid (trapLeaves (now (r .entry))) (now (out .entry)) (calledOf (viewOf (now (r .entry))) (hostCall.Answer (answerFor ask word more))) (now (r .exit)) (now (out .exit)) c) ⌝ }
+// By what waits, and only then by the answer's number: one jump leads to what is to be done. Where no ask waits every answer is
+// refused.
+fn waits(r: &mut [u64; 58], out: &mut [u64; 8], w: Waiting, ask: u64, word: u64, more: u64) -> u64
+    ensures { λ c. ⌜ (w ≡ viewOf (now (r .entry)) .waiting → Laid (trapLeaves (now (r .entry))) (now (out .entry)) (calledOf (viewOf (now (r .entry))) (hostCall.Answer (answerFor ask word more))) (now (r .exit)) (now (out .exit)) c) ⌝ }
 {
-    in_place_record::sized(r);
-    if ask == 0 {
-        return 0x107;
-    }
-    if waits == ask {
-        if ask == 1 {
-            return fetched(r, out, w, word, more);
-        }
-        return numbers(r, out, w, word, more);
-    }
-    0x107
-}
-
-// The numbers of an answer go to the ecall that waits.
-fn numbers(r: &mut [u64; 58], out: &mut [u64; 8], w: Waiting, word: u64, more: u64) -> u64
-    ensures { λ c. ⌜ (w ≡ viewOf (now (r .entry)) .waiting → Laid (trapLeaves (now (r .entry))) (now (out .entry)) (applied (viewOf (now (r .entry))) (numbersEffect (viewOf (now (r .entry)) .csrs) w word more)) (now (r .exit)) (now (out .exit)) c) ⌝ }
-{
-    in_place_record::sized(r);
     match w {
         Waiting::Idle => 0x107,
         Waiting::Load {
@@ -89,14 +66,46 @@ fn numbers(r: &mut [u64; 58], out: &mut [u64; 8], w: Waiting, word: u64, more: u
             width: _,
             signed: _,
         } => 0x107,
-        Waiting::FetchCsr => 0x107,
-        Waiting::FetchFault { at: _, access: _ } => 0x107,
-        Waiting::Ecall(a) => in_place_classes::do_answered(
-            r,
-            out,
-            decide_answers::decide(a, word, more),
-        ),
+        Waiting::FetchCsr => fetch_waits(r, out, w, ask, word, more),
+        Waiting::FetchFault { at: _, access: _ } => fetch_waits(r, out, w, ask, word, more),
+        Waiting::Ecall(e) => ecall_waits(decide_record::ecall_ask(e), r, out, e, ask, word, more),
     }
+}
+
+// A fetch waits: ask 1.
+fn fetch_waits(
+    r: &mut [u64; 58],
+    out: &mut [u64; 8],
+    w: Waiting,
+    ask: u64,
+    word: u64,
+    more: u64,
+) -> u64
+    ensures { λ c. ⌜ (w ≡ viewOf (now (r .entry)) .waiting → waitingAsk w ≡ 1 → Laid (trapLeaves (now (r .entry))) (now (out .entry)) (calledOf (viewOf (now (r .entry))) (hostCall.Answer (answerFor ask word more))) (now (r .exit)) (now (out .exit)) c) ⌝ }
+{
+    if ask == 1 {
+        return fetched(r, out, w, word, more);
+    }
+    0x107
+}
+
+// An ecall's ask waits, of this number: the answer's numbers go to it.
+fn ecall_waits(
+    number: u64,
+    r: &mut [u64; 58],
+    out: &mut [u64; 8],
+    e: EcallAsk,
+    ask: u64,
+    word: u64,
+    more: u64,
+) -> u64
+    ensures { λ c. ⌜ (waiting.Ecall e ≡ viewOf (now (r .entry)) .waiting → number ≡ ecallAskNumber e → Laid (trapLeaves (now (r .entry))) (now (out .entry)) (calledOf (viewOf (now (r .entry))) (hostCall.Answer (answerFor ask word more))) (now (r .exit)) (now (out .exit)) c) ⌝ }
+{
+    in_place_record::sized(r);
+    if ask == number {
+        return in_place_classes::do_answered(r, out, decide_answers::decide(e, word, more));
+    }
+    0x107
 }
 
 // A fetch gave a word, or its fault is handled.
