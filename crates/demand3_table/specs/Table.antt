@@ -131,8 +131,8 @@ stimecmpNames w =
     (pick (eqb (csrField w) stimecmp) (funct3Names (funct3Field w) (rs1Field w)) [])
     []
 
--- "Decoded store": rs2. storeSource is the decoder's; that it is bits 24..20 of a word that is a store, and 0 for any other,
--- is store-field in isa_decoder/specs/Laws.antt
+-- "Decoded store": rs2. storeSource is opSource of the word that was decoded (isa_decoder/specs/Length.antt); that opSource of
+-- a decoded word is its bits 24..20 where it is a store, and 0 where not, is store-field in isa_decoder/specs/Laws.antt
 unfoldable pub storeNames : Trapped → List ℕ
 storeNames i = sourceNames (storeSource i)
 

@@ -17,6 +17,7 @@ use Rattle.scope.specs.declared.traps.Ask.{Ask}
 use Rattle.scope.specs.declared.traps.Error.the-variants as error
 use Rattle.scope.specs.declared.traps.Error.{Error}
 use Rattle.scope.specs.declared.traps.Exit.the-variants as exit
+use Rattle.scope.specs.declared.traps.Exit.{Exit}
 use Rattle.scope.specs.declared.traps.Reply.the-variants as reply
 use Rattle.scope.specs.declared.traps.Reply.{Reply}
 use Rattle.scope.specs.declared.traps.Trap.{Trap}
@@ -30,7 +31,8 @@ use Rattle.words_call.specs.Words.{callOf, replyWordsOf}
 use Rattle.words_entry.specs.Words.{Exported, exportedOf}
 use Rattle.in_place_record.specs.Told.{told}
 use Rattle.in_place_record.specs.View.{Done, Made, recordOf, viewOf}
-use Rattle.demand1.specs.Demand1.{Pending, ask-waits}
+use Rattle.demand1.specs.Demand1.{Pending, ask-waits, exit-leaves}
+use Rattle.demand1.specs.Leaves.{ExitLeaves}
 use Rattle.demand1.specs.When.{callWhen}
 use Rattle.demand1.specs.Whole.{Middles, inError, wholeOf}
 use Rattle.demand3.specs.Counting as counting
@@ -39,7 +41,7 @@ use Rattle.demand3.specs.Kinds.{traps}
 use Rattle.demand3_table.specs.Runs.{Lasting, Sight, Untouched, runOf, seenOf, sightOf, stepOf, written}
 use Rattle.demands_lent.specs.Entries.{turnsOf}
 use Rattle.demands_words.specs.Left.{Sized, left-shows, left-sized, leftAfter}
-use Rattle.demands_words.specs.First.{OverWords, error-leaves-the-words, number-when, read-leaves-the-words, refusal-leaves-the-words, word-when}
+use Rattle.demands_words.specs.First.{OverWords, error-leaves-the-words, number-when, print-leaves-the-words, read-leaves-the-words, refusal-leaves-the-words, word-when}
 use Rattle.demands_words.specs.Places as places
 use Rattle.demands_words.specs.Places.{Entered, Leads, Places, Shown, Step, Use, callsIn, callsOf, leads, one-place, record-sized, showsOf, useCall}
 use Rattle.demands_words.specs.Third.{AlikeWords, WordsThird, after-run, words-third}
@@ -167,6 +169,11 @@ start-first : (r : Record) (t : Trap) (cs : List Use) → leftAfter r (callsOf (
 unfolding callsOf useCall
 start-first r t cs = refl
 
+-- nothing waits after an exit, but a load after MmioRead
+pub place-exit-leaves : (r s p : List ℕ) (c : HostCall) (w : ℕ) → Made r c s p w → (y : Exit) → calledOf (viewOf r) c .reply ≡ reply.Exit y → ExitLeaves y (viewOf s .waiting)
+place-exit-leaves r s p c w m y e =
+    subst (λ (v : Vcpu). ExitLeaves y (v .waiting)) (sym (m .shows)) (exit-leaves (viewOf r) c y e)
+
 -- a trap that ends in an error, from its start through its last answer, with refused calls and reads between
 pub place-error-changes-nothing : (r u : List ℕ) (t : Trap) (cs : List Use) (ws : List Shown) → length r ≡ 58 → Places r (places.given (hostCall.Start t) ∷ cs) ws u
     → Middles (calledOf (viewOf r) (hostCall.Start t) .vcpu) (callsOf cs) → inError (wholeOf (viewOf r) t (callsOf cs) .reply) ≡ true → OverWords (recordOf r) (recordOf u)
@@ -226,9 +233,57 @@ entered-gives {r} z (places.next {c = c} {cs = cs} x p) =
     (entered-gives (subst (λ (k : Record). Sized k) (sym (x .0)) (left-sized r (callOf c) z)) p
     ∙ ap (λ (v : Vcpu). givenIn (seenOf v (turnsOf (callsIn cs)))) (ap unpackOf (x .0) ∙ left-shows r (callOf c) z))
 
-pub words-refusal-keeps-the-record : (r s : Record) (c : CallWords) (g : ReplyWords) → Sized r → Exported r c s g → refuses (calledOf (unpackOf r) (callOf c) .reply) ≡ true → s ≡ r
+-- refusals 1, 2 and 7, by the kind and the number given
+unfoldable pub refusalGiven : ReplyWords → Bool
+refusalGiven g = and (eqb (g .kind) 4) (or (eqb (g .number) 1) (or (eqb (g .number) 2) (eqb (g .number) 7)))
+
+given-refuses : (p : Reply) → and (eqb (replyKind p) 4) (or (eqb (replyNumber p) 1) (or (eqb (replyNumber p) 2) (eqb (replyNumber p) 7))) ≡ refuses p
+unfolding replyKind replyNumber errorNumber refuses refusal
+given-refuses (reply.Exit e) = refl
+given-refuses (reply.Ask a) = refl
+given-refuses reply.Done = refl
+given-refuses (reply.Value n) = refl
+given-refuses (reply.Error error.InvalidInput) = refl
+given-refuses (reply.Error error.BadState) = refl
+given-refuses (reply.Error error.Unsupported) = refl
+given-refuses (reply.Error error.InvalidTrap) = refl
+given-refuses (reply.Error error.DecodeFailed) = refl
+given-refuses (reply.Error error.GuestMemoryFault) = refl
+given-refuses (reply.Error error.WrongAnswer) = refl
+
+given-by : (r s : Record) (c : CallWords) (g : ReplyWords) → Exported r c s g → refusalGiven g ≡ refuses (calledOf (unpackOf r) (callOf c) .reply)
+unfolding refusalGiven exportedOf replyWordsOf
+given-by r s c g x =
+    ap (λ (n : ReplyWords). and (eqb (n .kind) 4) (or (eqb (n .number) 1) (or (eqb (n .number) 2) (eqb (n .number) 7)))) (x .1)
+    ∙ given-refuses (calledOf (unpackOf r) (callOf c) .reply)
+
+-- what is given as a refusal leaves every word
+pub words-refusal-keeps-the-record : (r s : Record) (c : CallWords) (g : ReplyWords) → Sized r → Exported r c s g → refusalGiven g ≡ true → s ≡ r
 unfolding exportedOf
-words-refusal-keeps-the-record r s c g z x h = x .0 ∙ refusal-leaves-the-words r (callOf c) z h
+words-refusal-keeps-the-record r s c g z x h =
+    x .0 ∙ refusal-leaves-the-words r (callOf c) z (sym (given-by r s c g x) ∙ h)
+
+-- so does a register read, and the question how much is to be printed
+pub words-read-keeps-the-record : (r s : Record) (c : CallWords) (g : ReplyWords) (index : ℕ) → Sized r → callOf c ≡ hostCall.GetGpr index → Exported r c s g → s ≡ r
+unfolding exportedOf
+words-read-keeps-the-record r s c g index z k x =
+    x .0 ∙ ap (leftOf r) k ∙ read-leaves-the-words r index z
+
+pub words-print-keeps-the-record : (r s : Record) (c : CallWords) (g : ReplyWords) (n : ℕ) → Sized r → callOf c ≡ hostCall.ToPrint n → Exported r c s g → s ≡ r
+unfolding exportedOf
+words-print-keeps-the-record r s c g n z k x =
+    x .0 ∙ ap (leftOf r) k ∙ print-leaves-the-words r n z
+
+-- an ask leaves exactly that ask waiting; nothing waits after an exit, but a load after MmioRead
+pub words-ask-waits : (r s : Record) (c : CallWords) (g : ReplyWords) → Sized r → Exported r c s g → (a : Ask) → calledOf (unpackOf r) (callOf c) .reply ≡ reply.Ask a → Pending (unpackOf r) a (unpackOf s)
+unfolding exportedOf
+words-ask-waits r s c g z x a e =
+    subst (λ (v : Vcpu). Pending (unpackOf r) a v) (sym (ap unpackOf (x .0) ∙ left-shows r (callOf c) z)) (ask-waits (unpackOf r) (callOf c) a e)
+
+pub words-exit-leaves : (r s : Record) (c : CallWords) (g : ReplyWords) → Sized r → Exported r c s g → (y : Exit) → calledOf (unpackOf r) (callOf c) .reply ≡ reply.Exit y → ExitLeaves y (unpackOf s .waiting)
+unfolding exportedOf
+words-exit-leaves r s c g z x y e =
+    subst (λ (v : Vcpu). ExitLeaves y (v .waiting)) (sym (ap unpackOf (x .0) ∙ left-shows r (callOf c) z)) (exit-leaves (unpackOf r) (callOf c) y e)
 
 -- kind 4 and number e are given exactly where 01's table has e
 pub words-when : (y : Error) (r s : Record) (c : CallWords) (g : ReplyWords) → Exported r c s g → and (eqb (g .kind) 4) (eqb (errorNumber y) (g .number)) ≡ callWhen (unpackOf r) (callOf c) y
@@ -258,3 +313,11 @@ pub entered-error-changes-nothing : (r u : Record) (t : Trap) (c : CallWords) (c
 unfolding callsIn
 entered-error-changes-nothing r u t c cs gs z k p m h =
     subst (λ (n : Record). OverWords r n) (sym (entered-left p ∙ ap (λ (l : HostCall). leftAfter r (l ∷ callsIn cs)) k)) (error-leaves-the-words r t (callsIn cs) z m h)
+
+-- the counts, where no new record is made
+pub entered-counts : {r u : Record} {cs : List CallWords} {gs : List ReplyWords} → Sized r → Entered r cs gs u → (i : ℕ) → Lasting (turnsOf (callsIn cs)) → Counted (unpackOf r .counts) → i < 9
+    → getD (unpackOf u .counts) i 0 ≡ wrapped (getD (unpackOf r .counts) i 0 + traps (suc i) (unpackOf r) (turnsOf (callsIn cs)))
+entered-counts {r} {u} {cs} z p i l k h =
+    ap (λ (m : Record). getD (unpackOf m .counts) i 0) (entered-left p)
+    ∙ ap (λ (v : Vcpu). getD (v .counts) i 0) (after-run r (callsIn cs) z)
+    ∙ counting.counts (unpackOf r) (turnsOf (callsIn cs)) i l k h
