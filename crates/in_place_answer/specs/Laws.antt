@@ -98,28 +98,44 @@ ask-below waiting.FetchCsr = refl
 ask-below (waiting.FetchFault at k) = refl
 ask-below (waiting.Ecall a) = ecall-below a
 
-same-number : (n : Waiting) (ask k : ℕ) → eqb ask k ≡ true → eqb (waitingAsk n) ask ≡ false → eqb (waitingAsk n) k ≡ false
-same-number n ask k e h = ap (λ (m : ℕ). eqb (waitingAsk n) m) (sym (eqb-true ask k e)) ∙ h
+-- the number of an answer made for `ask`: the ask's own, which is not 0, or 10, which is no ask's
+data Number (ask n : ℕ) : Type 0 where
+  own : n ≡ ask → eqb 0 n ≡ false → Number ask n
+  none : n ≡ 10 → Number ask n
 
--- a number that is not that of the ask that waits makes an answer that does not fit
-unfit-by : (n : Waiting) (ask a b : ℕ) (t₁ t₂ t₃ t₄ t₅ t₆ t₇ t₈ t₉ : Bool)
+number-by : (ask a b : ℕ) (t₁ t₂ t₃ t₄ t₅ t₆ t₇ t₈ t₉ : Bool)
     → eqb ask 1 ≡ t₁ → eqb ask 2 ≡ t₂ → eqb ask 3 ≡ t₃ → eqb ask 4 ≡ t₄ → eqb ask 5 ≡ t₅ → eqb ask 6 ≡ t₆ → eqb ask 7 ≡ t₇ → eqb ask 8 ≡ t₈ → eqb ask 9 ≡ t₉
-    → eqb (waitingAsk n) ask ≡ false → eqb (waitingAsk n) (answerNumber (answerFor ask a b)) ≡ false
+    → Number ask (answerNumber (answerFor ask a b))
 unfolding answerFor answerNumber
-unfit-by n ask a b true t₂ t₃ t₄ t₅ t₆ t₇ t₈ t₉ e₁ e₂ e₃ e₄ e₅ e₆ e₇ e₈ e₉ h = simp (e₁) (same-number n ask 1 e₁ h)
-unfit-by n ask a b false true t₃ t₄ t₅ t₆ t₇ t₈ t₉ e₁ e₂ e₃ e₄ e₅ e₆ e₇ e₈ e₉ h = simp (e₁, e₂) (same-number n ask 2 e₂ h)
-unfit-by n ask a b false false true t₄ t₅ t₆ t₇ t₈ t₉ e₁ e₂ e₃ e₄ e₅ e₆ e₇ e₈ e₉ h = simp (e₁, e₂, e₃) (same-number n ask 3 e₃ h)
-unfit-by n ask a b false false false true t₅ t₆ t₇ t₈ t₉ e₁ e₂ e₃ e₄ e₅ e₆ e₇ e₈ e₉ h = simp (e₁, e₂, e₃, e₄) (same-number n ask 4 e₄ h)
-unfit-by n ask a b false false false false true t₆ t₇ t₈ t₉ e₁ e₂ e₃ e₄ e₅ e₆ e₇ e₈ e₉ h = simp (e₁, e₂, e₃, e₄, e₅) (same-number n ask 5 e₅ h)
-unfit-by n ask a b false false false false false true t₇ t₈ t₉ e₁ e₂ e₃ e₄ e₅ e₆ e₇ e₈ e₉ h = simp (e₁, e₂, e₃, e₄, e₅, e₆) (same-number n ask 6 e₆ h)
-unfit-by n ask a b false false false false false false true t₈ t₉ e₁ e₂ e₃ e₄ e₅ e₆ e₇ e₈ e₉ h = simp (e₁, e₂, e₃, e₄, e₅, e₆, e₇) (same-number n ask 7 e₇ h)
-unfit-by n ask a b false false false false false false false true t₉ e₁ e₂ e₃ e₄ e₅ e₆ e₇ e₈ e₉ h = simp (e₁, e₂, e₃, e₄, e₅, e₆, e₇, e₈) (same-number n ask 8 e₈ h)
-unfit-by n ask a b false false false false false false false false true e₁ e₂ e₃ e₄ e₅ e₆ e₇ e₈ e₉ h = simp (e₁, e₂, e₃, e₄, e₅, e₆, e₇, e₈, e₉) (same-number n ask 9 e₉ h)
-unfit-by n ask a b false false false false false false false false false e₁ e₂ e₃ e₄ e₅ e₆ e₇ e₈ e₉ h = simp (e₁, e₂, e₃, e₄, e₅, e₆, e₇, e₈, e₉) (ask-below n)
+number-by ask a b true t₂ t₃ t₄ t₅ t₆ t₇ t₈ t₉ e₁ e₂ e₃ e₄ e₅ e₆ e₇ e₈ e₉ = own (simp (e₁) (sym (eqb-true ask 1 e₁))) (simp (e₁))
+number-by ask a b false true t₃ t₄ t₅ t₆ t₇ t₈ t₉ e₁ e₂ e₃ e₄ e₅ e₆ e₇ e₈ e₉ = own (simp (e₁, e₂) (sym (eqb-true ask 2 e₂))) (simp (e₁, e₂))
+number-by ask a b false false true t₄ t₅ t₆ t₇ t₈ t₉ e₁ e₂ e₃ e₄ e₅ e₆ e₇ e₈ e₉ = own (simp (e₁, e₂, e₃) (sym (eqb-true ask 3 e₃))) (simp (e₁, e₂, e₃))
+number-by ask a b false false false true t₅ t₆ t₇ t₈ t₉ e₁ e₂ e₃ e₄ e₅ e₆ e₇ e₈ e₉ = own (simp (e₁, e₂, e₃, e₄) (sym (eqb-true ask 4 e₄))) (simp (e₁, e₂, e₃, e₄))
+number-by ask a b false false false false true t₆ t₇ t₈ t₉ e₁ e₂ e₃ e₄ e₅ e₆ e₇ e₈ e₉ = own (simp (e₁, e₂, e₃, e₄, e₅) (sym (eqb-true ask 5 e₅))) (simp (e₁, e₂, e₃, e₄, e₅))
+number-by ask a b false false false false false true t₇ t₈ t₉ e₁ e₂ e₃ e₄ e₅ e₆ e₇ e₈ e₉ = own (simp (e₁, e₂, e₃, e₄, e₅, e₆) (sym (eqb-true ask 6 e₆))) (simp (e₁, e₂, e₃, e₄, e₅, e₆))
+number-by ask a b false false false false false false true t₈ t₉ e₁ e₂ e₃ e₄ e₅ e₆ e₇ e₈ e₉ = own (simp (e₁, e₂, e₃, e₄, e₅, e₆, e₇) (sym (eqb-true ask 7 e₇))) (simp (e₁, e₂, e₃, e₄, e₅, e₆, e₇))
+number-by ask a b false false false false false false false true t₉ e₁ e₂ e₃ e₄ e₅ e₆ e₇ e₈ e₉ = own (simp (e₁, e₂, e₃, e₄, e₅, e₆, e₇, e₈) (sym (eqb-true ask 8 e₈))) (simp (e₁, e₂, e₃, e₄, e₅, e₆, e₇, e₈))
+number-by ask a b false false false false false false false false true e₁ e₂ e₃ e₄ e₅ e₆ e₇ e₈ e₉ = own (simp (e₁, e₂, e₃, e₄, e₅, e₆, e₇, e₈, e₉) (sym (eqb-true ask 9 e₉))) (simp (e₁, e₂, e₃, e₄, e₅, e₆, e₇, e₈, e₉))
+number-by ask a b false false false false false false false false false e₁ e₂ e₃ e₄ e₅ e₆ e₇ e₈ e₉ = none (simp (e₁, e₂, e₃, e₄, e₅, e₆, e₇, e₈, e₉))
+
+answer-number : (ask a b : ℕ) → Number ask (answerNumber (answerFor ask a b))
+answer-number ask a b =
+    number-by ask a b (eqb ask 1) (eqb ask 2) (eqb ask 3) (eqb ask 4) (eqb ask 5) (eqb ask 6) (eqb ask 7) (eqb ask 8) (eqb ask 9) refl refl refl refl refl refl refl refl refl
+
+-- so one of another number than the ask that waits does not fit, and where no ask waits none does
+unfit-by : (n : Waiting) {ask m : ℕ} → Number ask m → eqb (waitingAsk n) ask ≡ false → eqb (waitingAsk n) m ≡ false
+unfit-by n (own e z) h = ap (λ (k : ℕ). eqb (waitingAsk n) k) e ∙ h
+unfit-by n (none e) h = ap (λ (k : ℕ). eqb (waitingAsk n) k) e ∙ ask-below n
+
+no-zero-by : {ask m : ℕ} → Number ask m → eqb 0 m ≡ false
+no-zero-by (own e z) = z
+no-zero-by (none e) = ap (λ (k : ℕ). eqb 0 k) e
 
 unfit : (n : Waiting) (ask a b : ℕ) → eqb (waitingAsk n) ask ≡ false → eqb (waitingAsk n) (answerNumber (answerFor ask a b)) ≡ false
-unfit n ask a b h =
-    unfit-by n ask a b (eqb ask 1) (eqb ask 2) (eqb ask 3) (eqb ask 4) (eqb ask 5) (eqb ask 6) (eqb ask 7) (eqb ask 8) (eqb ask 9) refl refl refl refl refl refl refl refl refl h
+unfit n ask a b h = unfit-by n (answer-number ask a b) h
+
+no-zero : (ask a b : ℕ) → eqb 0 (answerNumber (answerFor ask a b)) ≡ false
+no-zero ask a b = no-zero-by (answer-number ask a b)
 
 pub wrong-made : (r o : List ℕ) (ask a b : ℕ) → eqb (waitingAsk (viewOf r .waiting)) ask ≡ false → Laid (trapLeaves r) o (calledOf (viewOf r) (hostCall.Answer (answerFor ask a b))) r o 0x107
 unfolding calledOf baseOf effectOf answerEffect
@@ -152,27 +168,6 @@ numbers-by x k c (waiting.Ecall asked.Forward) ask a b e h = rw (← e) refl
 
 pub numbers-called : (v : Vcpu) (ask a b : ℕ) → waitingAsk (v .waiting) ≡ ask → 1 < ask → applied v (numbersEffect (v .csrs) (v .waiting) a b) ≡ calledOf v (hostCall.Answer (answerFor ask a b))
 numbers-called v ask a b e h = numbers-by (v .x) (v .counts) (v .csrs) (v .waiting) ask a b e h
-
--- no answer has number 0, which is what waits where no ask does
-
-no-zero-by : (ask a b : ℕ) (t₁ t₂ t₃ t₄ t₅ t₆ t₇ t₈ t₉ : Bool)
-    → eqb ask 1 ≡ t₁ → eqb ask 2 ≡ t₂ → eqb ask 3 ≡ t₃ → eqb ask 4 ≡ t₄ → eqb ask 5 ≡ t₅ → eqb ask 6 ≡ t₆ → eqb ask 7 ≡ t₇ → eqb ask 8 ≡ t₈ → eqb ask 9 ≡ t₉
-    → eqb 0 (answerNumber (answerFor ask a b)) ≡ false
-unfolding answerFor answerNumber
-no-zero-by ask a b true t₂ t₃ t₄ t₅ t₆ t₇ t₈ t₉ e₁ e₂ e₃ e₄ e₅ e₆ e₇ e₈ e₉ = simp (e₁)
-no-zero-by ask a b false true t₃ t₄ t₅ t₆ t₇ t₈ t₉ e₁ e₂ e₃ e₄ e₅ e₆ e₇ e₈ e₉ = simp (e₁, e₂)
-no-zero-by ask a b false false true t₄ t₅ t₆ t₇ t₈ t₉ e₁ e₂ e₃ e₄ e₅ e₆ e₇ e₈ e₉ = simp (e₁, e₂, e₃)
-no-zero-by ask a b false false false true t₅ t₆ t₇ t₈ t₉ e₁ e₂ e₃ e₄ e₅ e₆ e₇ e₈ e₉ = simp (e₁, e₂, e₃, e₄)
-no-zero-by ask a b false false false false true t₆ t₇ t₈ t₉ e₁ e₂ e₃ e₄ e₅ e₆ e₇ e₈ e₉ = simp (e₁, e₂, e₃, e₄, e₅)
-no-zero-by ask a b false false false false false true t₇ t₈ t₉ e₁ e₂ e₃ e₄ e₅ e₆ e₇ e₈ e₉ = simp (e₁, e₂, e₃, e₄, e₅, e₆)
-no-zero-by ask a b false false false false false false true t₈ t₉ e₁ e₂ e₃ e₄ e₅ e₆ e₇ e₈ e₉ = simp (e₁, e₂, e₃, e₄, e₅, e₆, e₇)
-no-zero-by ask a b false false false false false false false true t₉ e₁ e₂ e₃ e₄ e₅ e₆ e₇ e₈ e₉ = simp (e₁, e₂, e₃, e₄, e₅, e₆, e₇, e₈)
-no-zero-by ask a b false false false false false false false false true e₁ e₂ e₃ e₄ e₅ e₆ e₇ e₈ e₉ = simp (e₁, e₂, e₃, e₄, e₅, e₆, e₇, e₈, e₉)
-no-zero-by ask a b false false false false false false false false false e₁ e₂ e₃ e₄ e₅ e₆ e₇ e₈ e₉ = simp (e₁, e₂, e₃, e₄, e₅, e₆, e₇, e₈, e₉)
-
-no-zero : (ask a b : ℕ) → eqb 0 (answerNumber (answerFor ask a b)) ≡ false
-no-zero ask a b =
-    no-zero-by ask a b (eqb ask 1) (eqb ask 2) (eqb ask 3) (eqb ask 4) (eqb ask 5) (eqb ask 6) (eqb ask 7) (eqb ask 8) (eqb ask 9) refl refl refl refl refl refl refl refl refl
 
 pub none-waits : (r o : List ℕ) (w : Waiting) (ask a b : ℕ) → w ≡ viewOf r .waiting → waitingAsk w ≡ 0 → Laid (trapLeaves r) o (calledOf (viewOf r) (hostCall.Answer (answerFor ask a b))) r o 0x107
 unfolding calledOf baseOf effectOf answerEffect

@@ -154,7 +154,7 @@ fn store(funct3: u64, rs2: usize) -> Decoded
 }
 
 // The four widths in order, as constants alone: the compiler makes arithmetic of it, and no jump.
-fn width(n: u64) -> Width
+pub fn width(n: u64) -> Width
     ensures { λ r. ⌜ r ≡ widthAt n ⌝ }
 {
     match n {

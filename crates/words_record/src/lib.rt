@@ -4,7 +4,6 @@ ghost use Rattle.scope.specs.OneTrap.{flagOf, fetchOf};
 ghost use mathlib.Core.List.{[], _∷_};
 ghost use lib.ListN.{set, take};
 ghost use lib.Seq.{sets};
-ghost use Rattle.words_record.specs.Places.{widthPlace};
 ghost use Rattle.scope.specs.Words.{abiOf, askedWordCount, waitingCount, accessOf, completionOf, csrsOf, csrsWords, laidWith, tested, unpackOf, waitingBy, waitingOf, waitingWords, widthOf, askedWords};
 use isa_types::GuestPhysAddr;
 use isa_types::GuestVirtAddr;
@@ -264,18 +263,7 @@ pub fn width_of(n: u64) -> Width
 {
     let wide = isa_types::select(n == 4, 2, 3);
     let more = isa_types::select(n == 2, 1, wide);
-    width_at(isa_types::select(n == 1, 0, more))
-}
-
-fn width_at(place: u64) -> Width
-    ensures { λ r. ⌜ r ≡ widthPlace place ⌝ }
-{
-    match place {
-        0 => Width::Byte,
-        1 => Width::Half,
-        2 => Width::Word,
-        _ => Width::Double,
-    }
+    isa_decoder::width(isa_types::select(n == 1, 0, more))
 }
 
 // The access of this flag; any other number is read as execute.

@@ -13,13 +13,12 @@ select-requires-2 c κs = search needs
 select-requires-3 : tie.Need-select-requires-3
 select-requires-3 c κs = search needs
 
-width-at-requires : tie.Need-width-at-requires
-width-at-requires c κs = search needs
+width-requires : tie.Need-width-requires
+width-requires c κs = search needs
 
 returns : tie.Need-returns
-returns c = simp (c .width-at .ensures, c .before .select3 .ensures, c .before .before .select2 .ensures, c .before .before .before .select .ensures) (width-placed _)
+returns c = simp (c .width .ensures, c .before .select3 .ensures, c .before .before .select2 .ensures, c .before .before .before .select .ensures) (width-placed _)
 
 pub width-of-spec : {M : Type 1} → statement M
 width-of-spec =
-    tie.close
-    (tie.spec select-requires select-requires-2 select-requires-3 width-at-requires returns)
+    tie.close (tie.spec select-requires select-requires-2 select-requires-3 width-requires returns)
