@@ -168,6 +168,7 @@ impl Handler for InPlace {
     #[inline(always)]
     fn trap(&mut self, work: &Work, seen: &mut Vec<Reply>) -> u64 {
         let mut out = MaybeUninit::<[u64; 8]>::uninit();
+        let mut answer = [0, work.given[0], work.given[1]];
         // SAFETY: our own words, which do not overlap; the call sets all eight of `out`.
         let mut code = unsafe { vcpu_start(&mut self.0, &work.trap, out.as_mut_ptr()) };
         let out = unsafe { out.assume_init_mut() };
@@ -177,7 +178,8 @@ impl Handler for InPlace {
         let mut asked = 0;
         while code > 0x20 && code < 0x40 {
             asked ^= out[0] ^ out[1] ^ out[2];
-            code = unsafe { vcpu_answer(&mut self.0, &[code - 0x20, work.given[0], work.given[1]], out) };
+            answer[0] = code - 0x20;
+            code = unsafe { vcpu_answer(&mut self.0, &answer, out) };
             if SEE {
                 seen.push(reply(code, out));
             }
@@ -320,6 +322,7 @@ impl<F: Forms> Handler for PlainWords<F> {
     #[inline(always)]
     fn trap(&mut self, work: &Work, seen: &mut Vec<Reply>) -> u64 {
         let mut out = [0; 8];
+        let mut answer = [0, work.given[0], work.given[1]];
         let mut code = words::start::<F>(&mut self.0, &work.trap, &mut out);
         if SEE {
             seen.push(reply(code, &out));
@@ -327,7 +330,8 @@ impl<F: Forms> Handler for PlainWords<F> {
         let mut asked = 0;
         while code > 0x20 && code < 0x40 {
             asked ^= out[0] ^ out[1] ^ out[2];
-            code = words::answer::<F>(&mut self.0, &[code - 0x20, work.given[0], work.given[1]], &mut out);
+            answer[0] = code - 0x20;
+            code = words::answer::<F>(&mut self.0, &answer, &mut out);
             if SEE {
                 seen.push(reply(code, &out));
             }

@@ -54,6 +54,7 @@
 
 mod library;
 mod names;
+mod reply;
 mod types;
 mod vcpu;
 

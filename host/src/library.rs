@@ -13,7 +13,11 @@ pub const ASK: u64 = 0x20;
 pub const ERROR: u64 = 0x100;
 
 pub type Record = [u64; RECORD];
-pub type Out = [u64; 8];
+pub type Words = [u64; 8];
+
+/// Lent for a reply. The library clears these words in pairs, and a pair that lies across two pages costs more than the call.
+#[repr(C, align(16))]
+pub struct Out(pub Words);
 
 extern "C" {
     pub fn vcpu_new(record: *mut Record, hart_id: u64, dtb_addr: u64) -> u64;

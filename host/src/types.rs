@@ -1,4 +1,7 @@
 //! What crosses between a host and the handler, as types.
+//!
+//! A type that has numbers (`repr(u64)`, `repr(C)`) has the library's, and its fields stand in the order of the library's words: a reply
+//! is taken as it lies (`reply.rs`).
 
 use core::fmt;
 
@@ -54,27 +57,23 @@ address! {
 /// ```
 /// assert_eq!(curbizzolu::Width::Word.bytes(), 4);
 /// ```
+#[repr(u64)]
 #[derive(Clone, Copy, Debug, Eq, Hash, PartialEq)]
 pub enum Width {
     /// 1 byte: `lb`, `lbu`, `sb`.
-    Byte,
+    Byte = 1,
     /// 2 bytes: `lh`, `lhu`, `sh`.
-    Half,
+    Half = 2,
     /// 4 bytes: `lw`, `lwu`, `sw`.
-    Word,
+    Word = 4,
     /// 8 bytes: `ld`, `sd`.
-    Double,
+    Double = 8,
 }
 
 impl Width {
     /// The bytes that it moves: 1, 2, 4 or 8.
     pub const fn bytes(self) -> u64 {
-        match self {
-            Width::Byte => 1,
-            Width::Half => 2,
-            Width::Word => 4,
-            Width::Double => 8,
-        }
+        self as u64
     }
 }
 
@@ -83,24 +82,21 @@ impl Width {
 /// ```
 /// assert_eq!(curbizzolu::AccessFlags::Execute.bits(), 4);
 /// ```
+#[repr(u64)]
 #[derive(Clone, Copy, Debug, Eq, Hash, PartialEq)]
 pub enum AccessFlags {
     /// A load.
-    Read,
+    Read = 1,
     /// A store.
-    Write,
+    Write = 2,
     /// The fetch of an instruction.
-    Execute,
+    Execute = 4,
 }
 
 impl AccessFlags {
     /// The flag's number: READ 1, WRITE 2, EXECUTE 4.
     pub const fn bits(self) -> u64 {
-        match self {
-            AccessFlags::Read => 1,
-            AccessFlags::Write => 2,
-            AccessFlags::Execute => 4,
-        }
+        self as u64
     }
 }
 
@@ -111,12 +107,13 @@ impl AccessFlags {
 /// ```
 ///
 /// [`complete_ipi`]: crate::Vcpu::complete_ipi
+#[repr(u64)]
 #[derive(Clone, Copy, Debug, Eq, Hash, PartialEq)]
 pub enum IpiAbi {
     /// SBI's legacy call: the result is a0.
-    Legacy,
+    Legacy = 0,
     /// SBI v0.2 and later: the result is a0, and a1 is 0.
-    SbiV02,
+    SbiV02 = 1,
 }
 
 /// What the host made of an IPI request.
@@ -141,6 +138,7 @@ pub enum IpiCompletion {
 /// let all = IpiRequest { hart_mask: 0, hart_mask_base: u64::MAX, abi: IpiAbi::SbiV02 };
 /// assert_eq!(all.hart_mask_base, u64::MAX); // SBI: every hart
 /// ```
+#[repr(C)]
 #[derive(Clone, Copy, Debug, Eq, Hash, PartialEq)]
 pub struct IpiRequest {
     /// A bit for each hart from the base on.
@@ -198,17 +196,18 @@ pub struct Trap {
 /// let trap = Trap { scause: (1 << 63) + 9, ..Trap::default() };
 /// assert_eq!(vcpu.start(&trap), Ok(Step::Exit(Exit::ExternalInterrupt { vector: (1 << 63) + 9 })));
 /// ```
+#[repr(u64)]
 #[derive(Clone, Copy, Debug, Eq, Hash, PartialEq)]
 pub enum Exit {
     /// Enter the guest again.
-    Nothing,
+    Nothing = 0,
     /// An interrupt of the host came while the guest ran.
     ExternalInterrupt {
         /// scause: 2^63 plus 1, 5 or 9.
         vector: u64,
-    },
+    } = 1,
     /// The guest sends software interrupts. Then call [`complete_ipi`](crate::Vcpu::complete_ipi).
-    SendIpi(IpiRequest),
+    SendIpi(IpiRequest) = 2,
     /// The guest starts another hart.
     CpuUp {
         /// Which hart.
@@ -217,37 +216,37 @@ pub enum Exit {
         entry_point: GuestPhysAddr,
         /// Its a1.
         arg: u64,
-    },
+    } = 3,
     /// The guest stops this hart.
     CpuDown {
         /// 0.
         state: u64,
-    },
+    } = 4,
     /// The guest suspends this hart.
-    Halt,
+    Halt = 5,
     /// The guest calls its host.
     Hypercall {
         /// a6.
         nr: u64,
         /// a0 to a5.
         args: [u64; 6],
-    },
+    } = 6,
     /// The guest shuts the machine down.
-    SystemDown,
+    SystemDown = 7,
     /// A page of the guest's physical memory is not mapped, or not for this access.
     NestedPageFault {
         /// The address.
         addr: GuestPhysAddr,
         /// The access.
         access_flags: AccessFlags,
-    },
+    } = 8,
     /// The guest loads from a device. Then call [`complete_load`](crate::Vcpu::complete_load).
     MmioRead {
         /// The address.
         addr: GuestPhysAddr,
         /// How many bytes.
         width: Width,
-    },
+    } = 9,
     /// The guest stores to a device.
     MmioWrite {
         /// The address.
@@ -256,7 +255,7 @@ pub enum Exit {
         width: Width,
         /// The number, cut to the width.
         data: u64,
-    },
+    } = 10,
 }
 
 /// What the handler asks of the host in the middle of a trap. Give the answer to [`answer`](crate::Vcpu::answer).
@@ -264,6 +263,7 @@ pub enum Exit {
 /// ```
 /// assert_eq!(curbizzolu::Ask::GetChar.number(), 8);
 /// ```
+#[repr(u64)]
 #[derive(Clone, Copy, Debug, Eq, Hash, PartialEq)]
 pub enum Ask {
     /// 1: fetch the guest's instruction. Answer: [`Answer::Fetched`].
@@ -272,43 +272,43 @@ pub enum Ask {
         at: GuestVirtAddr,
         /// Whether the guest was in supervisor mode.
         supervisor: bool,
-    },
+    } = 1,
     /// 2: copy 8 bytes. Answer: [`Answer::MaskCopied`].
     CopyMask {
         /// From here.
         at: GuestVirtAddr,
-    },
+    } = 2,
     /// 3: copy bytes into the console buffer. Answer: [`Answer::CopiedIn`].
     CopyIn {
         /// From here.
         at: GuestPhysAddr,
         /// This many.
         count: u64,
-    },
+    } = 3,
     /// 4: print the buffer's first bytes ([`to_print`](crate::Vcpu::to_print) has them). Answer: [`Answer::Printed`].
     Print {
         /// This many.
         count: u64,
-    },
+    } = 4,
     /// 5: read from the console into the buffer. Answer: [`Answer::ConsoleRead`].
     ReadConsole {
         /// At most this many.
         count: u64,
-    },
+    } = 5,
     /// 6: copy the buffer's first bytes out. Answer: [`Answer::CopiedOut`].
     CopyOut {
         /// To here.
         at: GuestPhysAddr,
         /// This many.
         count: u64,
-    },
+    } = 6,
     /// 7: print one character. Answer: [`Answer::Emitted`].
     Emit {
         /// Its number.
         number: u64,
-    },
+    } = 7,
     /// 8: read one character. Answer: [`Answer::Char`].
-    GetChar,
+    GetChar = 8,
     /// 9: pass the call on. Answer: [`Answer::Forwarded`].
     Forward {
         /// a7.
@@ -317,7 +317,7 @@ pub enum Ask {
         fid: u64,
         /// a0 to a5.
         args: [u64; 6],
-    },
+    } = 9,
 }
 
 impl Ask {

@@ -1,6 +1,7 @@
 //! The record and every call on it.
 
-use crate::library::{self, Out, Record, ASK, DONE, ERROR, RECORD, VALUE};
+use crate::library::{self, Out, Record, RECORD, VALUE};
+use crate::reply::{answer_words, done, refusal, step};
 use crate::types::*;
 use core::mem::MaybeUninit;
 
@@ -145,7 +146,7 @@ impl Vcpu {
             (library::vcpu_get_gpr(record, index as u64, out.as_mut_ptr()), out.assume_init_ref())
         };
         match code {
-            VALUE => Ok(out[0]),
+            VALUE => Ok(out.0[0]),
             _ => Err(refusal(code)),
         }
     }
@@ -289,14 +290,14 @@ impl Vcpu {
     /// assert_eq!((vcpu.vstimecmp, vcpu.sepc, vcpu.counts[0]), (1000, 4, 1));
     /// # Ok::<(), curbizzolu::Error>(())
     /// ```
-    #[inline]
+    #[inline(always)]
     pub fn start(&mut self, trap: &Trap) -> Result<Step, Error> {
         let mut out = MaybeUninit::<Out>::uninit();
         // the five words in the library's order
         let trap = trap as *const Trap as *const [u64; 5];
         // SAFETY: as in `get_gpr`.
         let (code, out) = unsafe { (library::vcpu_start(self.words(), trap, out.as_mut_ptr()), out.assume_init_ref()) };
-        step(code, out)
+        step(code, &out.0)
     }
 
     /// Answers the ask that waits. An answer of another kind is refused, and the ask goes on waiting.
@@ -311,13 +312,13 @@ impl Vcpu {
     /// assert_eq!(vcpu.answer(&Answer::Emitted)?, Step::Exit(Exit::Nothing));
     /// # Ok::<(), curbizzolu::Error>(())
     /// ```
-    #[inline]
+    #[inline(always)]
     pub fn answer(&mut self, answer: &Answer) -> Result<Step, Error> {
         let mut out = MaybeUninit::<Out>::uninit();
         let answer = answer_words(answer);
         // SAFETY: as in `get_gpr`.
         let (code, out) = unsafe { (library::vcpu_answer(self.words(), &answer, out.as_mut_ptr()), out.assume_init_ref()) };
-        step(code, out)
+        step(code, &out.0)
     }
 
     /// Completes the load that waits, after [`Exit::MmioRead`]: the number is cut to the load's width, extended as the
@@ -350,127 +351,4 @@ impl Vcpu {
         let count = unsafe { library::vcpu_to_print(self as *const Vcpu as *const Record, buffer.len() as u64) };
         &buffer[..count as usize]
     }
-}
-
-#[inline]
-fn answer_words(answer: &Answer) -> [u64; 3] {
-    let (a, b) = match *answer {
-        Answer::Fetched(Fetch::Word(word)) => (word as u64, 0),
-        Answer::Fetched(Fetch::Page(at)) => (at.0, 1),
-        Answer::Fetched(Fetch::Access(at)) => (at.0, 2),
-        Answer::Fetched(Fetch::Misaligned(at)) => (at.0, 3),
-        Answer::Fetched(Fetch::GuestPage(at)) => (at.0, 4),
-        Answer::Fetched(Fetch::Unhandled) => (0, 5),
-        Answer::MaskCopied { count, bytes } => (count, bytes),
-        Answer::CopiedIn { count } => (count, 0),
-        Answer::Printed { error, value } => (error, value),
-        Answer::ConsoleRead { error, value } => (error, value),
-        Answer::CopiedOut { count } => (count, 0),
-        Answer::Emitted => (0, 0),
-        Answer::Char { number } => (number, 0),
-        Answer::Forwarded { error, value } => (error, value),
-    };
-    [answer.number(), a, b]
-}
-
-/// What a call that gives nothing gave.
-#[inline]
-fn done(code: u64) -> Result<(), Refusal> {
-    match code {
-        DONE => Ok(()),
-        _ => Err(refusal(code)),
-    }
-}
-
-#[inline]
-fn refusal(code: u64) -> Refusal {
-    match code.wrapping_sub(ERROR) {
-        1 => Refusal::InvalidInput,
-        2 => Refusal::BadState,
-        7 => Refusal::WrongAnswer,
-        _ => unknown(code),
-    }
-}
-
-#[inline]
-fn step(code: u64, out: &Out) -> Result<Step, Error> {
-    let exit = match code {
-        0 => Exit::Nothing,
-        1 => Exit::ExternalInterrupt { vector: out[0] },
-        2 => Exit::SendIpi(IpiRequest {
-            hart_mask: out[0],
-            hart_mask_base: out[1],
-            abi: if out[2] == 0 { IpiAbi::Legacy } else { IpiAbi::SbiV02 },
-        }),
-        3 => Exit::CpuUp { target_cpu: out[0], entry_point: GuestPhysAddr(out[1]), arg: out[2] },
-        4 => Exit::CpuDown { state: out[0] },
-        5 => Exit::Halt,
-        6 => Exit::Hypercall { nr: out[0], args: six(out) },
-        7 => Exit::SystemDown,
-        8 => Exit::NestedPageFault { addr: GuestPhysAddr(out[0]), access_flags: access(out[1]) },
-        9 => Exit::MmioRead { addr: GuestPhysAddr(out[0]), width: width(out[1]) },
-        10 => Exit::MmioWrite { addr: GuestPhysAddr(out[0]), width: width(out[1]), data: out[2] },
-        _ if code >= ERROR => return Err(error(code)),
-        _ => return Ok(Step::Ask(ask(code, out))),
-    };
-    Ok(Step::Exit(exit))
-}
-
-#[inline]
-fn ask(code: u64, out: &Out) -> Ask {
-    match code.wrapping_sub(ASK) {
-        1 => Ask::Fetch { at: GuestVirtAddr(out[0]), supervisor: out[1] != 0 },
-        2 => Ask::CopyMask { at: GuestVirtAddr(out[0]) },
-        3 => Ask::CopyIn { at: GuestPhysAddr(out[0]), count: out[1] },
-        4 => Ask::Print { count: out[0] },
-        5 => Ask::ReadConsole { count: out[0] },
-        6 => Ask::CopyOut { at: GuestPhysAddr(out[0]), count: out[1] },
-        7 => Ask::Emit { number: out[0] },
-        8 => Ask::GetChar,
-        9 => Ask::Forward { eid: out[0], fid: out[1], args: six(out) },
-        _ => unknown(code),
-    }
-}
-
-#[inline]
-fn error(code: u64) -> Error {
-    match code.wrapping_sub(ERROR) {
-        3 => Error::Trap(TrapError::Unsupported),
-        4 => Error::Trap(TrapError::InvalidTrap),
-        5 => Error::Trap(TrapError::DecodeFailed),
-        6 => Error::Trap(TrapError::GuestMemoryFault),
-        _ => Error::Refused(refusal(code)),
-    }
-}
-
-#[inline]
-fn six(out: &Out) -> [u64; 6] {
-    [out[2], out[3], out[4], out[5], out[6], out[7]]
-}
-
-#[inline]
-fn width(bytes: u64) -> Width {
-    // by a table: a jump that follows the widths of a guest's loads is often foretold wrong
-    const WIDTHS: [Width; 4] = [Width::Byte, Width::Half, Width::Word, Width::Double];
-    if !bytes.is_power_of_two() || bytes > 8 {
-        unknown(bytes)
-    }
-    WIDTHS[bytes.trailing_zeros() as usize % 4]
-}
-
-#[inline]
-fn access(flag: u64) -> AccessFlags {
-    match flag {
-        1 => AccessFlags::Read,
-        2 => AccessFlags::Write,
-        4 => AccessFlags::Execute,
-        _ => unknown(flag),
-    }
-}
-
-/// The library's promises name no other number, so the archive that was linked is not the one that this crate is for.
-#[cold]
-#[inline(never)]
-fn unknown(number: u64) -> ! {
-    panic!("the linked libin_place.a gave {number:#x}, which no call gives")
 }

@@ -73,14 +73,16 @@ fn stimecmp(funct3: u64, rd: usize, field: u64, old: u64, rs1: u64) -> Stimecmp
     Stimecmp::Illegal
 }
 
-// The new timer: rs1 or the field, alone, set or cleared in the old one; the last two write nothing where the field is 0. Each
-// choice is of two numbers that are there, so that no jump follows the guest's words.
+// The new timer: rs1 or the field, alone, set or cleared in the old one; the last two write nothing where the field is 0. No jump
+// follows the guest's words: each choice is of a number or 0, since one of two numbers is a jump where the processor has no
+// conditional move. The field is multiplied and not chosen, since the compiler makes one choice of two by the same test.
 fn timer(funct3: u64, field: u64, old: u64, rs1: u64) -> u64
     ensures { λ r. ⌜ r ≡ timerOf funct3 field old rs1 ⌝ }
 {
-    let given = isa_types::select(funct3 < 4, rs1, field);
-    let set = isa_types::select(funct3 % 4 == 1, 0, old) | given;
-    let new = isa_types::select(funct3 % 4 == 3, old & !given, set);
-    let unwritten = isa_types::select(funct3 % 4 == 1, new, old);
-    isa_types::select(field == 0, unwritten, new)
+    let given = isa_types::select(funct3 < 4, rs1, 0) | funct3 / 4 % 2 * field;
+    let writes = isa_types::select(funct3 % 4 == 1, 1, field);
+    let bits = isa_types::select(writes == 0, 0, given);
+    let cleared = isa_types::select(funct3 % 4 == 3, bits, 0);
+    let kept = isa_types::select(funct3 / 2 % 2 == 0, 0, old);
+    kept & !cleared | (bits ^ cleared)
 }

@@ -219,6 +219,10 @@ ecall-called v e a b h =
     ap (applied v) (ecall-numbers (v .csrs) e a b ∙ ap (λ (w : Waiting). numbersEffect (v .csrs) w a b) h)
     ∙ numbers-called v (ecallAskNumber e) a b (ap waitingAsk (sym h) ∙ ecall-number e) (above-one e)
 
+-- the ask that waits is known by its case
+pub known : {e a : EcallAsk} {w : Waiting} → e ≡ a → waiting.Ecall e ≡ w → waiting.Ecall a ≡ w
+known {e} {a} {w} f h = subst (λ (k : EcallAsk). waiting.Ecall k ≡ w) f h
+
 pub ecall-made : (r o s p : List ℕ) → length r ≡ 58 → (e : EcallAsk) (number ask word more c : ℕ) (d : Answered) → waiting.Ecall e ≡ viewOf r .waiting → number ≡ ecallAskNumber e → ask ≡ number
     → ((q : Csrs) → answeredEffect q d ≡ ecallAnswer q e word more) → Leaves (answeredLeft r o d) s p c
     → Laid (trapLeaves r) o (calledOf (viewOf r) (hostCall.Answer (answerFor ask word more))) s p c

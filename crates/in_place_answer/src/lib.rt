@@ -68,7 +68,7 @@ fn waits(r: &mut [u64; 58], out: &mut [u64; 8], w: Waiting, ask: u64, word: u64,
         } => 0x107,
         Waiting::FetchCsr => fetch_waits(r, out, w, ask, word, more),
         Waiting::FetchFault { at: _, access: _ } => fetch_waits(r, out, w, ask, word, more),
-        Waiting::Ecall(e) => ecall_waits(decide_record::ecall_ask(e), r, out, e, ask, word, more),
+        Waiting::Ecall(e) => ecall_waits(r, out, e, ask, word, more),
     }
 }
 
@@ -89,8 +89,49 @@ fn fetch_waits(
     0x107
 }
 
-// An ecall's ask waits, of this number: the answer's numbers go to it.
+// An ecall's ask waits. Each has its number at its own place, so that the one jump that finds the ask leads on to what its answer
+// does, and no second one follows.
 fn ecall_waits(
+    r: &mut [u64; 58],
+    out: &mut [u64; 8],
+    e: EcallAsk,
+    ask: u64,
+    word: u64,
+    more: u64,
+) -> u64
+    ensures { λ c. ⌜ (waiting.Ecall e ≡ viewOf (now (r .entry)) .waiting → Laid (trapLeaves (now (r .entry))) (now (out .entry)) (calledOf (viewOf (now (r .entry))) (hostCall.Answer (answerFor ask word more))) (now (r .exit)) (now (out .exit)) c) ⌝ }
+{
+    match e {
+        EcallAsk::CopyMask => answered(2, r, out, EcallAsk::CopyMask, ask, word, more),
+        EcallAsk::CopyIn { count } => {
+            answered(3, r, out, EcallAsk::CopyIn { count }, ask, word, more)
+        }
+        EcallAsk::Print { count } => {
+            answered(4, r, out, EcallAsk::Print { count }, ask, word, more)
+        }
+        EcallAsk::ReadConsole { count, at } => {
+            answered(
+                5,
+                r,
+                out,
+                EcallAsk::ReadConsole { count, at },
+                ask,
+                word,
+                more,
+            )
+        }
+        EcallAsk::CopyOut { count } => {
+            answered(6, r, out, EcallAsk::CopyOut { count }, ask, word, more)
+        }
+        EcallAsk::PutChar => answered(7, r, out, EcallAsk::PutChar, ask, word, more),
+        EcallAsk::PutByte => answered(7, r, out, EcallAsk::PutByte, ask, word, more),
+        EcallAsk::GetChar => answered(8, r, out, EcallAsk::GetChar, ask, word, more),
+        EcallAsk::Forward => answered(9, r, out, EcallAsk::Forward, ask, word, more),
+    }
+}
+
+// The answer's numbers go to the ask that waits, of this number.
+fn answered(
     number: u64,
     r: &mut [u64; 58],
     out: &mut [u64; 8],

@@ -1,9 +1,9 @@
 -- Through the view, what each class does to words is the effect of the same decision.
 use Prim.Native.Nat.{ℕ, _<_}
 use native.Mathlib.Omega.{arith}
-use borrow.Author.Tests.{eqb-true, ltb-true}
+use borrow.Author.Tests.{eqb-false, eqb-true, ltb-true}
 use lib.Dec.{eqb, ltb}
-use lib.Seq.{drop-set-lt, getD-take, take-set-lt}
+use lib.Seq.{drop-set-lt, getD-set-other, getD-take, set-getD, set-set, take-set-lt}
 use mathlib.Core.Bool.{Bool, true, false}
 use mathlib.Core.List.{List, [], _∷_}
 use mathlib.Core.Path.{_≡_, refl, ap, sym, subst, _∙_}
@@ -228,17 +228,15 @@ csrs-spelled k = refl
 pub csrs-words : (r : List ℕ) → length r ≡ 58 → csrsAt r ≡ viewOf r .csrs
 csrs-words r e = over (λ r. csrsAt r ≡ viewOf r .csrs) csrs-spelled r e
 
--- the register that a write chooses: x0's slot gets what it holds
+-- a register written, and x0's slot with what it held
 
-slot-kept : (r : List ℕ) → set r 0 (getD r 0 0) ≡ r
-slot-kept [] = refl
-slot-kept (n ∷ l) = refl
+put-by-slot : (r : List ℕ) (i n : ℕ) (b : Bool) → eqb i 0 ≡ b → ltb i 32 ≡ true → set (set r i n) 0 (getD r 0 0) ≡ pick b r (pick (ltb i 32) (set r i n) r)
+put-by-slot r i n true e h =
+    ap (λ (k : ℕ). set (set r k n) 0 (getD r 0 0)) (eqb-true i 0 e) ∙ set-set r 0 n (getD r 0 0) ∙ set-getD r 0 0
+put-by-slot r i n false e h =
+    rw h (ap (set (set r i n) 0) (sym (getD-set-other r i 0 n 0 (λ z. eqb-false i 0 e (sym z)))) ∙ set-getD (set r i n) 0 0)
 
-put-by-slot : (r : List ℕ) (i n : ℕ) (b : Bool) → eqb i 0 ≡ b → ltb i 32 ≡ true → set r i (pick b (getD r 0 0) n) ≡ pick b r (pick (ltb i 32) (set r i n) r)
-put-by-slot r i n true e h = ap (λ (k : ℕ). set r k (getD r 0 0)) (eqb-true i 0 e) ∙ slot-kept r
-put-by-slot r i n false e h = rw h refl
-
-pub put-straight : (r : List ℕ) (i n : ℕ) → ltb i 32 ≡ true → set r i (pick (eqb i 0) (getD r 0 0) n) ≡ putWord r i n
+pub put-straight : (r : List ℕ) (i n : ℕ) → ltb i 32 ≡ true → set (set r i n) 0 (getD r 0 0) ≡ putWord r i n
 unfolding putWord
 put-straight r i n h = put-by-slot r i n (eqb i 0) refl h
 

@@ -64,13 +64,14 @@ pub fn sized(r: &[u64; 58]) -> usize
     count(r)
 }
 
-// Writes a general register; x0's slot is written with what it holds, so that no jump hangs on the register.
+// Writes a general register. x0's slot gets back what it held, so that no jump hangs on the register.
 pub fn put(r: &mut [u64; 58], i: usize, n: u64)
     ensures { λ _. ⌜ now (r .exit) ≡ putWord (now (r .entry)) i n ⌝ }
 {
-    let word = isa_types::select(i == 0, r[0], n);
+    let slot = r[0];
     if i < 32 {
-        r[i] = word;
+        r[i] = n;
+        r[0] = slot;
     }
 }
 

@@ -2,6 +2,7 @@
 use Prim.Native.Nat.{ℕ, _-_, _^_}
 use mathlib.Core.Bool.{Bool, true, false}
 use mathlib.Core.Path.{_≡_, refl}
+use lib.Bits.{bitXor}
 use Rattle.isa_types.specs.Pick.{pick}
 use Rattle.isa_types.specs.declared.Width.the-variants as width
 use Rattle.isa_types.specs.declared.Width.{Width}
@@ -25,7 +26,9 @@ isWord width.Half = false
 isWord width.Word = true
 isWord width.Double = false
 
-pub mask-asked : (w : Width) → pick (isByte w) 0xFF (pick (isHalf w) 0xFFFF (pick (isWord w) 0xFFFF_FFFF (2 ^ 64 - 1))) ≡ 2 ^ widthBits w - 1
+pub mask-asked : (w : Width) →
+    bitXor (bitXor (bitXor (2 ^ 64 - 1) (pick (isByte w) 0xFFFF_FFFF_FFFF_FF00 0)) (pick (isHalf w) 0xFFFF_FFFF_FFFF_0000 0)) (pick (isWord w) 0xFFFF_FFFF_0000_0000 0)
+    ≡ 2 ^ widthBits w - 1
 unfolding isByte isHalf isWord widthBits
 mask-asked width.Byte = refl
 mask-asked width.Half = refl

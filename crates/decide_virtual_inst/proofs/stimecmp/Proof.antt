@@ -11,7 +11,7 @@ timer-requires : tie.Need-timer-requires
 timer-requires c κs = search needs
 
 returns-2 : tie.Need-returns-2
-returns-2 c = simp (c .timer .ensures) (timer-straight _ _ _ _ _ (c .before .if2 .taken) (c .before .before .if1 .left))
+returns-2 c = simp (c .timer .ensures) (timer-straight _ _ _ _ _ (c .before .before .before .fits .old .fits) (c .before .if2 .taken) (c .before .before .if1 .left))
 
 returns-3 : tie.Need-returns-3
 returns-3 c = timer-beyond _ _ _ _ _ (c .if2 .left)

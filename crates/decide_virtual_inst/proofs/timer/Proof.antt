@@ -1,11 +1,17 @@
 -- `decide_virtual_inst::timer` meets its contract.
-use Rattle.decide_virtual_inst.specs.Straight.{timerOf}
+use Rattle.decide_virtual_inst.specs.Straight.{timerOf, times-fits}
+use native.Mathlib.Nat.{mod-lt}
+use native.Mathlib.Omega.{arith}
 use borrow.Author.Needs.{needs}
 use Rattle.decide_virtual_inst.proofs.timer.Statement.{statement}
 use Rattle.decide_virtual_inst.proofs.timer.Tie as tie
 
 select-requires : tie.Need-select-requires
 select-requires c κs = search needs
+
+mul-given : tie.Need-mul-given
+unfolding timerOf
+mul-given c = record { fits = times-fits _ _ (mod-lt _ (omega arith)) (c .before .fits .field .fits) }
 
 select-requires-2 : tie.Need-select-requires-2
 select-requires-2 c κs = search needs
@@ -28,6 +34,7 @@ timer-spec =
     tie.close
     (tie.spec
     select-requires
+    mul-given
     select-requires-2
     select-requires-3
     select-requires-4

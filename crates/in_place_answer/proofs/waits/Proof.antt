@@ -29,9 +29,6 @@ fetch-waits-requires-2 c κs = search needs
 enum-known-w : tie.Need-enum-known-w
 enum-known-w c = search needs
 
-ecall-ask-requires : tie.Need-ecall-ask-requires
-ecall-ask-requires c κs = search needs
-
 ecall-waits-requires : tie.Need-ecall-waits-requires
 ecall-waits-requires c κs = search needs
 
@@ -53,7 +50,7 @@ returns-4 c = λ e. c .fetch-waits2 .ensures e (rw (c .before .before .before .e
 
 returns-5 : tie.Need-returns-5
 unfolding viewOf waitingAsk
-returns-5 c = λ e. c .ecall-waits .ensures (sym (c .before .before .before .before .before .w .given .1) ∙ e) (c .before .before .before .ecall-ask .ensures)
+returns-5 c = λ e. c .ecall-waits .ensures (sym (c .before .before .before .before .w .given .1) ∙ e)
 
 pub waits-spec : {M : Type 1} → statement M
 waits-spec =
@@ -66,7 +63,6 @@ waits-spec =
     enum-told-4
     fetch-waits-requires-2
     enum-known-w
-    ecall-ask-requires
     ecall-waits-requires
     returns
     returns-2

@@ -5,11 +5,8 @@ use borrow.Author.Needs.{needs}
 use Rattle.in_place_record.proofs.put.Statement.{statement}
 use Rattle.in_place_record.proofs.put.Tie as tie
 
-element-copy-out-select : tie.Need-element-copy-out-select
-element-copy-out-select c = search needs
-
-select-requires : tie.Need-select-requires
-select-requires c κs = search needs
+element-copy-out-slot : tie.Need-element-copy-out-slot
+element-copy-out-slot c = search needs
 
 mul-r : tie.Need-mul-r
 mul-r c = search needs
@@ -17,8 +14,11 @@ mul-r c = search needs
 element-write-r : tie.Need-element-write-r
 element-write-r c = search needs
 
+element-write-r-2 : tie.Need-element-write-r-2
+element-write-r-2 c = search needs
+
 returns : tie.Need-returns
-returns c = rw (c .before .select .ensures) (put-straight _ _ _ (lt-ltb _ _ (c .if1 .taken)))
+returns c = put-straight _ _ _ (lt-ltb _ _ (c .if1 .taken))
 
 returns-2 : tie.Need-returns-2
 returns-2 c = put-beyond _ _ _ (le-ltb _ _ (c .if1 .left))
@@ -26,4 +26,4 @@ returns-2 c = put-beyond _ _ _ (le-ltb _ _ (c .if1 .left))
 pub put-spec : {M : Type 1} → statement M
 put-spec =
     tie.close
-    (tie.spec element-copy-out-select select-requires mul-r element-write-r returns returns-2)
+    (tie.spec element-copy-out-slot mul-r element-write-r element-write-r-2 returns returns-2)

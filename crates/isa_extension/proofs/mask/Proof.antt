@@ -4,8 +4,8 @@ use borrow.Author.Needs.{needs}
 use Rattle.isa_extension.proofs.mask.Statement.{statement}
 use Rattle.isa_extension.proofs.mask.Tie as tie
 
-is-word-requires : tie.Need-is-word-requires
-is-word-requires c κs = search needs
+is-byte-requires : tie.Need-is-byte-requires
+is-byte-requires c κs = search needs
 
 select-requires : tie.Need-select-requires
 select-requires c κs = search needs
@@ -16,23 +16,23 @@ is-half-requires c κs = search needs
 select-requires-2 : tie.Need-select-requires-2
 select-requires-2 c κs = search needs
 
-is-byte-requires : tie.Need-is-byte-requires
-is-byte-requires c κs = search needs
+is-word-requires : tie.Need-is-word-requires
+is-word-requires c κs = search needs
 
 select-requires-3 : tie.Need-select-requires-3
 select-requires-3 c κs = search needs
 
 returns : tie.Need-returns
-returns c = simp (c .select3 .ensures, c .before .is-byte .ensures, c .before .before .select2 .ensures, c .before .before .before .is-half .ensures, c .before .before .before .before .select .ensures, c .before .before .before .before .before .is-word .ensures) (mask-asked _)
+returns c = simp (c .select3 .ensures, c .before .is-word .ensures, c .before .before .select2 .ensures, c .before .before .before .is-half .ensures, c .before .before .before .before .select .ensures, c .before .before .before .before .before .is-byte .ensures) (mask-asked _)
 
 pub mask-spec : {M : Type 1} → statement M
 mask-spec =
     tie.close
     (tie.spec
-    is-word-requires
+    is-byte-requires
     select-requires
     is-half-requires
     select-requires-2
-    is-byte-requires
+    is-word-requires
     select-requires-3
     returns)
