@@ -48,7 +48,7 @@ fn reply(code: u64, out: &[u64; 8]) -> Reply {
     let carried = match code {
         0 | 0x40 => 0,
         0x27 => 1,
-        9 => 2,
+        9 | 0x21 => 2,
         10 => 3,
         _ => 8,
     };
@@ -57,17 +57,21 @@ fn reply(code: u64, out: &[u64; 8]) -> Reply {
 
 /// The same of a `Step`, whose names are the same in the host's interface and in plain Rust.
 macro_rules! reply_of_step {
-    ($step:expr, $number:expr) => {{
+    ($step:expr, $physical:expr, $virtual:expr) => {{
         let mut out = [0; 8];
         let code = match $step {
             Step::Exit(Exit::Nothing) => 0,
             Step::Exit(Exit::MmioRead { addr, width }) => {
-                (out[0], out[1]) = ($number(addr), width.bytes());
+                (out[0], out[1]) = ($physical(addr), width.bytes());
                 9
             }
             Step::Exit(Exit::MmioWrite { addr, width, data }) => {
-                (out[0], out[1], out[2]) = ($number(addr), width.bytes(), data);
+                (out[0], out[1], out[2]) = ($physical(addr), width.bytes(), data);
                 10
+            }
+            Step::Ask(Ask::Fetch { at, supervisor }) => {
+                (out[0], out[1]) = ($virtual(at), supervisor as u64);
+                0x21
             }
             Step::Ask(Ask::Emit { number }) => {
                 out[0] = number;
@@ -185,7 +189,7 @@ impl Handler for InPlace {
             }
         }
         if code == 9 {
-            let code = unsafe { vcpu_complete_load(&mut self.0, work.given[1]) };
+            let code = unsafe { vcpu_complete_load(&mut self.0, work.device) };
             if SEE {
                 seen.push(reply(code, &[0; 8]));
             }
@@ -210,11 +214,11 @@ impl Handler for Interface {
     }
     #[inline(always)]
     fn trap(&mut self, work: &Work, seen: &mut Vec<Reply>) -> u64 {
-        use curbizzolu::{Answer, Ask, Exit, Step, Trap};
+        use curbizzolu::{Answer, Ask, Exit, Fetch, Step, Trap};
         let [scause, stval, htval, htinst, room] = work.trap;
         let mut step = self.0.start(&Trap { scause, stval, htval, htinst, room });
         let words = |step: &Result<Step, curbizzolu::Error>| match step {
-            Ok(step) => reply_of_step!(*step, |addr: curbizzolu::GuestPhysAddr| addr.0),
+            Ok(step) => reply_of_step!(*step, |addr: curbizzolu::GuestPhysAddr| addr.0, |at: curbizzolu::GuestVirtAddr| at.0),
             Err(_) => reply(0x1ff, &[0; 8]),
         };
         if SEE {
@@ -231,6 +235,10 @@ impl Handler for Interface {
                     asked ^= number;
                     Answer::Emitted
                 }
+                Ask::Fetch { at, supervisor } => {
+                    asked ^= at.0 ^ supervisor as u64;
+                    Answer::Fetched(Fetch::Word(work.given[0] as u32))
+                }
                 _ => Answer::Emitted,
             };
             step = self.0.answer(&answer);
@@ -240,7 +248,7 @@ impl Handler for Interface {
         }
         match step {
             Ok(Step::Exit(Exit::MmioRead { addr, width })) => {
-                let done = self.0.complete_load(work.given[1]);
+                let done = self.0.complete_load(work.device);
                 if SEE {
                     seen.push(reply(done.map_or_else(|refusal| 0x100 + refusal.number(), |()| 0x40), &[0; 8]));
                 }
@@ -296,7 +304,7 @@ impl Handler for Thin {
             }
         }
         if given.kind == 0 && given.number == 9 {
-            let done = self.call(12, [work.given[1], 0, 0, 0, 0]);
+            let done = self.call(12, [work.device, 0, 0, 0, 0]);
             if SEE {
                 seen.push(words(&done));
             }
@@ -337,7 +345,7 @@ impl<F: Forms> Handler for PlainWords<F> {
             }
         }
         if code == 9 {
-            let code = words::complete_load::<F>(&mut self.0, work.given[1]);
+            let code = words::complete_load::<F>(&mut self.0, work.device);
             if SEE {
                 seen.push(reply(code, &[0; 8]));
             }
@@ -362,10 +370,10 @@ impl<F: Forms> Handler for PlainEnums<F> {
     }
     #[inline(always)]
     fn trap(&mut self, work: &Work, seen: &mut Vec<Reply>) -> u64 {
-        use plain::{Answer, Ask, Exit, Step, Trap};
+        use plain::{Answer, Ask, Exit, Fetch, Step, Trap};
         let [scause, stval, htval, htinst, room] = work.trap;
         let mut step = enums::start::<F>(&mut self.0, &Trap { scause, stval, htval, htinst, room });
-        let words = |step: &Step| reply_of_step!(*step, |addr: u64| addr);
+        let words = |step: &Step| reply_of_step!(*step, |addr: u64| addr, |at: u64| at);
         if SEE {
             seen.push(words(&step));
         }
@@ -380,6 +388,10 @@ impl<F: Forms> Handler for PlainEnums<F> {
                     asked ^= number;
                     Answer::Emitted
                 }
+                Ask::Fetch { at, supervisor } => {
+                    asked ^= at ^ supervisor as u64;
+                    Answer::Fetched(Fetch::Word(work.given[0] as u32))
+                }
                 _ => Answer::Emitted,
             };
             step = enums::answer::<F>(&mut self.0, &answer);
@@ -389,7 +401,7 @@ impl<F: Forms> Handler for PlainEnums<F> {
         }
         match step {
             Step::Exit(Exit::MmioRead { addr, width }) => {
-                let done = enums::complete_load::<F>(&mut self.0, work.given[1]);
+                let done = enums::complete_load::<F>(&mut self.0, work.device);
                 if SEE {
                     seen.push(reply(if done { 0x40 } else { 0x102 }, &[0; 8]));
                 }

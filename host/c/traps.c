@@ -1,45 +1,71 @@
-/* Traps of one kind, to count what each takes: traps KIND NUMBER. A trap goes with its answers and its completion. */
+/* Traps of one kind, to see what each takes: traps KIND NUMBER. A trap goes with its answers and its completion. All that a guest may
+ * choose within the kind is drawn for each: registers and their content, funct3, the length, what a device gives. */
 #include "curbizzolu.h"
 
 #include <stdio.h>
 #include <stdlib.h>
 #include <string.h>
 
+#define RD (UINT64_C(31) << 7)
+#define RS1 (UINT64_C(31) << 15)
+#define RS2 (UINT64_C(31) << 20)
+#define LENGTH UINT64_C(2) /* htinst's bit that is clear for an instruction of two bytes */
+
 static const struct kind {
     const char *name;
-    uint64_t a7, a6, scause, stval, htinst;
+    uint64_t scause, a7, a6, a6_drawn;
+    uint64_t word, word_drawn; /* the instruction, and its bits that are drawn */
+    const char *funct3;        /* the legal ones */
+    int fetched;               /* the hart leaves it to be fetched */
 } kinds[] = {
-    {"time", 0x54494D45, 0, 10, 0, 0},             /* TIME, fid 0 */
-    {"legacy-timer", 0, 0, 10, 0, 0},              /* legacy 0 */
-    {"forward", 0x10, 0, 10, 0, 0},                /* BASE, and its answer */
-    {"byte", 0x4442434E, 2, 10, 0, 0},             /* DBCN, fid 2, and its answer */
-    {"stimecmp", 0, 0, 22, 0x14d51073, 0},         /* csrrw x0, stimecmp, a0 */
-    {"load", 0, 0, 21, 0, 0x2603},                 /* lw a2, and its completion */
-    {"store", 0, 0, 23, 0, 0xa02023},              /* sw a0 */
-    {"interrupt", 0, 0, (uint64_t)1 << 63 | 9, 0, 0},
+    {"time", 10, 0x54494D45, 0, 0, 0, 0, "0", 0},         /* TIME, fid 0 */
+    {"legacy-timer", 10, 0, 0, 0, 0, 0, "0", 0},          /* legacy 0 */
+    {"forward", 10, 0x10, 0, 7, 0, 0, "0", 0},            /* BASE, and its answer */
+    {"byte", 10, 0x4442434E, 2, 0, 0, 0, "0", 0},         /* DBCN, fid 2, and its answer */
+    {"stimecmp", 22, 0, 0, 0, 0x14d00073, RD | RS1, "123567", 0},
+    {"load", 21, 0, 0, 0, 1, RD | RS1 | LENGTH, "0123456", 0}, /* and its completion */
+    {"store", 23, 0, 0, 0, 0x21, RS1 | RS2 | LENGTH, "0123", 0},
+    {"stimecmp-fetched", 22, 0, 0, 0, 0x14d00073, RD | RS1, "123567", 1},
+    {"load-fetched", 21, 0, 0, 0, 3, RD | RS1, "0123456", 1},
+    {"store-fetched", 23, 0, 0, 0, 0x23, RS1 | RS2, "0123", 1},
+    {"interrupt", UINT64_C(1) << 63 | 9, 0, 0, 0, 0, 0, "0", 0},
 };
+
+/* SplitMix64 */
+static uint64_t drawn(void) {
+    static uint64_t seed = 1;
+    uint64_t z = seed += UINT64_C(0x9E3779B97F4A7C15);
+    z = (z ^ z >> 30) * UINT64_C(0xBF58476D1CE4E5B9);
+    z = (z ^ z >> 27) * UINT64_C(0x94D049BB133111EB);
+    return z ^ z >> 31;
+}
 
 int main(int argc, char **argv) {
     if (argc != 3)
         return 2;
     for (size_t k = 0; k < sizeof kinds / sizeof *kinds; k++) {
-        if (strcmp(kinds[k].name, argv[1]) != 0)
+        const struct kind *kind = &kinds[k];
+        if (strcmp(kind->name, argv[1]) != 0)
             continue;
         struct vcpu v;
         struct vcpu_out out;
-        struct vcpu_trap trap = {kinds[k].scause, kinds[k].stval, 0x4000000, kinds[k].htinst, 4096};
         memset(&v, 0, sizeof v);
         for (uint64_t n = strtoull(argv[2], NULL, 10); n > 0; n--) {
-            v.x[10] = n;
-            v.x[16] = kinds[k].a6;
-            v.x[17] = kinds[k].a7;
+            for (size_t i = 0; i < 32; i++)
+                v.x[i] = drawn();
+            v.x[17] = kind->a7;
+            v.x[16] = kind->a6 | (drawn() & kind->a6_drawn);
+            uint64_t funct3 = (uint64_t)(kind->funct3[drawn() % strlen(kind->funct3)] - '0');
+            uint64_t word = kind->word | (drawn() & kind->word_drawn) | funct3 << 12;
+            uint64_t shown = kind->fetched ? 0 : word;
+            struct vcpu_trap trap = {kind->scause, kind->scause == 22 ? shown : drawn(), drawn(), shown, 4096};
             uint64_t given = vcpu_start(&v, &trap, &out);
             while (given > VCPU_ASK && given < VCPU_DONE) {
-                struct vcpu_answer_words answer = {given - VCPU_ASK, 0, n};
+                struct vcpu_answer_words answer = {given - VCPU_ASK, kind->fetched ? word : drawn(), kind->fetched ? 0 : drawn()};
                 given = vcpu_answer(&v, &answer, &out);
             }
             if (given == VCPU_EXIT_MMIO_READ)
-                vcpu_complete_load(&v, n);
+                vcpu_complete_load(&v, drawn());
         }
         return 0;
     }

@@ -1,5 +1,6 @@
 -- Whether a width is this one, and the mask by asking for each.
-use Prim.Native.Nat.{ℕ, _-_, _^_}
+use Prim.Native.Nat.{ℕ, _<_, _-_, _/_, _^_}
+use native.Mathlib.Omega.{arith}
 use mathlib.Core.Bool.{Bool, true, false}
 use mathlib.Core.Path.{_≡_, refl}
 use lib.Bits.{bitXor}
@@ -26,9 +27,18 @@ isWord width.Half = false
 isWord width.Word = true
 isWord width.Double = false
 
-pub mask-asked : (w : Width) →
-    bitXor (bitXor (bitXor (2 ^ 64 - 1) (pick (isByte w) 0xFFFF_FFFF_FFFF_FF00 0)) (pick (isHalf w) 0xFFFF_FFFF_FFFF_0000 0)) (pick (isWord w) 0xFFFF_FFFF_0000_0000 0)
-    ≡ 2 ^ widthBits w - 1
+-- the bits that a width has not
+abbrev spare : Width → ℕ
+spare w = bitXor (bitXor (pick (isByte w) 56 0) (pick (isHalf w) 48 0)) (pick (isWord w) 32 0)
+
+pub spare-below : (w : Width) → spare w < 64
+unfolding isByte isHalf isWord
+spare-below width.Byte = omega arith
+spare-below width.Half = omega arith
+spare-below width.Word = omega arith
+spare-below width.Double = omega arith
+
+pub mask-asked : (w : Width) → (2 ^ 64 - 1) / 2 ^ spare w ≡ 2 ^ widthBits w - 1
 unfolding isByte isHalf isWord widthBits
 mask-asked width.Byte = refl
 mask-asked width.Half = refl

@@ -25,16 +25,16 @@ pub fn extend(width: Width, signed: bool, n: u64) -> u64
     std::num::wrapping_add_u64(low, above)
 }
 
-// The bits of a width, all set: all bits, without those above it. Each width is asked for alone, since one match for all four becomes
-// a jump where the caller has another; and each choice is of a number or 0, since one of two numbers is a jump where the
-// processor has no conditional move.
+// The bits of a width, all set: all bits of a number, moved down by as many as the width has not. Each width is asked for alone, since
+// one match for all four becomes a jump where the caller has another; and each choice is of a number or 0, since one of two numbers
+// is a jump where the processor has no conditional move.
 fn mask(width: Width) -> u64
     ensures { λ r. ⌜ r ≡ 2 ^ widthBits width - 1 ⌝ }
 {
-    let byte = isa_types::select(is_byte(width), 0xFFFF_FFFF_FFFF_FF00, 0);
-    let half = isa_types::select(is_half(width), 0xFFFF_FFFF_FFFF_0000, 0);
-    let word = isa_types::select(is_word(width), 0xFFFF_FFFF_0000_0000, 0);
-    0xFFFF_FFFF_FFFF_FFFF ^ byte ^ half ^ word
+    let byte = isa_types::select(is_byte(width), 56, 0);
+    let half = isa_types::select(is_half(width), 48, 0);
+    let word = isa_types::select(is_word(width), 32, 0);
+    0xFFFF_FFFF_FFFF_FFFF >> (byte ^ half ^ word)
 }
 
 fn is_byte(width: Width) -> bool

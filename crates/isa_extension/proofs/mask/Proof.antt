@@ -1,5 +1,5 @@
 -- `isa_extension::mask` meets its contract.
-use Rattle.isa_extension.specs.Asked.{mask-asked}
+use Rattle.isa_extension.specs.Asked.{spare-below, mask-asked}
 use borrow.Author.Needs.{needs}
 use Rattle.isa_extension.proofs.mask.Statement.{statement}
 use Rattle.isa_extension.proofs.mask.Tie as tie
@@ -22,6 +22,9 @@ is-word-requires c κs = search needs
 select-requires-3 : tie.Need-select-requires-3
 select-requires-3 c κs = search needs
 
+shr-result : tie.Need-shr-result
+shr-result c = simp (c .select3 .ensures, c .before .is-word .ensures, c .before .before .select2 .ensures, c .before .before .before .is-half .ensures, c .before .before .before .before .select .ensures, c .before .before .before .before .before .is-byte .ensures) (spare-below _)
+
 returns : tie.Need-returns
 returns c = simp (c .select3 .ensures, c .before .is-word .ensures, c .before .before .select2 .ensures, c .before .before .before .is-half .ensures, c .before .before .before .before .select .ensures, c .before .before .before .before .before .is-byte .ensures) (mask-asked _)
 
@@ -35,4 +38,5 @@ mask-spec =
     select-requires-2
     is-word-requires
     select-requires-3
+    shr-result
     returns)
