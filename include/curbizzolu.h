@@ -14,7 +14,7 @@ extern "C" {
 
 /* A guest's hart while it is not running: 58 words. */
 struct vcpu {
-    uint64_t x[32]; /* x0 to x31; slot 0 is never written, and x0 reads 0 */
+    uint64_t x[32]; /* x0 to x31; a call leaves slot 0 as it was, and x0 reads 0 */
     uint64_t sepc, sstatus, hstatus;
     uint64_t vsstatus, vstvec, vsepc, vscause, vstval, vstimecmp;
     uint64_t hie, hvip, hgeie, hgatp;
@@ -32,7 +32,8 @@ struct vcpu_answer_words {
     uint64_t ask, first, second;
 };
 
-/* The numbers that a reply carries, in order. Words that it does not carry are 0, whatever they held: a call sets all eight. */
+/* The numbers that a reply carries, in order. Words that it does not carry are 0, whatever they held: a call sets all eight. Where a
+ * processor stores two words at once, they are best aligned to 16 bytes: a pair across two pages costs more than the call. */
 struct vcpu_out {
     uint64_t word[8];
 };

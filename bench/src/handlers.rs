@@ -215,6 +215,7 @@ impl Handler for Interface {
     #[inline(always)]
     fn trap(&mut self, work: &Work, seen: &mut Vec<Reply>) -> u64 {
         use curbizzolu::{Answer, Ask, Exit, Fetch, Step, Trap};
+        let [error, value] = work.given;
         let [scause, stval, htval, htinst, room] = work.trap;
         let mut step = self.0.start(&Trap { scause, stval, htval, htinst, room });
         let words = |step: &Result<Step, curbizzolu::Error>| match step {
@@ -229,7 +230,7 @@ impl Handler for Interface {
             let answer = match ask {
                 Ask::Forward { eid, fid, args } => {
                     asked ^= eid ^ fid ^ args[0];
-                    Answer::Forwarded { error: work.given[0], value: work.given[1] }
+                    Answer::Forwarded { error, value }
                 }
                 Ask::Emit { number } => {
                     asked ^= number;
@@ -237,7 +238,7 @@ impl Handler for Interface {
                 }
                 Ask::Fetch { at, supervisor } => {
                     asked ^= at.0 ^ supervisor as u64;
-                    Answer::Fetched(Fetch::Word(work.given[0] as u32))
+                    Answer::Fetched(Fetch::Word(error as u32))
                 }
                 _ => Answer::Emitted,
             };
@@ -252,9 +253,9 @@ impl Handler for Interface {
                 if SEE {
                     seen.push(reply(done.map_or_else(|refusal| 0x100 + refusal.number(), |()| 0x40), &[0; 8]));
                 }
-                9 ^ addr.0 ^ width.bytes()
+                asked ^ 9 ^ addr.0 ^ width.bytes()
             }
-            Ok(Step::Exit(Exit::MmioWrite { addr, width, data })) => 10 ^ addr.0 ^ width.bytes() ^ data,
+            Ok(Step::Exit(Exit::MmioWrite { addr, width, data })) => asked ^ 10 ^ addr.0 ^ width.bytes() ^ data,
             Ok(Step::Exit(Exit::Nothing)) => asked,
             _ => 1,
         }
@@ -371,6 +372,9 @@ impl<F: Forms> Handler for PlainEnums<F> {
     #[inline(always)]
     fn trap(&mut self, work: &Work, seen: &mut Vec<Reply>) -> u64 {
         use plain::{Answer, Ask, Exit, Fetch, Step, Trap};
+        // made before the first call, as the words of the others are: an answer that is read right after it was stored in parts is late
+        let [error, value] = work.given;
+        let (forwarded, fetched) = (Answer::Forwarded { error, value }, Answer::Fetched(Fetch::Word(error as u32)));
         let [scause, stval, htval, htinst, room] = work.trap;
         let mut step = enums::start::<F>(&mut self.0, &Trap { scause, stval, htval, htinst, room });
         let words = |step: &Step| reply_of_step!(*step, |addr: u64| addr, |at: u64| at);
@@ -382,19 +386,19 @@ impl<F: Forms> Handler for PlainEnums<F> {
             let answer = match ask {
                 Ask::Forward { eid, fid, args } => {
                     asked ^= eid ^ fid ^ args[0];
-                    Answer::Forwarded { error: work.given[0], value: work.given[1] }
+                    &forwarded
                 }
                 Ask::Emit { number } => {
                     asked ^= number;
-                    Answer::Emitted
+                    &Answer::Emitted
                 }
                 Ask::Fetch { at, supervisor } => {
                     asked ^= at ^ supervisor as u64;
-                    Answer::Fetched(Fetch::Word(work.given[0] as u32))
+                    &fetched
                 }
-                _ => Answer::Emitted,
+                _ => &Answer::Emitted,
             };
-            step = enums::answer::<F>(&mut self.0, &answer);
+            step = enums::answer::<F>(&mut self.0, answer);
             if SEE {
                 seen.push(words(&step));
             }
@@ -405,9 +409,9 @@ impl<F: Forms> Handler for PlainEnums<F> {
                 if SEE {
                     seen.push(reply(if done { 0x40 } else { 0x102 }, &[0; 8]));
                 }
-                9 ^ addr ^ width.bytes()
+                asked ^ 9 ^ addr ^ width.bytes()
             }
-            Step::Exit(Exit::MmioWrite { addr, width, data }) => 10 ^ addr ^ width.bytes() ^ data,
+            Step::Exit(Exit::MmioWrite { addr, width, data }) => asked ^ 10 ^ addr ^ width.bytes() ^ data,
             Step::Exit(Exit::Nothing) => asked,
             _ => 1,
         }

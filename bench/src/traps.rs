@@ -106,7 +106,8 @@ const STORE: Kind = Kind {
     ..ECALL
 };
 
-/// The last three are the three before them on a hart that leaves htinst and stval 0. A fetched word has its two low bits set.
+/// The last three are the three before them on a hart that leaves the instruction's place, stval or htinst, 0. A fetched word has its two
+/// low bits set.
 const KINDS: [Kind; 10] = [
     Kind { name: "TIME", share: 20, a7: 0x5449_4D45, ..ECALL },
     Kind { name: "legacy timer", share: 5, ..ECALL },

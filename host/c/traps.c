@@ -1,5 +1,6 @@
 /* Traps of one kind, to see what each takes: traps KIND NUMBER. A trap goes with its answers and its completion. All that a guest may
- * choose within the kind is drawn for each: registers and their content, funct3, the length, what a device gives. */
+ * choose within the kind is drawn for each: registers and their content, its CSRs, funct3, the length, offsets. So is what a host or a
+ * device gives. The status is 1 where a trap ends otherwise than its kind does, and 2 where there is no such kind. */
 #include "curbizzolu.h"
 
 #include <stdio.h>
@@ -10,25 +11,28 @@
 #define RS1 (UINT64_C(31) << 15)
 #define RS2 (UINT64_C(31) << 20)
 #define LENGTH UINT64_C(2) /* htinst's bit that is clear for an instruction of two bytes */
+#define LOAD_OFFSET UINT64_C(0xfff00000)
+#define STORE_OFFSET UINT64_C(0xfe000f80)
 
 static const struct kind {
     const char *name;
+    uint64_t ends; /* in this exit */
     uint64_t scause, a7, a6, a6_drawn;
     uint64_t word, word_drawn; /* the instruction, and its bits that are drawn */
     const char *funct3;        /* the legal ones */
     int fetched;               /* the hart leaves it to be fetched */
 } kinds[] = {
-    {"time", 10, 0x54494D45, 0, 0, 0, 0, "0", 0},         /* TIME, fid 0 */
-    {"legacy-timer", 10, 0, 0, 0, 0, 0, "0", 0},          /* legacy 0 */
-    {"forward", 10, 0x10, 0, 7, 0, 0, "0", 0},            /* BASE, and its answer */
-    {"byte", 10, 0x4442434E, 2, 0, 0, 0, "0", 0},         /* DBCN, fid 2, and its answer */
-    {"stimecmp", 22, 0, 0, 0, 0x14d00073, RD | RS1, "123567", 0},
-    {"load", 21, 0, 0, 0, 1, RD | RS1 | LENGTH, "0123456", 0}, /* and its completion */
-    {"store", 23, 0, 0, 0, 0x21, RS1 | RS2 | LENGTH, "0123", 0},
-    {"stimecmp-fetched", 22, 0, 0, 0, 0x14d00073, RD | RS1, "123567", 1},
-    {"load-fetched", 21, 0, 0, 0, 3, RD | RS1, "0123456", 1},
-    {"store-fetched", 23, 0, 0, 0, 0x23, RS1 | RS2, "0123", 1},
-    {"interrupt", UINT64_C(1) << 63 | 9, 0, 0, 0, 0, 0, "0", 0},
+    {"time", 0, 10, 0x54494D45, 0, 0, 0, 0, "0", 0}, /* TIME, fid 0 */
+    {"legacy-timer", 0, 10, 0, 0, 0, 0, 0, "0", 0},  /* legacy 0 */
+    {"forward", 0, 10, 0x10, 0, 7, 0, 0, "0", 0},    /* BASE, and its answer */
+    {"byte", 0, 10, 0x4442434E, 2, 0, 0, 0, "0", 0}, /* DBCN, fid 2, and its answer */
+    {"stimecmp", 0, 22, 0, 0, 0, 0x14d00073, RD | RS1, "123567", 0},
+    {"load", 9, 21, 0, 0, 0, 1, RD | RS1 | LENGTH, "0123456", 0}, /* and its completion */
+    {"store", 10, 23, 0, 0, 0, 0x21, RS1 | RS2 | LENGTH, "0123", 0},
+    {"stimecmp-fetched", 0, 22, 0, 0, 0, 0x14d00073, RD | RS1, "123567", 1},
+    {"load-fetched", 9, 21, 0, 0, 0, 3, RD | RS1 | LOAD_OFFSET, "0123456", 1},
+    {"store-fetched", 10, 23, 0, 0, 0, 0x23, RS1 | RS2 | STORE_OFFSET, "0123", 1},
+    {"interrupt", 1, UINT64_C(1) << 63 | 9, 0, 0, 0, 0, 0, "0", 0},
 };
 
 /* SplitMix64 */
@@ -47,12 +51,13 @@ int main(int argc, char **argv) {
         const struct kind *kind = &kinds[k];
         if (strcmp(kind->name, argv[1]) != 0)
             continue;
+        uint64_t words[58];
         struct vcpu v;
         struct vcpu_out out;
-        memset(&v, 0, sizeof v);
         for (uint64_t n = strtoull(argv[2], NULL, 10); n > 0; n--) {
-            for (size_t i = 0; i < 32; i++)
-                v.x[i] = drawn();
+            for (size_t i = 0; i < 58; i++)
+                words[i] = i < 54 ? drawn() : 0; /* and nothing waits */
+            memcpy(&v, words, sizeof v);
             v.x[17] = kind->a7;
             v.x[16] = kind->a6 | (drawn() & kind->a6_drawn);
             uint64_t funct3 = (uint64_t)(kind->funct3[drawn() % strlen(kind->funct3)] - '0');
@@ -64,8 +69,8 @@ int main(int argc, char **argv) {
                 struct vcpu_answer_words answer = {given - VCPU_ASK, kind->fetched ? word : drawn(), kind->fetched ? 0 : drawn()};
                 given = vcpu_answer(&v, &answer, &out);
             }
-            if (given == VCPU_EXIT_MMIO_READ)
-                vcpu_complete_load(&v, drawn());
+            if (given != kind->ends || (given == VCPU_EXIT_MMIO_READ && vcpu_complete_load(&v, drawn()) != VCPU_DONE))
+                return 1;
         }
         return 0;
     }

@@ -20,7 +20,7 @@ use core::mem::MaybeUninit;
 #[repr(C)]
 #[derive(Clone, Debug, Eq, PartialEq)]
 pub struct Vcpu {
-    /// x0 to x31. Slot 0 is never written by a call, and x0 reads 0 whatever it holds.
+    /// x0 to x31. A call leaves slot 0 as it was, and x0 reads 0 whatever it holds.
     pub x: [u64; 32],
     /// Where the guest goes on.
     pub sepc: u64,

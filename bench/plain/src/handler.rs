@@ -230,62 +230,73 @@ impl Vcpu {
         }
     }
 
-    /// Answers the ask that waits.
+    /// Answers the ask that waits. Both are looked at where they lie: to copy what was just stored in parts waits for the stores.
     #[inline(always)]
     pub fn answer<F: Forms>(&mut self, answer: &Answer) -> Step {
-        let waits = self.waiting;
-        self.waiting = Waiting::Idle;
-        match (waits, *answer) {
-            (Waiting::FetchCsr, Answer::Fetched(fetch)) => match fetch {
-                Fetch::Word(word) => self.csr::<F>(word),
-                fault => self.missed(fault),
-            },
-            (Waiting::FetchFault { at, write }, Answer::Fetched(fetch)) => match fetch {
-                Fetch::Word(word) if word & 3 != 3 => self.access::<F>(at, write, word & 0xffff, 2),
-                Fetch::Word(word) if word >> 2 & 7 == 7 => Step::Error(Error::DecodeFailed),
-                Fetch::Word(word) => self.access::<F>(at, write, word, 4),
-                fault => self.missed(fault),
-            },
-            (Waiting::CopyMask, Answer::MaskCopied { count: 8, bytes }) => {
+        match (&self.waiting, answer) {
+            (Waiting::FetchCsr, Answer::Fetched(fetch)) => {
+                self.waiting = Waiting::Idle;
+                match *fetch {
+                    Fetch::Word(word) => self.csr::<F>(word),
+                    fault => self.missed(fault),
+                }
+            }
+            (&Waiting::FetchFault { at, write }, Answer::Fetched(fetch)) => {
+                self.waiting = Waiting::Idle;
+                match *fetch {
+                    Fetch::Word(word) if word & 3 != 3 => self.access::<F>(at, write, word & 0xffff, 2),
+                    Fetch::Word(word) if word >> 2 & 7 == 7 => Step::Error(Error::DecodeFailed),
+                    Fetch::Word(word) => self.access::<F>(at, write, word, 4),
+                    fault => self.missed(fault),
+                }
+            }
+            (Waiting::CopyMask, &Answer::MaskCopied { count: 8, bytes }) => {
+                self.waiting = Waiting::Idle;
                 self.advance(4);
                 Step::Exit(Exit::SendIpi { mask: bytes, base: 0, legacy: true })
             }
-            (Waiting::CopyMask, Answer::MaskCopied { .. }) => self.returns(FAILED, 0),
-            (Waiting::CopyIn { count }, Answer::CopiedIn { count: copied }) if copied == count => {
+            (Waiting::CopyMask, Answer::MaskCopied { .. }) => self.finishes(FAILED, 0),
+            (&Waiting::CopyIn { count }, &Answer::CopiedIn { count: copied }) if copied == count => {
                 self.asks(Waiting::Print { count }, Ask::Print { count })
             }
-            (Waiting::CopyIn { .. }, Answer::CopiedIn { .. }) => self.returns(FAILED, 0),
-            (Waiting::Print { .. }, Answer::Printed { error, value }) => self.returns(error, value),
-            (Waiting::ReadConsole { count, at }, Answer::ConsoleRead { error, value }) => {
+            (Waiting::CopyIn { .. }, Answer::CopiedIn { .. }) => self.finishes(FAILED, 0),
+            (Waiting::Print { .. }, &Answer::Printed { error, value }) => self.finishes(error, value),
+            (&Waiting::ReadConsole { count, at }, &Answer::ConsoleRead { error, value }) => {
                 if error == 0 && value != 0 && value <= count {
                     self.asks(Waiting::CopyOut { count: value }, Ask::CopyOut { at, count: value })
                 } else {
-                    self.returns(error, value)
+                    self.finishes(error, value)
                 }
             }
-            (Waiting::CopyOut { count }, Answer::CopiedOut { count: copied }) => {
+            (&Waiting::CopyOut { count }, &Answer::CopiedOut { count: copied }) => {
                 if copied == count {
-                    self.returns(0, count)
+                    self.finishes(0, count)
                 } else {
-                    self.returns(FAILED, 0)
+                    self.finishes(FAILED, 0)
                 }
             }
             (Waiting::PutChar, Answer::Emitted) => {
+                self.waiting = Waiting::Idle;
                 self.advance(4);
                 NOTHING
             }
-            (Waiting::PutByte, Answer::Emitted) => self.returns(0, 0),
-            (Waiting::GetChar, Answer::Char { number }) => {
+            (Waiting::PutByte, Answer::Emitted) => self.finishes(0, 0),
+            (Waiting::GetChar, &Answer::Char { number }) => {
+                self.waiting = Waiting::Idle;
                 self.x[A0] = number;
                 self.advance(4);
                 NOTHING
             }
-            (Waiting::Forward, Answer::Forwarded { error, value }) => self.returns(error, value),
-            _ => {
-                self.waiting = waits;
-                Step::Error(Error::WrongAnswer)
-            }
+            (Waiting::Forward, &Answer::Forwarded { error, value }) => self.finishes(error, value),
+            _ => Step::Error(Error::WrongAnswer),
         }
+    }
+
+    /// Nothing waits any more, and the call returns.
+    #[inline]
+    fn finishes(&mut self, error: u64, value: u64) -> Step {
+        self.waiting = Waiting::Idle;
+        self.returns(error, value)
     }
 
     #[inline(always)]

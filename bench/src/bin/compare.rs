@@ -56,7 +56,10 @@ fn main() {
         let plain = 2;
         for (name, given_by) in names.iter().zip(&given) {
             if *given_by != given[plain] {
-                eprintln!("compare: trap {i}, {:x?} with a0 {:x}, a6 {:x}, a7 {:x} and {:x?} given:", work.trap, work.a0, work.a6, work.a7, work.given);
+                eprintln!(
+                    "compare: trap {i}, {:x?} with a0 {:x}, a6 {:x}, a7 {:x}, {:x?} and {:x} given:",
+                    work.trap, work.a0, work.a6, work.a7, work.given, work.device
+                );
                 eprintln!("{} gives {:x?}\n{name} gives {:x?}", names[plain], given[plain].0, given_by.0);
                 for (word, (one, other)) in given[plain].1.iter().zip(given_by.1).enumerate().filter(|(_, (one, other))| *one != other) {
                     eprintln!("word {word} of the record after it is {one:x} by {} and {other:x} by {name}", names[plain]);
