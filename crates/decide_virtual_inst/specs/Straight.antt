@@ -1,4 +1,4 @@
--- The new timer by choices of two numbers each, and that it is the one by funct3.
+-- The new timer put together of what is kept, cleared and written, and that it is the one by funct3.
 use Prim.Native.Nat.{ℕ, suc, zero, _<_, _≤_, _-_, _*_, _/_, _%_, _^_}
 use native.Mathlib.Nat.{mod-eq-of-lt, mod-lt}
 use native.Mathlib.Omega.{arith}

@@ -74,8 +74,9 @@ fn stimecmp(funct3: u64, rd: usize, field: u64, old: u64, rs1: u64) -> Stimecmp
 }
 
 // The new timer: rs1 or the field, alone, set or cleared in the old one; the last two write nothing where the field is 0. No jump
-// follows the guest's words: each choice is of a number or 0, since one of two numbers is a jump where the processor has no
-// conditional move. The field is multiplied and not chosen, since the compiler makes one choice of two by the same test.
+// follows the guest's words: what is chosen is a number or 0, since a choice of two numbers may be a jump where the processor has no
+// conditional move. (`writes` is only held against 0.) The field is multiplied and not chosen, since the compiler makes one choice
+// of two by the same test.
 fn timer(funct3: u64, field: u64, old: u64, rs1: u64) -> u64
     ensures { λ r. ⌜ r ≡ timerOf funct3 field old rs1 ⌝ }
 {

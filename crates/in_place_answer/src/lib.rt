@@ -54,8 +54,7 @@ pub fn complete_load(r: &mut [u64; 58], n: u64) -> u64
     in_place_record::complete(r, w, n)
 }
 
-// By what waits, and only then by the answer's number: one jump leads to what is to be done. Where no ask waits every answer is
-// refused.
+// By what waits, and only then by the answer's number. Where no ask waits every answer is refused.
 fn waits(r: &mut [u64; 58], out: &mut [u64; 8], w: Waiting, ask: u64, word: u64, more: u64) -> u64
     ensures { λ c. ⌜ (w ≡ viewOf (now (r .entry)) .waiting → Laid (trapLeaves (now (r .entry))) (now (out .entry)) (calledOf (viewOf (now (r .entry))) (hostCall.Answer (answerFor ask word more))) (now (r .exit)) (now (out .exit)) c) ⌝ }
 {
@@ -89,8 +88,8 @@ fn fetch_waits(
     0x107
 }
 
-// An ecall's ask waits. Each has its number at its own place, so that the one jump that finds the ask leads on to what its answer
-// does, and no second one follows.
+// An ecall's ask waits. Each has its number at its own place, so that what its answer does follows where the ask is found, and it is
+// not looked for again.
 fn ecall_waits(
     r: &mut [u64; 58],
     out: &mut [u64; 8],

@@ -126,6 +126,19 @@ fn op_source(op: Decoded) -> usize
     }
 }
 
+// The width at this place of the four, and the widest at any other; as constants alone, of which the compiler makes arithmetic and no
+// jump.
+pub fn width(n: u64) -> Width
+    ensures { λ r. ⌜ r ≡ widthAt n ⌝ }
+{
+    match n {
+        0 => Width::Byte,
+        1 => Width::Half,
+        2 => Width::Word,
+        _ => Width::Double,
+    }
+}
+
 // The seven loads by funct3: the width is its low two bits, and from 4 on nothing is extended.
 fn load(funct3: u64, rd: usize) -> Decoded
     ensures { λ r. ⌜ r ≡ loadOf funct3 rd ⌝ }
@@ -151,16 +164,4 @@ fn store(funct3: u64, rs2: usize) -> Decoded
         };
     }
     Decoded::Neither
-}
-
-// The four widths in order, as constants alone: the compiler makes arithmetic of it, and no jump.
-pub fn width(n: u64) -> Width
-    ensures { λ r. ⌜ r ≡ widthAt n ⌝ }
-{
-    match n {
-        0 => Width::Byte,
-        1 => Width::Half,
-        2 => Width::Word,
-        _ => Width::Double,
-    }
 }

@@ -27,7 +27,7 @@ pub fn extend(width: Width, signed: bool, n: u64) -> u64
 
 // The bits of a width, all set: all bits of a number, moved down by as many as the width has not. Each width is asked for alone, since
 // one match for all four becomes a jump where the caller has another; and each choice is of a number or 0, since one of two numbers
-// is a jump where the processor has no conditional move.
+// may be a jump where the processor has no conditional move.
 fn mask(width: Width) -> u64
     ensures { λ r. ⌜ r ≡ 2 ^ widthBits width - 1 ⌝ }
 {
