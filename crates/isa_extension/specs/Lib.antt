@@ -1,3 +1,2 @@
 pub mod Extend
 pub mod Extended
-pub mod Asked

@@ -256,14 +256,15 @@ pub fn fetch_of(word: u64, fault: u64) -> Fetch
     }
 }
 
-// The width of this many bytes; any other number is read as 8. The place of the width is chosen first, so that no jump hangs on
-// which load waits.
+// The width of this many bytes; any other number is read as 8. Its place among the four counts those that it is wider than, and no jump
+// hangs on which load waits.
 pub fn width_of(n: u64) -> Width
     ensures { λ r. ⌜ r ≡ widthOf n ⌝ }
 {
-    let wide = isa_types::select(n == 4, 2, 3);
-    let more = isa_types::select(n == 2, 1, wide);
-    isa_decoder::width(isa_types::select(n == 1, 0, more))
+    let byte = isa_types::select(n == 1, 0, 1);
+    let half = isa_types::select(n == 2, 0, byte);
+    let word = isa_types::select(n == 4, 0, half);
+    isa_decoder::width(byte + half + word)
 }
 
 // The access of this flag; any other number is read as execute.
