@@ -17,7 +17,8 @@ pub enum Width {
     Double,
 }
 
-// The choice of two numbers that are there: no jump follows the test, so it may hang on a guest's words at no cost.
+// The choice of two numbers that are there, which may hang on a guest's words: no jump follows the test where the processor has a
+// conditional move, nor on any where one of them is 0.
 pub fn select(test: bool, one: u64, other: u64) -> u64
     ensures { λ r. ⌜ r ≡ pick test one other ⌝ }
 {
