@@ -1,6 +1,6 @@
 -- The new timer put together of what is kept, cleared and written, and that it is the one by funct3.
 use Prim.Native.Nat.{ℕ, suc, zero, _<_, _≤_, _-_, _*_, _/_, _%_, _^_}
-use native.Mathlib.Nat.{mod-eq-of-lt, mod-lt}
+use native.Mathlib.Nat.{mod-eq-of-lt}
 use native.Mathlib.Omega.{arith}
 use mathlib.Core.Bool.{Bool, true, false}
 use mathlib.Core.Path.{_≡_, refl, ap, ap₂, sym, _∙_}
