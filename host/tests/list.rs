@@ -81,6 +81,18 @@ fn rows() -> Vec<(Vec<(usize, u64)>, Call)> {
         row(&[], &[10, 22, w | 0x1234 << 32, 2, 3, 4]);
         row(&[(54, 2)], &[11, 1, w | 0x1234 << 32, 0]);
     }
+    // hvip, of which legacy 0 and TIME fid 0 clear bit 6, whatever the deadline, legacy 3 bit 2, and stimecmp none.
+    for hvip in [0, 0x40, u64::MAX] {
+        for (eid, fid) in [(0, 0), (0, 1), (3, 0), (0x5449_4D45, 0), (0x5449_4D45, 1)] {
+            for a0 in [0, u64::MAX] {
+                row(&[(17, eid), (16, fid), (10, a0), (42, hvip)], &[10, 10, 1, 2, 3, 4]);
+            }
+        }
+        for f3 in [1, 2, 3, 5, 6, 7] {
+            row(&[(42, hvip)], &[10, 22, word(0x14d, 5, f3, 6, 0x73), 2, 3, 4]);
+            row(&[(42, hvip), (54, 2)], &[11, 1, word(0x14d, 5, f3, 6, 0x73), 0]);
+        }
+    }
     // Guest page faults: by htinst, and fetched; loads, stores and neither, 4 and 2 bytes long.
     let mut words = vec![0, 0x3000, 0x3020, 0x3000 | 1 << 32, 1 << 32, 0x3010, 0x2000, 0x13, 0x70_201f, 0x70_207f, 0xffff_ffff];
     for f3 in 0..8 {

@@ -94,6 +94,7 @@ impl Vcpu {
             0 => {
                 self.count(1);
                 self.vstimecmp = a0;
+                self.hvip &= !(1 << 6);
                 self.x[A0] = 0;
                 self.advance(4);
                 NOTHING
@@ -115,6 +116,7 @@ impl Vcpu {
             0x5449_4D45 if fid == 0 => {
                 self.count(1);
                 self.vstimecmp = a0;
+                self.hvip &= !(1 << 6);
                 self.returns(0, 0)
             }
             0x73_5049 if fid == 0 => {

@@ -128,8 +128,10 @@ fn set_timer(c: Csrs, deadline: u64, writes: Writes) -> Effect
     ensures { λ r. ⌜ r ≡ setTimerOf c deadline writes ⌝ }
 {
     let armed = decide_record::with_timer(c, deadline);
+    let hvip = isa_registers::with_bits(c.hs.hvip, isa_consts::VSTIP, false);
+    let cleared = decide_record::with_hvip(armed, hvip);
     decide_effects::finished(
-        decide_record::advance(armed, 4),
+        decide_record::advance(cleared, 4),
         Event::SetTimer,
         writes,
         Exit::Nothing,

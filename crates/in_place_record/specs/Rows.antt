@@ -11,7 +11,7 @@ use Rattle.scope.specs.OneTrap.{abiNumber, accessNumber, flagOf, widthBytes}
 use Rattle.scope.specs.declared.traps.Access.{Access}
 use Rattle.scope.specs.declared.traps.Args.{Args}
 use Rattle.isa_types.specs.declared.GuestPhysAddr.{GuestPhysAddr}
-use Rattle.isa_consts.specs.Csr.{vssip}
+use Rattle.isa_consts.specs.Csr.{vssip, vstip}
 use Rattle.isa_registers.specs.Bits.{spvpOf, withBits}
 use Rattle.scope.specs.declared.machine.Csrs.{Csrs}
 use Rattle.scope.specs.Record.{eventNumber}
@@ -74,9 +74,9 @@ stepWords r n = movedWords (set r 54 0) n
 unfoldable pub bumpWords : List ℕ → ℕ → List ℕ
 bumpWords r n = pick (eqb n 0) r (pick (ltb n 10) (set r (n + 44) (wrapped (getD r (n + 44) 0 + 1))) r)
 
--- the timer is set, and event 1 counted
+-- the timer's pending bit is cleared, the timer set, and event 1 counted
 unfoldable pub timerWords : List ℕ → ℕ → List ℕ
-timerWords r d = bumpWords (set r 40 d) 1
+timerWords r d = bumpWords (set (set r 42 (withBits (getD r 42 0) vstip false)) 40 d) 1
 
 -- up to three words of the reply
 abbrev pub one : List ℕ → ℕ → List ℕ

@@ -23,10 +23,15 @@ pub fn pair(r: &mut [u64; 58], e: u64, v: u64)
     in_place_record::advance(r, 4);
 }
 
-// The timer is set, and counted.
+// The timer's pending bit is cleared, the timer set, and counted.
 pub fn timer(r: &mut [u64; 58], deadline: u64)
     ensures { λ _. ⌜ now (r .exit) ≡ timerWords (now (r .entry)) deadline ⌝ }
 {
+    r[in_place_record::HVIP] = isa_registers::with_bits(
+        r[in_place_record::HVIP],
+        isa_consts::VSTIP,
+        false,
+    );
     r[in_place_record::VSTIMECMP] = deadline;
     bump(r, 1);
 }

@@ -4,7 +4,7 @@ use Prim.Native.Nat.{ℕ, _%_}
 use mathlib.Core.Bool.{false, Bool, true}
 use lib.Dec.{eqb, leb}
 use Rattle.isa_types.specs.declared.GuestPhysAddr.{GuestPhysAddr}
-use Rattle.isa_consts.specs.Csr.{vssip, consoleRoom}
+use Rattle.isa_consts.specs.Csr.{vssip, vstip, consoleRoom}
 use Rattle.isa_consts.specs.Sbi.{hartMaskBytes, success, failed, invalidParam, notSupported, legacySetTimer, legacyPutchar, legacyGetchar, legacyClearIpi, legacySendIpi, legacyFenceI, legacySfenceVma, legacySfenceVmaAsid, legacyShutdown, eidTime, eidSpi, eidHsm, eidHvc, eidSrst, eidDbcn, eidRfnc}
 use Rattle.isa_registers.specs.Bits.{withBits}
 use Rattle.isa_types.specs.Pick.{pick}
@@ -52,9 +52,10 @@ staysOf c x = finishedOf c event.Quiet writes.Keep x
 unfoldable pub asksOf : Csrs → EcallAsk → Ask → Effect
 asksOf c n a = askingOf c event.Quiet (waiting.Ecall n) a
 
--- event 1, vstimecmp = deadline, then the registers; sepc moves on by 4
+-- 01, Ecalls; 02, W1. Event 1, vstimecmp = deadline, clear hvip bit 6, then the registers; sepc moves on by 4
 unfoldable pub setTimerOf : Csrs → ℕ → Writes → Effect
-setTimerOf c deadline w = finishedOf (moved (timed c deadline) 4) event.SetTimer w exit.Nothing
+setTimerOf c deadline w =
+    finishedOf (moved (pended (timed c deadline) (withBits (c .hs .hvip) vstip false)) 4) event.SetTimer w exit.Nothing
 
 -- legacy 3: clear hvip bit 2, a0 = 0
 unfoldable pub clearIpiOf : Csrs → Effect

@@ -39,7 +39,7 @@ void known(const char *name, u64 got, u64 want, u64 by_01); /* by_01: what 01 gi
 
 /* What the guest's trap handler counted and saw last. */
 extern volatile u64 cause, epc, faults, ticks, ipis, externals;
-extern volatile int off_by_csr; /* the handler ends a tick by stimecmp, and not by a call */
+extern volatile enum off { BY_TIME, BY_STIMECMP, BY_LEGACY } off; /* how the handler ends a tick */
 
 /* start.S */
 extern char user_done[], user_load[], user_amo[];

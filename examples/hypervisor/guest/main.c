@@ -2,7 +2,7 @@
 #include "guest.h"
 
 volatile u64 cause, epc, faults, ticks, ipis, externals;
-volatile int off_by_csr;
+volatile enum off off;
 static u64 bad, gaps;
 
 struct result sbi(u64 eid, u64 fid, u64 x0, u64 x1, u64 x2, u64 x3, u64 x4, u64 x5) {
@@ -49,8 +49,8 @@ u64 handler(u64 scause, u64 sepc) {
     case IRQ | 9: externals++, knob(KNOB_LINE, 0); return sepc;
     case IRQ | 5:
         if (++ticks > 4) csr_clear(sie, 1 << 5); /* it does not stop by itself */
-        if (off_by_csr) csr_put(stimecmp, -1);
-        else call(TIME, 0, -1, 0, 0);
+        if (off == BY_STIMECMP) csr_put(stimecmp, -1);
+        else call(off == BY_TIME ? TIME : 0, 0, -1, 0, 0);
         return sepc;
     }
     cause = scause, epc = sepc, faults++;

@@ -57,9 +57,8 @@ fn inputs() -> Vec<(&'static str, Input, Ending, Ending)> {
         ("console-bound", ecall(&console), nothing, nothing),
         ("console-a2", with(ecall(&console), |i| i.record.x[12] = 1), nothing, nothing),
         ("empty-copy", read, nothing, nothing),
-        ("timer-tick", hvip(ecall(&[])), nothing, nothing),
-        ("timer-tick", hvip(ecall(&[(17, EID_TIME)])), nothing, nothing),
         ("timer-tick", hvip(csr(0x14D1_2073)), nothing, nothing),
+        ("timer-tick", hvip(fetched(22, 0x14D1_2073)), nothing, nothing),
         ("fetched-opcode", fetched(22, 0x14D0_2000), Ending::error(3), nothing),
         ("trap-codes", input(2), Ending::error(3), Ending::error(4)),
         ("trap-codes", input(1 << 63), Ending::error(3), Ending::error(4)),
@@ -121,6 +120,31 @@ fn explains_inputs(subject: &mut dyn Subject) {
         assert!(!pair.agree(), "{name}");
         if name != "console-a2" {
             assert_eq!(pair.rust.ending, by_rust, "{name}");
+        }
+    }
+}
+
+/// 02, W1: on the two set-timer calls SBI, 01 and the Rust agree, with every switch off.
+#[test]
+fn set_timer_needs_no_switch() {
+    let mut none = Board::all_on();
+    for (_, name, _) in SWITCHES {
+        assert!(none.turn_off(name));
+    }
+    let mut rust = RustSide::new();
+    for mut subject in subjects() {
+        for call in [&[][..], &[(16, 1)], &[(17, EID_TIME)]] {
+            for hvip in [0, 0x40, !0x40, u64::MAX] {
+                for bound in [false, true] {
+                    let input = with(ecall(call), |i| {
+                        i.record.hvip = hvip;
+                        i.bound = bound;
+                    });
+                    let pair = run_both(&mut none, &mut rust, subject.as_mut(), &input, false);
+                    assert!(pair.agree(), "{call:?} {hvip:x} {bound}");
+                    assert_eq!(pair.rust.record.hvip, hvip & !0x40);
+                }
+            }
         }
     }
 }

@@ -3,7 +3,7 @@
 //! as it is described, and its input or outcome is then turned into 01's. All
 //! else is compared as it is.
 
-use model::{Call, EID_DBCN, EID_TIME, FAILED, INTERRUPT, INVALID_PARAM, VSTIP};
+use model::{Call, EID_DBCN, FAILED, INTERRUPT, INVALID_PARAM, VSTIP};
 use scripted::{Fetched, Request};
 
 use crate::input::Input;
@@ -37,7 +37,7 @@ pub const SWITCHES: [(Switch, &str, &str); 15] = [
     (ConsoleBound, "console-bound", "DBCN 0 and 1 with a0 above the room: the Rust is given a0 = room"),
     (ConsoleA2, "console-a2", "DBCN 0 and 1 with a0 and a2 not 0: the Rust's outcome is replaced by INVALID_PARAM, 0"),
     (EmptyCopy, "empty-copy", "DBCN 1 answered 0, 0: the Rust's copy of no bytes is dropped, and 0, 0 returned"),
-    (TimerTick, "timer-tick", "a new vstimecmp: the hvip bit 6 that the Rust clears is kept"),
+    (TimerTick, "timer-tick", "a CSR write to stimecmp: the hvip bit 6 that the Rust clears is kept"),
     (FetchedOpcode, "fetched-opcode", "a fetched stimecmp word not ending in 0x73, which the Rust carries out: event 2 and error 3"),
     (TrapCodes, "trap-codes", "a code on 01's list that the stand-ins don't have: the Rust's error 4 is error 3"),
     (Direction, "direction", "a load under 23 or a store under 21, which the Rust decodes: NestedPageFault, record unchanged"),
@@ -195,12 +195,9 @@ fn adjust_console_a2(board: &mut Board, input: &Input, rust: &mut Outcome) {
 }
 
 fn adjust_timer_tick(board: &mut Board, input: &Input, rust: &mut Outcome) {
-    let x = &input.record.x;
-    let ecall_sets =
-        input.trap.scause == 10 && (x[17] == 0 || x[17] == EID_TIME && x[16] == 0);
-    let csr_sets = virtual_word(input).is_some_and(|(word, _)| writes_stimecmp(word));
+    let writes = virtual_word(input).is_some_and(|(word, _)| writes_stimecmp(word));
     let pending = input.record.hvip & VSTIP != 0;
-    if !(ecall_sets || csr_sets) || !pending || !board.takes(TimerTick) {
+    if !writes || !pending || !board.takes(TimerTick) {
         return;
     }
     if rust.record.hvip & VSTIP == 0 {

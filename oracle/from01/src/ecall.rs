@@ -37,6 +37,15 @@ fn asks(r: &mut Record, waits: Waits, number: u64, carried: &[u64]) -> Reply {
     ask(number, carried)
 }
 
+/// Both calls: "event 1, vstimecmp = a0", and "Legacy 0 and TIME fid 0 shall
+/// clear hvip bit 6 as well as set vstimecmp" (02, W1): no other bit, whatever
+/// a0 is, also where bit 6 was 0 (reading).
+fn sets_timer(r: &mut Record) {
+    r.count(1);
+    r.set(VSTIMECMP, r.x(A0));
+    r.set(HVIP, r.get(HVIP) & !(1 << 6));
+}
+
 /// "eid is a7, fid a6." Both are compared on all 64 bits (reading).
 pub fn start(r: &mut Record, room: u64) -> Reply {
     let (eid, fid) = (r.x(A7), r.x(A6));
@@ -45,8 +54,7 @@ pub fn start(r: &mut Record, room: u64) -> Reply {
         (0..=8, _) => legacy(r, eid),
         // "TIME 0x54494D45, fid 0: event 1, vstimecmp = a0, return 0, 0."
         (TIME, 0) => {
-            r.count(1);
-            r.set(VSTIMECMP, r.x(A0));
+            sets_timer(r);
             returns(r, 0, 0)
         }
         // "sPI 0x735049, fid 0: move on, SendIpi(a0, a1, v0.2)."
@@ -123,8 +131,7 @@ fn legacy(r: &mut Record, eid: u64) -> Reply {
     match eid {
         // "Legacy 0: event 1, vstimecmp = a0, then a0 = 0."
         0 => {
-            r.count(1);
-            r.set(VSTIMECMP, a0);
+            sets_timer(r);
             r.set_x(A0, 0);
             moves_on(r)
         }

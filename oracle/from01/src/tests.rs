@@ -1,5 +1,5 @@
 //! The marked cases, the refusal table, the rules of the waiting words and
-//! each rule of 01 by an example.
+//! each rule of 01 and of 02's W1 by an example.
 
 use super::*;
 
@@ -735,6 +735,32 @@ fn legacy_calls() {
     }
 }
 
+/// 02, W1: bit 6 and no other, whatever a0 is; nothing else moves.
+#[test]
+fn set_timer_clears_hvip_bit_6() {
+    for a0 in [0, u64::MAX] {
+        for (hvip, left) in [(u64::MAX, !0x40), (0, 0)] {
+            // a1 is written by TIME alone.
+            let a1 = filled()[11];
+            for (eid, fid, a1) in [(0, 0, a1), (0, 1, a1), (0x54494D45, 0, 0)] {
+                let mut w = changed(ecall_record(eid, fid, &[a0]), &[(HVIP, hvip)]);
+                let later = [
+                    (HVIP, left),
+                    (VSTIMECMP, a0),
+                    (10, 0),
+                    (11, a1),
+                    (SEPC, next(&w)),
+                    (EVENTS, w[EVENTS] + 1),
+                ];
+                ecall(&mut w, nothing(), &later);
+            }
+        }
+        let mut w = changed(ecall_record(0x54494D45, 1, &[a0]), &[(HVIP, u64::MAX)]);
+        let later = [(10, NOT_SUPPORTED), (11, 0), (SEPC, next(&w))];
+        ecall(&mut w, nothing(), &later);
+    }
+}
+
 #[test]
 fn extensions_that_ask_nothing() {
     let sepc = next(&filled());
@@ -941,6 +967,28 @@ fn stimecmp_by_funct3() {
         let mut w = with(&[(VSTIMECMP, 7)]);
         let later = [(VSTIMECMP, new), (SEPC, next(&w))];
         check(&mut w, 10, [22, word, 0, 0, 0], nothing(), &later);
+    }
+}
+
+/// 02, W1: by stval and by a fetched word.
+#[test]
+fn a_csr_write_to_stimecmp_changes_no_hvip_bit() {
+    // rd 6, field 7; x7 = 0b1100, old 0b1010. Each form changes vstimecmp.
+    for (funct3, new) in [
+        (1, 0b1100),
+        (2, 0b1110),
+        (3, 0b0010),
+        (5, 7),
+        (6, 0b1111),
+        (7, 0b1000),
+    ] {
+        let word = 0x14d << 20 | 7 << 15 | funct3 << 12 | 6 << 7 | 0x73;
+        let base = with(&[(HVIP, u64::MAX), (VSTIMECMP, 0b1010), (7, 0b1100)]);
+        let later = [(VSTIMECMP, new), (6, 0b1010), (SEPC, next(&base)), (54, 0)];
+        let mut w = base;
+        check(&mut w, 10, [22, word, 0, 0, 0], nothing(), &later);
+        let mut w = changed(base, &[(54, 2)]);
+        check(&mut w, 11, [1, word, 0, 0, 0], nothing(), &later);
     }
 }
 

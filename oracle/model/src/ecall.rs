@@ -30,8 +30,7 @@ impl Vcpu {
     fn legacy(&mut self, eid: u64) -> Reply {
         match eid {
             0 => {
-                self.count(1);
-                self.vstimecmp = self.read(A0);
+                self.set_timer();
                 self.write(A0, 0);
             }
             1 => {
@@ -59,9 +58,16 @@ impl Vcpu {
         if self.read(A6) != 0 {
             return self.give_back(NOT_SUPPORTED, 0);
         }
+        self.set_timer();
+        self.give_back(0, 0)
+    }
+
+    /// What legacy 0 and TIME fid 0 share (01, Ecalls; 02, W1). A tick latched
+    /// for the old time must not reach the guest.
+    fn set_timer(&mut self) {
         self.count(1);
         self.vstimecmp = self.read(A0);
-        self.give_back(0, 0)
+        self.hvip &= !VSTIP;
     }
 
     fn ipi(&mut self) -> Reply {

@@ -296,6 +296,46 @@ fn legacy_results() {
     }
 }
 
+/// 02, W1: bit 6 and no other, whatever a0 is; nothing else moves.
+#[test]
+fn set_timer_clears_hvip_bit_6() {
+    for a0 in [0, u64::MAX] {
+        for (hvip, later) in [(u64::MAX, !0x40), (0, 0)] {
+            for (eid, fid, a1) in [(0, 0, 9), (0, 1, 9), (EID_TIME, 0, 0)] {
+                let mut v = ecall(&[(A7, eid), (A6, fid), (A0, a0), (A1, 9)]);
+                v.hvip = hvip;
+                let mut want = Vcpu { hvip: later, vstimecmp: a0, sepc: 4, ..v.clone() };
+                (want.x[A0], want.x[A1], want.counts[0]) = (0, a1, 1);
+                assert_eq!(v.start(&trap(10)), Reply::Exit(Exit::Nothing));
+                assert_eq!(v, want);
+            }
+        }
+        let mut v = ecall(&[(A7, EID_TIME), (A6, 1), (A0, a0)]);
+        v.hvip = u64::MAX;
+        v.start(&trap(10));
+        assert_eq!((v.x[A0], v.hvip), (NOT_SUPPORTED, u64::MAX));
+    }
+}
+
+/// 02, W1: by stval and by a fetched word.
+#[test]
+fn a_csr_write_to_stimecmp_changes_no_hvip_bit() {
+    for funct3 in [1, 2, 3, 5, 6, 7] {
+        // rd 6, field 7; each form changes vstimecmp.
+        let word: u32 = 0x14d << 20 | 7 << 15 | funct3 << 12 | 6 << 7 | 0x73;
+        let mut by_stval = ecall(&[(7, 0b1100)]);
+        (by_stval.hvip, by_stval.vstimecmp) = (u64::MAX, 0b1010);
+        let mut by_fetch = by_stval.clone();
+        by_stval.start(&Trap { stval: word as u64, ..trap(22) });
+        by_fetch.start(&trap(22));
+        by_fetch.answer(&Answer::Fetch(FetchAnswer::Word(word)));
+        for v in [by_stval, by_fetch] {
+            assert_ne!(v.vstimecmp, 0b1010);
+            assert_eq!((v.hvip, v.sepc), (u64::MAX, 4));
+        }
+    }
+}
+
 #[test]
 fn htinst_is_compared_whole_and_decoded_low() {
     let start = |scause, htinst| Vcpu::zero().start(&Trap { htinst, ..trap(scause) });
