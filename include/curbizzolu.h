@@ -149,7 +149,8 @@ uint64_t vcpu_latch_hvip(struct vcpu *v, uint64_t bits);
 /* The result of VCPU_EXIT_SEND_IPI: VCPU_IPI_SUCCESS, VCPU_IPI_INVALID_PARAMETER; any other number is VCPU_IPI_FAILED. abi 0 is
  * VCPU_IPI_LEGACY, any other VCPU_IPI_SBI_V02. */
 uint64_t vcpu_complete_ipi(struct vcpu *v, uint64_t abi, uint64_t completion);
-/* Starts a trap: an exit, an ask or an error. */
+/* Starts a trap: an exit, an ask or an error. The guest's set_timer calls (legacy 0, TIME fid 0) set vstimecmp and clear hvip bit 6;
+ * a CSR write to stimecmp changes no bit of hvip. */
 uint64_t vcpu_start(struct vcpu *v, const struct vcpu_trap *trap, struct vcpu_out *out);
 /* Answers the ask that waits: an exit, an ask or an error. A number that is no ask's is VCPU_WRONG_ANSWER. */
 uint64_t vcpu_answer(struct vcpu *v, const struct vcpu_answer_words *answer, struct vcpu_out *out);

@@ -1,8 +1,8 @@
 #!/usr/bin/env python3
 """Small wrong changes of the code, and whether the prover refuses them.
 
-    tools/mutants.py list [--crate NAME..] [--each N] [--most N]
-    tools/mutants.py run PART/PARTS [--crate NAME..] [--each N] [--most N] [--jobs N] [--again] [--later]
+    tools/mutants.py list [--crate NAME..] [--function NAME..] [--each N] [--most N]
+    tools/mutants.py run PART/PARTS [--crate NAME..] [--function NAME..] [--each N] [--most N] [--jobs N] [--again] [--later]
     tools/mutants.py table              writes the tables of docs/MUTANTS.md from the results
     tools/mutants.py edits [NAME..]     tries edits/CRATE/*.edit: each must be refused, or the exit status is 1
 
@@ -28,6 +28,7 @@ the change, so a function that moves keeps its results. After a definition chang
 It checks a copy of the crate below target/mutants over an incremental folder, some three seconds a mutant.
 """
 import argparse
+import fcntl
 import hashlib
 import importlib.util
 import json
@@ -376,8 +377,8 @@ def listed_crates():
     return deps
 
 
-def mutants(crates, each, most):
-    """Every mutant of the crates, or a fixed choice of them, by crate and function."""
+def mutants(crates, each, most, only=()):
+    """Every mutant of the crates or of some functions of theirs, or a fixed choice of them, by crate and function."""
     deps, chosen = listed_crates(), []
     texts = {}
     for crate in deps:
@@ -388,6 +389,8 @@ def mutants(crates, each, most):
         known = types_of([(c, text) for c in near for _, text in texts[c]])
         for file, source in texts[crate]:
             for name, start, end, body in functions(source):
+                if only and name not in only:
+                    continue
                 seen, of_function = set(), []
                 for rule, a, b, new in Body(crate, source, body, known).all():
                     m = Mutant(crate, file, name, (start, end), source, rule, a, b, new)
@@ -418,12 +421,27 @@ def kit():
     return home, f"{home}/on/{os.uname().machine}"
 
 
+LOCKS = {}
+
+
+def take(worker):
+    """The worker's folder is this run's alone: another run would put links to the repository where this one has its copy."""
+    if worker not in LOCKS:
+        os.makedirs(WORK, exist_ok=True)
+        LOCKS[worker] = open(f"{WORK}/work{worker}.lock", "w")
+        try:
+            fcntl.flock(LOCKS[worker], fcntl.LOCK_EX | fcntl.LOCK_NB)
+        except BlockingIOError:
+            sys.exit(f"tools/mutants.py: another run is at work in target/mutants/work{worker}")
+
+
 class Copy:
     """A repository that holds a copy of one crate, and links to all else."""
 
     def __init__(self, crate, deps, worker):
         self.crate, self.deps, self.root = crate, deps, f"{WORK}/work{worker}"
         self.home, self.own = kit()
+        take(worker)
         shutil.rmtree(f"{self.root}/crates", ignore_errors=True)
         for folder in ("crates", "target/gen", "tools", f"target/inc/{crate}"):
             os.makedirs(f"{self.root}/{folder}", exist_ok=True)
@@ -438,6 +456,8 @@ class Copy:
         self.reset()
 
     def reset(self):
+        if os.path.islink(self.dir):
+            sys.exit(f"tools/mutants.py: {self.dir} is a link, and no copy")
         for part in ("src", "specs", "proofs", "data", "stdin", "stdout", "args"):
             original, copy = f"{ROOT}/crates/{self.crate}/{part}", f"{self.dir}/{part}"
             shutil.rmtree(copy, ignore_errors=True)
@@ -575,8 +595,8 @@ class Prover:
         for block in re.split(r"^help: write ", said, flags=re.M)[1:]:
             path = block.split(" ", 1)[0]
             function = path.rsplit("/", 2)[1]
-            if function not in functions:
-                continue
+            if function not in functions or function not in definition:
+                continue  # another function's, or one whose promise prove.py does not read: no proof is written
             frame = "\n".join(line[4:] for line in block.split("\n")[1:] if line.startswith("    "))
             lts = f"{generated}/Rattle.{crate}.proofs/proofs/{function}/Lts.antt"
             try:
@@ -692,7 +712,7 @@ def run(args, crates, deps):
                     for k in range(args.jobs)]
         sys.exit(max(child.wait() for child in children))
     known = {} if args.again else results()
-    work = [group for k, group in enumerate(mutants(crates, args.each, args.most)) if k % parts == part - 1]
+    work = [group for k, group in enumerate(mutants(crates, args.each, args.most, args.function)) if k % parts == part - 1]
     os.makedirs(WORK, exist_ok=True)
     ready(sorted({group[0].crate for group in work if group}))
     prover = Prover()
@@ -832,6 +852,7 @@ def main():
     parser.add_argument("part", nargs="?", default="")
     parser.add_argument("names", nargs="*")
     parser.add_argument("--crate", nargs="+", default=[])
+    parser.add_argument("--function", nargs="+", default=[])
     parser.add_argument("--each", type=int, default=0)
     parser.add_argument("--most", type=int, default=0)
     parser.add_argument("--jobs", type=int, default=1)
@@ -844,7 +865,7 @@ def main():
         sys.exit(f"tools/mutants.py: not in crates.txt: {' '.join(unknown)}")
     crates = args.crate or list(deps)
     if args.command == "list":
-        for group in mutants(crates, args.each, args.most):
+        for group in mutants(crates, args.each, args.most, args.function):
             for m in group:
                 print(m.name)
     elif args.command == "run":

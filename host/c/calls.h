@@ -1,6 +1,8 @@
 /* Calls on a record as words, made up from a seed and made on the library: host/tests/common/mod.rs in C. The two make the same
  * calls from the same seed, so that a run in Rust, which is held against a plain Rust program, and a run in C on any processor
  * end in the same sum. C leaves the order of arguments open, so each number is drawn in a statement of its own. */
+#ifndef CALLS_H
+#define CALLS_H
 #include "curbizzolu.h"
 
 #include <inttypes.h>
@@ -316,3 +318,5 @@ static word sum_given(word sum, const word *record, const struct reply *r) {
 static word sum_call(word sum, const word *record, const struct reply *r) {
     return sum_given(sum_word(sum, r->code), record, r);
 }
+
+#endif

@@ -42,7 +42,7 @@ pub struct Vcpu {
     pub vstimecmp: u64,
     /// hie for the guest.
     pub hie: u64,
-    /// The guest's pending interrupts.
+    /// The guest's pending interrupts. A guest's set_timer call, legacy 0 or TIME fid 0, clears bit 6, the timer's.
     pub hvip: u64,
     /// hgeie for the guest.
     pub hgeie: u64,
@@ -283,11 +283,13 @@ impl Vcpu {
     /// ```
     /// # use curbizzolu::{Exit, Step, Trap, Vcpu};
     /// let mut vcpu = Vcpu::new(0, 0);
+    /// vcpu.latch_hvip(1 << 6 | 1 << 2)?; // a tick and an IPI are pending
     /// vcpu.set_gpr(17, 0x54494D45)?; // a7: TIME
     /// vcpu.set_gpr(10, 1000)?;
     /// let step = vcpu.start(&Trap { scause: 10, ..Trap::default() })?;
     /// assert_eq!(step, Step::Exit(Exit::Nothing));
     /// assert_eq!((vcpu.vstimecmp, vcpu.sepc, vcpu.counts[0]), (1000, 4, 1));
+    /// assert_eq!(vcpu.hvip, 1 << 2); // the old tick is gone
     /// # Ok::<(), curbizzolu::Error>(())
     /// ```
     #[inline(always)]

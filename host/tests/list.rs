@@ -16,8 +16,9 @@ const CALLS: u64 = 700;
 /// Of the first 3,000 seeds the one whose calls reach everything and the most different outcomes (`search` finds it).
 const SEED: u64 = 1166;
 
-/// Each row of document 01's lists once, whatever the seed finds: words of the record, and a call. tools/definitions.py says which
-/// wrong definitions no line notices; the rows are what those needed, and their neighbours.
+/// Each row of document 01's lists once, whatever the seed finds, and what the requests of document 02 changed in them: words of the
+/// record, and a call. tools/definitions.py says which wrong definitions no line notices; the rows are what those needed, and their
+/// neighbours.
 fn rows() -> Vec<(Vec<(usize, u64)>, Call)> {
     const TOP: u64 = 1 << 63;
     let mut rows: Vec<(Vec<(usize, u64)>, Call)> = vec![];
@@ -174,9 +175,14 @@ fn rows() -> Vec<(Vec<(usize, u64)>, Call)> {
     rows
 }
 
-/// A record whose words are all different, with nothing waiting: the numbers behind the kind are nobody's.
+/// A record whose words are all different, with nothing waiting: the numbers behind the kind are nobody's. hvip has the three bits
+/// that calls change, so that a call which clears one and should not is noticed.
 fn spread() -> Record {
-    std::array::from_fn(|i| if i == 54 { 0 } else { (i as u64 + 1).wrapping_mul(0x0123_4567_89ab_cdef) })
+    std::array::from_fn(|i| match i {
+        54 => 0,
+        42 => 43_u64.wrapping_mul(0x0123_4567_89ab_cdef) | 0x444,
+        _ => (i as u64 + 1).wrapping_mul(0x0123_4567_89ab_cdef),
+    })
 }
 
 /// The list of a seed: a line for each word that the run writes into the record and for each call. A line is the call's six

@@ -8,7 +8,11 @@ use mathlib.Core.Path.{_≡_, refl, ap, sym, subst, _∙_}
 use lib.Bits.{and-shr, and-step, bitAnd}
 use lib.Dec.{eqb}
 use Rattle.isa_types.specs.Pick.{and, pick}
-use Rattle.isa_registers.specs.Bits.{bitOf, withBits}
+use Rattle.isa_registers.specs.Bits.{withBits}
+
+-- bit i of a number
+unfoldable pub bitOf : ℕ → ℕ → ℕ
+bitOf n i = n / 2 ^ i % 2
 
 -- a test of every number below n
 abbrev allBelow : ℕ → (ℕ → Bool) → Bool

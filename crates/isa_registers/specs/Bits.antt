@@ -16,7 +16,3 @@ sieOf vsstatus = eqb (vsstatus / 2 ^ 1 % 2) 1
 -- the bits of a mask set, or cleared
 unfoldable pub withBits : ℕ → ℕ → Bool → ℕ
 withBits n mask on = pick on (bitOr n mask) (bitAnd n (2 ^ 64 - 1 - mask))
-
--- bit i of a number
-unfoldable pub bitOf : ℕ → ℕ → ℕ
-bitOf n i = n / 2 ^ i % 2

@@ -1,1 +1,2 @@
+pub mod Hvip
 pub mod SetTimer

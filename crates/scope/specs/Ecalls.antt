@@ -85,7 +85,7 @@ notSupportedEffect c = returnsOf c notSupported 0
 unfoldable pub forwardEffect : Csrs → Event → ℕ → ℕ → Args → Effect
 forwardEffect c e eid fid a = askingOf c e (waiting.Ecall asked.Forward) (ask.Forward eid fid a)
 
--- SBI, 'Timer Extension'. fid 0: event 1, vstimecmp = a0, return 0, 0
+-- SBI, 'Timer Extension'; 02, W1. fid 0: event 1, vstimecmp = a0, clear hvip bit 6, return 0, 0
 unfoldable pub timeEffect : Csrs → ℕ → Args → Effect
 timeEffect c fid a = pick (eqb fid 0) (setTimerOf c (a .a0) (writes.Pair 0 0)) (notSupportedEffect c)
 

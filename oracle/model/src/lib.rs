@@ -1,6 +1,7 @@
-//! Document 01's exit handler as a plain program, written from 01 and the
-//! recorded readings of it alone. It judges the published Rust and the proved
-//! library; it shares no line with either.
+//! Document 01's exit handler as a plain program, written from 01, the
+//! requests of 02 that have landed (W1) and the recorded readings of both
+//! alone. It judges the published Rust and the proved library; it shares no
+//! line with either.
 
 #![forbid(unsafe_code)]
 
