@@ -377,13 +377,16 @@ def listed_crates():
     return deps
 
 
+def texts_of(crate):
+    """Its files of code, each with its name."""
+    folder = f"{ROOT}/crates/{crate}/src"
+    return [(f, open(f"{folder}/{f}").read()) for f in sorted(os.listdir(folder)) if f.endswith(".rt")]
+
+
 def mutants(crates, each, most, only=()):
     """Every mutant of the crates or of some functions of theirs, or a fixed choice of them, by crate and function."""
     deps, chosen = listed_crates(), []
-    texts = {}
-    for crate in deps:
-        folder = f"{ROOT}/crates/{crate}/src"
-        texts[crate] = [(f, open(f"{folder}/{f}").read()) for f in sorted(os.listdir(folder)) if f.endswith(".rt")]
+    texts = {crate: texts_of(crate) for crate in deps}
     for crate in crates:
         near = [d for d in deps[crate] if d in texts] + [crate]
         known = types_of([(c, text) for c in near for _, text in texts[c]])
@@ -707,6 +710,7 @@ def ready(names):
 def run(args, crates, deps):
     part, parts = map(int, args.part.split("/"))
     if args.jobs > 1:
+        ready(crates)  # once: two checks at a time in one target/ would each find the other's crates half made
         words = [w for w in sys.argv[3:]] + ["--jobs", "1"]
         children = [subprocess.Popen([sys.executable, os.path.abspath(__file__), "run", f"{(part - 1) * args.jobs + k + 1}/{parts * args.jobs}", *words])
                     for k in range(args.jobs)]
@@ -864,6 +868,10 @@ def main():
     if unknown:
         sys.exit(f"tools/mutants.py: not in crates.txt: {' '.join(unknown)}")
     crates = args.crate or list(deps)
+    there = {name for crate in crates for _, source in texts_of(crate) for name, *_ in functions(source)} if args.function else ()
+    unknown = [name for name in args.function if name not in there]
+    if unknown:
+        sys.exit(f"tools/mutants.py: no function of these crates: {' '.join(unknown)}")
     if args.command == "list":
         for group in mutants(crates, args.each, args.most, args.function):
             for m in group:

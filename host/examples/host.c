@@ -65,6 +65,11 @@ int main(void) {
         vcpu_complete_ipi(&v, out.word[2], VCPU_IPI_SUCCESS);
     }
 
+    vcpu_set_pending(&v, VCPU_VECTOR_TIMER, 1);
+    v.x[17] = 0x54494D45, v.x[16] = 0, v.x[10] = 0x100000;
+    given = handle(&v, ecall, &out);
+    printf("TIME while a tick is pending: exit %" PRIu64 ", vstimecmp %#" PRIx64 ", hvip %#" PRIx64 "\n", given, v.vstimecmp, v.hvip);
+
     load(&v, "a fetch that faults", 0, 0);
     printf("out of turn: %#" PRIx64 "\n", vcpu_complete_load(&v, 0));
     return 0;

@@ -81,6 +81,13 @@ fn main() -> Result<(), Error> {
     }
     handle(&mut vcpu, "An IPI:", ecall, 0)?;
 
+    vcpu.inject_interrupt(S_TIMER)?;
+    for (register, value) in [(17, 0x5449_4D45), (16, 0), (10, 0x10_0000)] {
+        vcpu.set_gpr(register, value)?;
+    }
+    handle(&mut vcpu, "A deadline, by TIME, while the last tick is pending:", ecall, 0)?;
+    println!("  its next tick is due at {:#x}, and the last is dropped: hvip is {:#x}", vcpu.vstimecmp, vcpu.hvip);
+
     handle(&mut vcpu, "A load with no instruction in htinst:", load(0), 0)?;
     println!("  the guest takes fault {} at {:#x} itself", vcpu.vscause, vcpu.vstval);
     println!("A load completed with none waiting is refused: {}", vcpu.complete_load(0).unwrap_err());

@@ -1,4 +1,4 @@
-//! The fixed list of calls and replies, crates/test_call_list/data/list. oracle/from01, the plain Rust program of document 01, makes
+//! The fixed list of calls and replies, crates/test_call_list/data/list. oracle/from01, a plain Rust program of 01 and 02, makes
 //! it; the program `test_call_list` (in the gate), host/c/list.c (on any processor) and the test below run it.
 //!
 //!     WRITE_LIST=1 cargo test --test list

@@ -1,5 +1,5 @@
 //! Random calls in random order (out of turn, wrong answers, bad arguments, arbitrary words in the record) on the library and on
-//! the safe interface, each held against oracle/from01, the plain Rust program of document 01: the reply and all 58 words.
+//! the safe interface, each held against oracle/from01, a plain Rust program of documents 01 and 02: the reply and all 58 words.
 //!
 //! CALLS and SEED change how many and which; tools/million runs a million.
 

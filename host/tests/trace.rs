@@ -1,6 +1,6 @@
-//! The fixed list of calls with every word written out: for each line the record before it, the call, what oracle/from01, the plain
-//! Rust program of document 01, returns, the words of `out`, and the record after it. tools/definitions.py holds the definitions to
-//! it. No call is made on the library.
+//! The fixed list of calls with every word written out: for each line the record before it, the call, what oracle/from01, a plain
+//! Rust program of documents 01 and 02, returns, the words of `out`, and the record after it. tools/definitions.py holds the
+//! definitions to it. No call is made on the library.
 //!
 //!     TRACE=FILE cargo test --test trace
 

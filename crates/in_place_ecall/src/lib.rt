@@ -20,8 +20,8 @@ pub fn do_call(r: &mut [u64; 58], out: &mut [u64; 8], d: SbiCall) -> u64
             in_place_write::step(r, 4);
             0
         }
-        SbiCall::LegacyTimer(deadline) => {
-            in_place_write::timer(r, deadline);
+        SbiCall::LegacyTimer(a0) => {
+            in_place_write::timer(r, a0);
             in_place_record::give(r, 0);
             0
         }

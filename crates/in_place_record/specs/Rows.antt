@@ -74,7 +74,7 @@ stepWords r n = movedWords (set r 54 0) n
 unfoldable pub bumpWords : List ℕ → ℕ → List ℕ
 bumpWords r n = pick (eqb n 0) r (pick (ltb n 10) (set r (n + 44) (wrapped (getD r (n + 44) 0 + 1))) r)
 
--- the timer's pending bit is cleared, the timer set, and event 1 counted
+-- 01, Ecalls; 02, W1: the timer's pending bit is cleared, the timer set, and event 1 counted
 unfoldable pub timerWords : List ℕ → ℕ → List ℕ
 timerWords r d = bumpWords (set (set r 42 (withBits (getD r 42 0) vstip false)) 40 d) 1
 

@@ -58,14 +58,15 @@ HvipKept v u = u .csrs .hs .hvip ≡ v .csrs .hs .hvip
 unfoldable pub ecallTouches : ℕ → ℕ → Bool
 ecallTouches eid fid = or (eqb eid legacySetTimer) (or (eqb eid legacyClearIpi) (and (eqb eid eidTime) (eqb fid 0)))
 
--- a new record and setup, which leave 0; an interrupt set pending or cleared, and latching; three ecalls. eid is a7 (x17), fid a6 (x16)
+-- a new record and setup, which leave 0; an interrupt set pending or cleared, and latching; three ecalls, unless something waits and
+-- the start is refused. eid is a7 (x17), fid a6 (x16)
 unfoldable pub touchesHvip : Vcpu → HostCall → Bool
 touchesHvip v (hostCall.New hart tree) = true
 touchesHvip v hostCall.Setup = true
 touchesHvip v (hostCall.SetPending vector level) = true
 touchesHvip v (hostCall.LatchHvip bits) = true
 touchesHvip v (hostCall.Start t) =
-    and (eqb (t .scause) envCallFromVs) (ecallTouches (getD (v .x) 17 0) (getD (v .x) 16 0))
+    and (eqb (t .scause) envCallFromVs) (and (isIdle (v .waiting)) (ecallTouches (getD (v .x) 17 0) (getD (v .x) 16 0)))
 touchesHvip v (hostCall.SetEntry at) = false
 touchesHvip v (hostCall.GetGpr index) = false
 touchesHvip v (hostCall.SetGpr index value) = false
@@ -216,10 +217,16 @@ refused-keeps : (c : Csrs) (n : Waiting) (b : Bool) {e : Effect} → Keeps c e �
 unfolding refusedOf leavesOf
 refused-keeps c n b k = either b k (record { hvip = refl })
 
-start-keeps : (x : List ℕ) (c : Csrs) (n : Waiting) (t : Trap) → and (eqb (t .scause) envCallFromVs) (ecallTouches (getD x 17 0) (getD x 16 0)) ≡ false
+start-by : (x : List ℕ) (c : Csrs) (n : Waiting) (t : Trap) (b : Bool) → and (eqb (t .scause) envCallFromVs) (and b (ecallTouches (getD x 17 0) (getD x 16 0))) ≡ false
+    → Keeps c (pick b (classEffect (classOf (t .scause)) x c t) (refusedOf c n error.BadState))
+unfolding classOf classBehind refusedOf leavesOf
+start-by x c n t true h = cause-keeps x c t (eqb (t .scause) envCallFromVs) h
+start-by x c n t false h = record { hvip = refl }
+
+start-keeps : (x : List ℕ) (c : Csrs) (n : Waiting) (t : Trap) → and (eqb (t .scause) envCallFromVs) (and (isIdle n) (ecallTouches (getD x 17 0) (getD x 16 0))) ≡ false
     → Keeps c (startEffect x c n t)
-unfolding startEffect classOf classBehind
-start-keeps x c n t h = refused-keeps c n (isIdle n) (cause-keeps x c t (eqb (t .scause) envCallFromVs) h)
+unfolding startEffect
+start-keeps x c n t h = start-by x c n t (isIdle n) h
 
 -- answers
 

@@ -46,8 +46,8 @@ pub record Ecalls (v : Vcpu) (t : Trap) : Type 0 where
   pub cause : t .scause ≡ envCallFromVs
 
 -- the request, of any call c on any record v that leaves u. eid is a7 (x17), fid a6 (x16). A stimecmp instruction comes in stval, or is
--- fetched: the two lines about it hold of every virtual instruction, every answer and every refusal. "Nothing else moves": of hvip
--- the last line says it, of all else the definitions that no line of this request touched
+-- fetched: the two lines about it hold of every virtual instruction and every answer. "Nothing else moves": the last line says that no
+-- call touches hvip but those that `touchesHvip` lists; that their own rows stayed is seen from the change alone
 pub record W1 (v u : Vcpu) (c : HostCall) : Type 0 where
   pub legacy-0 : (t : Trap) → c ≡ hostCall.Start t → Ecalls v t → getD (v .x) 17 0 ≡ legacySetTimer → TickDropped v u
   pub time-0 : (t : Trap) → c ≡ hostCall.Start t → Ecalls v t → getD (v .x) 17 0 ≡ eidTime → getD (v .x) 16 0 ≡ 0 → TickDropped v u
@@ -88,7 +88,8 @@ time-0-drops v t h eid fid =
 
 virtual-elsewhere : (v : Vcpu) (t : Trap) → t .scause ≡ virtualInstruction → touchesHvip v (hostCall.Start t) ≡ false
 unfolding touchesHvip
-virtual-elsewhere v t cause = ap (λ (n : ℕ). and (eqb n envCallFromVs) (ecallTouches (getD (v .x) 17 0) (getD (v .x) 16 0))) cause
+virtual-elsewhere v t cause =
+    ap (λ (n : ℕ). and (eqb n envCallFromVs) (and (isIdle (v .waiting)) (ecallTouches (getD (v .x) 17 0) (getD (v .x) 16 0)))) cause
 
 answer-elsewhere : (v : Vcpu) (a : Answer) → touchesHvip v (hostCall.Answer a) ≡ false
 unfolding touchesHvip

@@ -1,5 +1,5 @@
-//! Calls on a record as words: made up from a seed, made on the library, on the safe interface and on oracle/from01, the plain Rust
-//! program of document 01 over words. host/c/calls.h makes the same calls from the same seed.
+//! Calls on a record as words: made up from a seed, made on the library, on the safe interface and on oracle/from01, a plain Rust
+//! program of documents 01 and 02 over words. host/c/calls.h makes the same calls from the same seed.
 #![allow(dead_code)]
 
 use curbizzolu as api;
@@ -468,7 +468,7 @@ fn step(result: Result<api::Step, api::Error>, out: &mut [u64; 8]) -> u64 {
     }
 }
 
-// ---- the plain Rust program of document 01
+// ---- the plain Rust program of documents 01 and 02
 
 /// Makes the call on from01. The reply in the words of the library: a hypercall's array stands from word 2 of `out` on.
 pub fn by_from01(record: &mut Record, call: &Call) -> Reply {

@@ -22,7 +22,7 @@ pub trait Subject {
     fn to_print<'a>(&self, buffer: &'a [u8]) -> &'a [u8];
 }
 
-/// The plain program of document 01.
+/// The plain program of documents 01 and 02.
 pub struct Model(pub Vcpu);
 
 impl Subject for Model {

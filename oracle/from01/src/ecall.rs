@@ -37,13 +37,19 @@ fn asks(r: &mut Record, waits: Waits, number: u64, carried: &[u64]) -> Reply {
     ask(number, carried)
 }
 
-/// Both calls: "event 1, vstimecmp = a0", and "Legacy 0 and TIME fid 0 shall
-/// clear hvip bit 6 as well as set vstimecmp" (02, W1): no other bit, whatever
-/// a0 is, also where bit 6 was 0 (reading).
-fn sets_timer(r: &mut Record) {
+/// What legacy 0 and TIME 0 share.
+fn set_timer(r: &mut Record) {
+    // "event 1, vstimecmp = a0".
     r.count(1);
     r.set(VSTIMECMP, r.x(A0));
-    r.set(HVIP, r.get(HVIP) & !(1 << 6));
+    // "Legacy 0 and TIME fid 0 shall clear hvip bit 6 as well as set
+    // vstimecmp" (W1): whatever a0 is (reading).
+    clear_hvip(r, 6);
+}
+
+/// Clears this bit of hvip and no other, also where it was not set (reading).
+fn clear_hvip(r: &mut Record, bit: u32) {
+    r.set(HVIP, r.get(HVIP) & !(1 << bit));
 }
 
 /// "eid is a7, fid a6." Both are compared on all 64 bits (reading).
@@ -54,7 +60,7 @@ pub fn start(r: &mut Record, room: u64) -> Reply {
         (0..=8, _) => legacy(r, eid),
         // "TIME 0x54494D45, fid 0: event 1, vstimecmp = a0, return 0, 0."
         (TIME, 0) => {
-            sets_timer(r);
+            set_timer(r);
             returns(r, 0, 0)
         }
         // "sPI 0x735049, fid 0: move on, SendIpi(a0, a1, v0.2)."
@@ -131,7 +137,7 @@ fn legacy(r: &mut Record, eid: u64) -> Reply {
     match eid {
         // "Legacy 0: event 1, vstimecmp = a0, then a0 = 0."
         0 => {
-            sets_timer(r);
+            set_timer(r);
             r.set_x(A0, 0);
             moves_on(r)
         }
@@ -141,7 +147,7 @@ fn legacy(r: &mut Record, eid: u64) -> Reply {
         2 => asks(r, Waits::GetCharacter, ASK_GET_CHARACTER, &[]),
         // "3: clear hvip bit 2, a0 = 0."
         3 => {
-            r.set(HVIP, r.get(HVIP) & !(1 << 2));
+            clear_hvip(r, 2);
             r.set_x(A0, 0);
             moves_on(r)
         }

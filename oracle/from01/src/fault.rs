@@ -96,6 +96,7 @@ fn virtual_instruction(r: &mut Record, word: u32) -> Reply {
         (2 | 6, _) => old | operand,
         (_, _) => old & !operand,
     };
+    // "A CSR write to stimecmp still changes no hvip bit." (W1)
     r.set(VSTIMECMP, new);
     // "Move on by 4; exit Nothing."
     r.move_on(4);

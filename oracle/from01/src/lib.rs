@@ -2,10 +2,11 @@
 //!
 //! ## The source
 //!
-//! It is written to be read beside 01 and 02: each rule stands under the
-//! sentence that it follows. Quotes are 01's, or 02's where a request is named
-//! beside them. "(reading)" marks a point that they leave open and a recorded
-//! reading settles, "(words)" one of the layout as words.
+//! It is written to be read beside 01 and the requests of 02 that have landed:
+//! each rule stands under the sentence that it follows. Quotes are 01's; one
+//! from a request has the request's name behind it, as "(W1)". "(reading)"
+//! marks a point that they leave open and a recorded reading settles,
+//! "(words)" one of the layout as words.
 
 #![forbid(unsafe_code)]
 

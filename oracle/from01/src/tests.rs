@@ -1,5 +1,5 @@
 //! The marked cases, the refusal table, the rules of the waiting words and
-//! each rule of 01 and of 02's W1 by an example.
+//! each rule of 01 by an example; then W1 with what it says stays.
 
 use super::*;
 
@@ -735,32 +735,6 @@ fn legacy_calls() {
     }
 }
 
-/// 02, W1: bit 6 and no other, whatever a0 is; nothing else moves.
-#[test]
-fn set_timer_clears_hvip_bit_6() {
-    for a0 in [0, u64::MAX] {
-        for (hvip, left) in [(u64::MAX, !0x40), (0, 0)] {
-            // a1 is written by TIME alone.
-            let a1 = filled()[11];
-            for (eid, fid, a1) in [(0, 0, a1), (0, 1, a1), (0x54494D45, 0, 0)] {
-                let mut w = changed(ecall_record(eid, fid, &[a0]), &[(HVIP, hvip)]);
-                let later = [
-                    (HVIP, left),
-                    (VSTIMECMP, a0),
-                    (10, 0),
-                    (11, a1),
-                    (SEPC, next(&w)),
-                    (EVENTS, w[EVENTS] + 1),
-                ];
-                ecall(&mut w, nothing(), &later);
-            }
-        }
-        let mut w = changed(ecall_record(0x54494D45, 1, &[a0]), &[(HVIP, u64::MAX)]);
-        let later = [(10, NOT_SUPPORTED), (11, 0), (SEPC, next(&w))];
-        ecall(&mut w, nothing(), &later);
-    }
-}
-
 #[test]
 fn extensions_that_ask_nothing() {
     let sepc = next(&filled());
@@ -970,28 +944,6 @@ fn stimecmp_by_funct3() {
     }
 }
 
-/// 02, W1: by stval and by a fetched word.
-#[test]
-fn a_csr_write_to_stimecmp_changes_no_hvip_bit() {
-    // rd 6, field 7; x7 = 0b1100, old 0b1010. Each form changes vstimecmp.
-    for (funct3, new) in [
-        (1, 0b1100),
-        (2, 0b1110),
-        (3, 0b0010),
-        (5, 7),
-        (6, 0b1111),
-        (7, 0b1000),
-    ] {
-        let word = 0x14d << 20 | 7 << 15 | funct3 << 12 | 6 << 7 | 0x73;
-        let base = with(&[(HVIP, u64::MAX), (VSTIMECMP, 0b1010), (7, 0b1100)]);
-        let later = [(VSTIMECMP, new), (6, 0b1010), (SEPC, next(&base)), (54, 0)];
-        let mut w = base;
-        check(&mut w, 10, [22, word, 0, 0, 0], nothing(), &later);
-        let mut w = changed(base, &[(54, 2)]);
-        check(&mut w, 11, [1, word, 0, 0, 0], nothing(), &later);
-    }
-}
-
 #[test]
 fn fetch_faults() {
     for waits in [2, 3] {
@@ -1113,6 +1065,345 @@ fn loads_and_stores() {
     check(&mut w, 12, [5, 0, 0, 0, 0], done(), &[(54, 0)]);
 }
 
+// W1: set-timer drops the old tick, and nothing else moves
+
+const TICK: u64 = 0x40;
+
+/// The calls that set the timer, as a7 and a6: legacy 0 whatever a6 holds, and
+/// TIME 0.
+const SET_TIMER: [(u64, u64); 4] = [(0, 0), (0, 1), (0, u64::MAX), (0x54494D45, 0)];
+
+/// No tick and a tick, each alone and among all other bits.
+const HVIPS: [u64; 4] = [0, TICK, !TICK, u64::MAX];
+
+/// Each bit of hvip alone, and all bits but each.
+fn each_hvip() -> impl Iterator<Item = u64> {
+    (0..64).flat_map(|bit| [1 << bit, !(1 << bit)])
+}
+
+/// Sets the timer by this call and compares the whole later record.
+#[track_caller]
+fn set_timer(mut w: [u64; 58], (eid, fid): (u64, u64), deadline: u64) {
+    w = changed(w, &[(17, eid), (16, fid), (10, deadline)]);
+    let later = [
+        (HVIP, w[HVIP] & !TICK),
+        (VSTIMECMP, deadline),
+        (EVENTS, w[EVENTS].wrapping_add(1)),
+        (10, 0),
+        // Legacy 0 leaves a1.
+        (11, if eid == 0 { w[11] } else { 0 }),
+        (SEPC, next(&w)),
+        (54, 0),
+    ];
+    ecall(&mut w, nothing(), &later);
+}
+
+/// Starts a trap and answers what it asks, a load's completion last. No call
+/// on the way may change hvip.
+#[track_caller]
+fn trap_keeps_hvip(mut w: [u64; 58], numbers: [u64; 5], fail: bool) {
+    let hvip = w[HVIP];
+    let mut reply = call(&mut w, 10, numbers);
+    assert_eq!(w[HVIP], hvip, "start {numbers:x?}");
+    while reply.kind == 1 {
+        let (word, more) = match reply.number {
+            _ if fail => (9, 9),
+            1 => (0x2383, 0),
+            2 => (8, 1),
+            5 => (0, 4),
+            _ => (4, 4),
+        };
+        reply = call(&mut w, 11, [reply.number, word, more, 0, 0]);
+        assert_eq!(w[HVIP], hvip, "answer after {numbers:x?}");
+    }
+    call(&mut w, 12, [0; 5]);
+    assert_eq!(w[HVIP], hvip, "load after {numbers:x?}");
+}
+
+#[test]
+fn w1_set_timer_clears_bit_6_and_no_other() {
+    for row in SET_TIMER {
+        for hvip in each_hvip().chain(HVIPS) {
+            set_timer(with(&[(HVIP, hvip)]), row, 5);
+        }
+    }
+}
+
+#[test]
+fn w1_set_timer_clears_whatever_the_deadline() {
+    // Before, at and after the old deadline; never; one that is a mask of hvip.
+    for row in SET_TIMER {
+        for hvip in HVIPS {
+            for old in [0, 7, TOP, u64::MAX] {
+                for deadline in [0, 1, 6, 7, 8, TICK, !TICK, 1 << 32, TOP - 1, TOP]
+                    .into_iter()
+                    .chain([TOP + 5, u64::MAX - 1, u64::MAX])
+                {
+                    set_timer(with(&[(HVIP, hvip), (VSTIMECMP, old)]), row, deadline);
+                }
+            }
+        }
+    }
+}
+
+#[test]
+fn w1_set_timer_clears_whatever_else_the_record_holds() {
+    for row in SET_TIMER {
+        for hvip in HVIPS {
+            for (word, number) in [
+                (HIE, 0),
+                (HIE, 0x444),
+                (HIE, !TICK),
+                (HIE, u64::MAX),
+                (HGEIE, u64::MAX),
+                (SSTATUS, 0),
+                (SSTATUS, 0x2102),
+                (HSTATUS, 0x2_0000_0180), // from supervisor mode
+                (VSSTATUS, 0),
+                (VSSTATUS, 2),
+                (SEPC, u64::MAX - 3),
+                (EVENTS, u64::MAX),
+                (WAITS, 13), // an unknown kind: nothing waits
+                (WAITS, u64::MAX),
+            ] {
+                set_timer(with(&[(HVIP, hvip), (word, number)]), row, 5);
+            }
+        }
+    }
+}
+
+#[test]
+fn w1_other_fids_of_time_keep_hvip() {
+    for hvip in each_hvip().chain(HVIPS) {
+        for fid in [1, 2, 6, TICK, 1 << 32, TOP, u64::MAX] {
+            let mut w = changed(ecall_record(0x54494D45, fid, &[5]), &[(HVIP, hvip)]);
+            let later = [(10, NOT_SUPPORTED), (11, 0), (SEPC, next(&w))];
+            ecall(&mut w, nothing(), &later);
+        }
+    }
+}
+
+#[test]
+fn w1_legacy_3_clears_bit_2_and_no_other() {
+    for hvip in each_hvip().chain(HVIPS) {
+        for fid in [0, 5, u64::MAX] {
+            let mut w = changed(ecall_record(3, fid, &[5]), &[(HVIP, hvip)]);
+            let later = [(HVIP, hvip & !4), (10, 0), (SEPC, next(&w))];
+            ecall(&mut w, nothing(), &later);
+        }
+    }
+}
+
+#[test]
+fn w1_other_ecalls_keep_hvip() {
+    // Each row of 01 but legacy 0, legacy 3 and TIME, and eids that are nearly
+    // legacy 0 or TIME. a2 = 0 and a0 = 4 make the console ask.
+    let eids = [1, 2, 4, 5, 6, 7, 8, 9, 0x10, 1 << 32, TOP, u64::MAX]
+        .into_iter()
+        .chain([0x735049, 0x48534D, 0x485643, 0x53525354, 0x4442434E])
+        .chain([0x52464E43, 0x504D55, 0x54494D44, 0x54494D46])
+        .chain([(1 << 32) + 0x54494D45, TOP + 0x54494D45]);
+    for eid in eids {
+        for fid in (0..=7).chain([u64::MAX]) {
+            for hvip in HVIPS {
+                for args in [[0, 0, 0], [4, 0x8000, 0], [4, 0x8000, 1]] {
+                    let w = changed(ecall_record(eid, fid, &args), &[(HVIP, hvip)]);
+                    trap_keeps_hvip(w, [10, 0, 0, 0, 4096], false);
+                    trap_keeps_hvip(w, [10, 0, 0, 0, 4096], true);
+                }
+            }
+        }
+    }
+}
+
+#[test]
+fn w1_csr_writes_keep_hvip() {
+    // The word in stval, and fetched after a start that asks for it. The
+    // registers are those of a set-timer call; x5 is the deadline, and field 0
+    // with funct3 2, 3, 6, 7 writes none.
+    for (eid, fid) in SET_TIMER {
+        for hvip in HVIPS {
+            for deadline in [0, 5, TICK, u64::MAX] {
+                let set = [(HVIP, hvip), (5, deadline), (VSTIMECMP, 0xf0)];
+                let base = changed(ecall_record(eid, fid, &[deadline]), &set);
+                for (funct3, field, new) in [
+                    (1, 5, deadline),
+                    (2, 5, 0xf0 | deadline),
+                    (3, 5, 0xf0 & !deadline),
+                    (5, 5, 5),
+                    (6, 5, 0xf5),
+                    (7, 16, 0xe0),
+                    (1, 0, 0),
+                    (2, 0, 0xf0),
+                    (3, 0, 0xf0),
+                    (5, 0, 0),
+                    (6, 0, 0xf0),
+                    (7, 0, 0xf0),
+                ] {
+                    for rd in [0, 10] {
+                        let word = 0x14d << 20 | field << 15 | funct3 << 12 | rd << 7 | 0x73;
+                        // No event is counted, and rd alone is written.
+                        let a0 = if rd == 10 { 0xf0 } else { deadline };
+                        let later = [(VSTIMECMP, new), (10, a0), (SEPC, next(&base)), (54, 0)];
+                        let mut w = base;
+                        check(&mut w, 10, [22, word, 0, 0, 0], nothing(), &later);
+
+                        let mut w = base;
+                        let fetch = ask(ASK_FETCH, &[w[SEPC], 0]);
+                        check(&mut w, 10, [22, 0, 0, 0, 0], fetch, &[(54, 2)]);
+                        check(&mut w, 11, [1, word, 0, 0, 0], nothing(), &later);
+                    }
+                }
+            }
+        }
+    }
+}
+
+#[test]
+fn w1_other_traps_keep_hvip() {
+    // Every class but the ecall from VS, with a set-timer call's registers:
+    // other ecalls (8, 9, 11), the timer interrupts (5, 6, 7), CSR
+    // instructions on sip, vsip, vstimecmp and hvip, faults at a fetch.
+    let exceptions = (0..=24).filter(|code| *code != 10).chain([(1 << 32) + 10]);
+    let interrupts = (0..=13).map(|code| TOP + code);
+    let words = [0x144, 0x244, 0x24d, 0x645, 0x14d].map(|csr| csr << 20 | 0x29073);
+    for row in SET_TIMER {
+        for hvip in HVIPS {
+            let base = changed(ecall_record(row.0, row.1, &[5]), &[(HVIP, hvip)]);
+            for scause in exceptions.clone().chain(interrupts.clone()) {
+                for htinst in [0, 0x2383, 0x702023, 0x3000, 4] {
+                    for fail in [false, true] {
+                        trap_keeps_hvip(base, [scause, 0, 0, htinst, 4096], fail);
+                    }
+                }
+            }
+            for word in words {
+                trap_keeps_hvip(base, [22, word, 0, 0, 0], false);
+            }
+            for waits in [2, 3] {
+                for more in 1..=5 {
+                    let mut w = changed(base, &[(WAITS, waits)]);
+                    call(&mut w, 11, [1, 5, more, 0, 0]);
+                    assert_eq!((w[HVIP], w[WAITS]), (hvip, 0));
+                }
+            }
+        }
+    }
+}
+
+#[test]
+fn w1_a_refused_set_timer_changes_nothing() {
+    for (eid, fid) in SET_TIMER {
+        for hvip in HVIPS {
+            // A load or an ask waits.
+            for waits in 1..=12 {
+                let set = [(HVIP, hvip), (WAITS, waits)];
+                let mut w = changed(ecall_record(eid, fid, &[5]), &set);
+                ecall(&mut w, error(2), &[]);
+                check(&mut w, 11, [0, 5, 0, 0, 0], error(7), &[]);
+            }
+        }
+    }
+}
+
+#[test]
+fn w1_an_answer_sets_no_timer() {
+    // The answers of a waiting ecall read no register: a7 and a6 of a
+    // set-timer call make them none. So with a fetch and a load.
+    for (eid, fid) in SET_TIMER {
+        for hvip in HVIPS {
+            for waits in 1..=12 {
+                for (word, more) in [(0, 0), (9, 0), (0, 9), (8, 8)] {
+                    let set = [(HVIP, hvip), (WAITS, waits), (55, 9)];
+                    let mut w = changed(ecall_record(eid, fid, &[5]), &set);
+                    let kept = [w[VSTIMECMP], w[HVIP], w[EVENTS]];
+                    match waits {
+                        1 => call(&mut w, 12, [word, 0, 0, 0, 0]),
+                        _ => {
+                            let number = ask_number(&mut w);
+                            call(&mut w, 11, [number, word, more, 0, 0])
+                        }
+                    };
+                    assert_ne!(w[WAITS], waits);
+                    assert_eq!([w[VSTIMECMP], w[HVIP], w[EVENTS]], kept);
+                }
+            }
+        }
+    }
+}
+
+#[test]
+fn w1_a_hosts_calls_on_hvip_stay() {
+    for (eid, fid) in SET_TIMER {
+        for hvip in HVIPS {
+            let base = changed(ecall_record(eid, fid, &[5]), &[(HVIP, hvip)]);
+            for (kind, numbers) in [
+                (2, [5; 5]),
+                (3, [17, 0, 0, 0, 0]),
+                (4, [10, 6, 0, 0, 0]),
+                (4, [17, 0x54494D45, 0, 0, 0]),
+                (4, [17, 0, 0, 0, 0]),
+                (4, [16, 0, 0, 0, 0]),
+                (5, [5; 5]),
+                (6, [3, 8, 0x4000, 0, 0]),
+                (7, [5, 0, 0, 0, 0]), // no vector
+                (7, [6, 0, 0, 0, 0]),
+                (9, [0; 5]),
+                (9, [1, 0, 0, 0, 0]),
+                (13, [5; 5]),
+            ] {
+                let mut w = base;
+                call(&mut w, kind, numbers);
+                assert_eq!(w[HVIP], hvip, "call {kind} {numbers:x?}");
+            }
+            for (kind, numbers, later) in [
+                (1, [0; 5], 0),
+                (7, [TOP + 1, 0, 0, 0, 0], hvip & !4),
+                (7, [TOP + 5, 0, 0, 0, 0], hvip & !TICK),
+                (7, [TOP + 5, 1, 0, 0, 0], hvip | TICK),
+                (7, [9, 0, 0, 0, 0], hvip & !0x400),
+                (8, [0; 5], hvip),
+                (8, [TICK, 0, 0, 0, 0], hvip | TICK),
+                (14, [0; 5], 0),
+            ] {
+                let mut w = base;
+                assert_eq!(call(&mut w, kind, numbers), done());
+                assert_eq!(w[HVIP], later, "call {kind} {numbers:x?}");
+            }
+        }
+    }
+}
+
+#[test]
+fn w1_a_later_tick_is_kept() {
+    // One record through it all: each set-timer call drops the tick that is
+    // there, by latch or by vector, and not the next one.
+    let mut w = [0; 58];
+    let mut step = |kind, numbers, hvip| {
+        call(&mut w, kind, numbers);
+        assert_eq!(w[HVIP], hvip, "call {kind} {numbers:x?}");
+    };
+    let start = [10, 0, 0, 0, 0];
+    step(1, [0; 5], 0);
+    step(8, [0x444, 0, 0, 0, 0], 0x444);
+    step(4, [17, 0x54494D45, 0, 0, 0], 0x444);
+    step(10, start, 0x404); // TIME 0
+    step(10, start, 0x404);
+    step(7, [TOP + 5, 1, 0, 0, 0], 0x444);
+    step(10, [TOP + 5, 0, 0, 0, 0], 0x444); // the host's timer interrupt
+    step(10, [22, 0x14D29073, 0, 0, 0], 0x444); // csrw stimecmp
+    step(4, [16, 1, 0, 0, 0], 0x444);
+    step(10, start, 0x444); // TIME 1
+    step(4, [17, 0, 0, 0, 0], 0x444);
+    step(10, start, 0x404); // legacy 0
+    step(8, [TICK, 0, 0, 0, 0], 0x444);
+    step(4, [17, 3, 0, 0, 0], 0x444);
+    step(10, start, 0x440); // legacy 3
+    step(4, [17, 0, 0, 0, 0], 0x440);
+    step(10, start, 0x400);
+    step(10, [22, 0x14D29073, 0, 0, 0], 0x400);
+}
+
 // Any words
 
 #[test]
@@ -1172,9 +1463,22 @@ fn total_and_refusals_change_nothing() {
         let before = words;
         let reply = call(&mut words, kind, numbers);
         assert!(reply.kind <= 4);
-        if reply.kind == 4 && matches!(reply.number, 1 | 2 | 7) || matches!(kind, 3 | 13) {
+        let refused = reply.kind == 4 && matches!(reply.number, 1 | 2 | 7);
+        if refused || matches!(kind, 3 | 13) {
             assert_eq!(words, before);
         }
+        // All that changes hvip.
+        let hvip = before[HVIP];
+        let later = match (kind, numbers[0], before[17], before[16]) {
+            _ if refused => hvip,
+            (1 | 14, ..) => 0,
+            (7, ..) => words[HVIP] & 0x444 | hvip & !0x444,
+            (8, bits, ..) => hvip | bits,
+            (10, 10, 0, _) | (10, 10, 0x54494D45, 0) => hvip & !TICK,
+            (10, 10, 3, _) => hvip & !4,
+            _ => hvip,
+        };
+        assert_eq!(words[HVIP], later);
         if matches!(kind, 1 | 2 | 4..=9) {
             assert_eq!(words[WAITS..], before[WAITS..]);
         }
