@@ -91,7 +91,7 @@ enum { VCPU_IPI_LEGACY = 0, VCPU_IPI_SBI_V02 = 1 };
 
 /* The second number of the answer to VCPU_ASK_FETCH; the first is the word, or the fault's address. */
 enum {
-    VCPU_FETCH_WORD = 0,
+    VCPU_FETCH_WORD = 0, /* of an instruction of 16 bits the upper half is not looked at */
     VCPU_FETCH_PAGE = 1,
     VCPU_FETCH_ACCESS = 2,
     VCPU_FETCH_MISALIGNED = 3,

@@ -189,8 +189,22 @@ def hexes(line):
     return [int(w, 16) for w in line.split()]
 
 
+# bits 12..2 of a 16-bit word: rd, rs2 and the three bits of a short register at their ends, and others. Where rd is 0 a load from
+# sp is reserved
+MIDDLES = [0, 0x007, 0x01f, 0x41f, 0x020, 0x3e0, 0x155, 0x2aa, 0x7ff]
+
+
+def short_words(data):
+    """Every quadrant and funct3 of the 16-bit words with each of these bits, each word with its answer. Above a word stands its
+    complement, which is not looked at."""
+    lines = read(f'{data}/compressed').splitlines()
+    for word in sorted(f << 13 | m << 2 | q for f in range(8) for q in range(3) for m in MIDDLES):
+        at = 5 * (word % 64 // 4 * 3 + word % 4)
+        yield (word ^ 0xffff) << 16 | word, 0x3200000 + int(lines[word // 64][at:at + 5], 16)
+
+
 def vectors(mods, every=1, size=1):
-    """The vectors, or every so many of each list."""
+    """The vectors, or every so many of each list; of the list of all 16-bit words always the same."""
     fetched, decode = home(mods, 'fetchedOf', 'ℕ → Trapped'), home(mods, 'decodeOf')
     text = f'''use {SPECS}{home(mods, 'widthBytes')}.{{widthBytes}}
 use {SPECS}declared.Width.the-variants as width
@@ -232,12 +246,14 @@ all f (n ∷ m ∷ l) = both (eqb (f n) m) (all f l)
         if letter != 'd':
             tasks[f'l{letter}u'] = f'extendOf width.{width} false'
     data = f'{ROOT}/crates/test_vectors/data'
-    # the list `wrong` shows that the program can say so; here an equation would fail
-    assert sorted([*tasks, 'wrong']) == sorted(os.listdir(data))
+    # the lists `wrong..` show that the program can say so; here an equation would fail. What `executed` says of a word stands in
+    # `compressed`, and what it says of a number follows from the others
+    assert sorted([*tasks, 'compressed', 'executed', 'wrong', 'wrong_compressed', 'wrong_executed']) == sorted(os.listdir(data))
     rows = []
     for name, task in tasks.items():
         lines = [hexes(line) for line in read(f'{data}/{name}').splitlines()][::every]
         rows += [f'all ({task}) ({numerals(w for line in lines[i:i + 300] for w in line)})' for i in range(0, len(lines), 300)]
+    rows.append(f'all ({tasks["fetched"]}) ({numerals(w for pair in short_words(data) for w in pair)})')
     return together(text, rows, size)
 
 
@@ -584,7 +600,7 @@ def listed_files():
     """crates/test_definitions: the rows of the list, and some of the vectors and captures, for the gate. Each file with its text."""
     mods = {k: m for k, m in modules().items() if k[0] != 'test_definitions' or k[1] == 'Further'}
     about = {'Rows': ('The rows of the fixed list of calls (docs/CALLS.md): what the definitions give on each. The plain Rust program of document 01 says what is right.', rows_of(mods)),
-             'Vectors': ('Every fortieth of the vectors (docs/VECTORS.md): what the definitions give. objdump and qemu say what is right.', vectors(mods, 40, 10 ** 6)),
+             'Vectors': ('Every fortieth of the vectors and some of all 16-bit words (docs/VECTORS.md): what the definitions give. objdump and qemu say what is right.', vectors(mods, 40, 10 ** 6)),
              'Captures': ('The first four traps of each stored capture of the published Rust (docs/CAPTURES.md), by the numbers of its lines.', published(mods, 4, 10 ** 6))}
     files = {name: f'-- {said}\n-- tools/definitions.py listed writes this file.\n' + housed(mods, text) for name, (said, text) in about.items()}
     needed = re.sub(r', (_[^\w∷]_|_\+\+_|ltb|T)(?=[,}])', '', IMPORTS)

@@ -6,8 +6,8 @@
 It needs Debian's binutils-riscv64-linux-gnu, gcc-riscv64-linux-gnu and qemu-user. The gate doesn't run it: the lists
 are part of the repository. Two runs with the same tools write the same bytes.
 
-A list is a text of lines of 34 bytes: the input and the expected answer, each a number of 16 lowercase hex digits, with
-a space between and LF at the end. Nothing of this project's own code says what is expected:
+Most lists are texts of lines of 34 bytes: the input and the expected answer, each a number of 16 lowercase hex digits,
+with a space between and LF at the end. Nothing of this project's own code says what is expected:
 
     list                    input                       expected                        judge
     decode                  32-bit word                 its decode                      objdump
@@ -15,8 +15,14 @@ a space between and LF at the end. Nothing of this project's own code says what 
     htinst                  htinst                      trapped by it                   PRIV for what htinst means, objdump for decode
     lb lh lw ld lbu lhu lwu 64 bits in memory           the register after the load     qemu-riscv64
     sb sh sw sd             a register                  8 zero bytes after the store    qemu-riscv64
+    compressed              every 16-bit word           its decode                      objdump
+    executed                16-bit word, number         trapped by it, what it moves    qemu-riscv64, which runs the word
 
-An answer of the first three lists is read from its last hex digits, 'tlkwsrr':
+A line of `compressed` has the answers for 64 numbers, those left out that end in the bits 11: 48 times the digits 'kwsrr'
+and LF. A line of `executed` has four numbers of 16 digits: the word and its answer, the number and the result. Every line
+of `wrong`, `wrong_compressed` and `wrong_executed` is wrong, all but one in one byte alone.
+
+An answer of the first three lists, and of a word in `executed`, is read from its last hex digits, 'tlkwsrr':
 
     t   0 htinst is absent, 1 pseudoinstruction, 2 unfit, 3 an instruction (0 in the list decode)
     l   the instruction's length in bytes
@@ -31,17 +37,21 @@ every rs2; each load and store with any one of its 32 bits turned; immediates at
 import os
 import random
 import re
+import signal
+import struct
 import subprocess
 import sys
 import tempfile
 
 LOADS = {"lb": (0, 1, 1), "lh": (1, 2, 1), "lw": (2, 4, 1), "ld": (3, 8, 1), "lbu": (4, 1, 0), "lhu": (5, 2, 0), "lwu": (6, 4, 0)}
 STORES = {"sb": (0, 1), "sh": (1, 2), "sw": (2, 4), "sd": (3, 8)}
+COMPRESSED = {"c.lw": "lw", "c.ld": "ld", "c.sw": "sw", "c.sd": "sd", "c.lwsp": "lw", "c.ldsp": "ld", "c.swsp": "sw", "c.sdsp": "sd"}
 MARKED = [0x00702023, 0x00002383, 0x00006383]  # 01's marked cases: SW, LW and LWU with x7
 EVEN = [0, 0x2000, 0x2020, 0x3000, 0x3020]  # pseudoinstructions in htinst; fetched, they are 16-bit words
 NEITHER = 0
 ABSENT, PSEUDO, UNFIT, INSTRUCTION = 0, 1, 2, 3
-SLOT = 32  # a word, and room for the longest instruction that it may begin
+SHORT = [w for w in range(0x10000) if w & 3 != 3]  # every 16-bit instruction
+ROOM = 28  # behind a word of 4 bytes, for the longest instruction that it may begin
 NOP = b"\x01\x00"  # c.nop, at which a disassembler is in step again
 
 
@@ -51,27 +61,29 @@ def run(*words, **more):
 
 # The judge of words.
 
-def disassembled(words):
+def disassembled(words, size=4, room=ROOM):
     """For each word, the length that objdump gives the instruction at its start, its mnemonic and its operands."""
     with tempfile.NamedTemporaryFile() as file:
         for w in words:
-            file.write(w.to_bytes(4, "little") + NOP * (SLOT // 2 - 2))
+            file.write(w.to_bytes(size, "little") + NOP * (room // 2))
+        file.write(NOP)
         file.flush()
         text = run("riscv64-linux-gnu-objdump", "-D", "-z", "-b", "binary", "-m", "riscv:rv64", "-M", "no-aliases,numeric", file.name, text=True)
     lines = [(int(a, 16), rest) for a, rest in re.findall(r"^ *([0-9a-f]+):\t(.*)$", text, re.M)]
     following = {a: b for (a, _), (b, _) in zip(lines, lines[1:])}
     at = {a: rest.split("\t") for a, rest in lines}
     found = []
-    for i in range(len(words)):
-        parts = at[i * SLOT]
-        found.append((following[i * SLOT] - i * SLOT, parts[1], parts[2] if len(parts) > 2 else ""))
+    for place in range(0, len(words) * (size + room), size + room):
+        parts = at[place]
+        found.append((following[place] - place, parts[1], parts[2] if len(parts) > 2 else ""))
     return found
 
 
-def decode(judged):
-    """The load or store that objdump names, as a number."""
+def decode(judged, lengths=(4,)):
+    """The load or store that objdump names, as a number, if it is this long."""
     length, name, operands = judged
-    if length != 4 or name not in LOADS and name not in STORES:
+    name = COMPRESSED.get(name, name)
+    if length not in lengths or name not in LOADS and name not in STORES:
         return NEITHER
     register = int(re.match(r"x(\d+),", operands).group(1))
     if name in LOADS:
@@ -129,7 +141,7 @@ def fetched_list(chance):
         if length > 4 or w & 0x707f == 0x707f:
             made.append((w, trapped(UNFIT)))
         else:
-            made.append((w, trapped(INSTRUCTION, length, decode(judged))))
+            made.append((w, trapped(INSTRUCTION, length, decode(judged, (2, 4)))))
     return made
 
 
@@ -230,30 +242,213 @@ def moved_lists(chance):
     return {n: list(zip(numbers, results[k::len(names)])) for k, n in enumerate(names)}
 
 
-def wrong_lines():
-    """lw x1, 0(x0) once for each byte of its line, wrong in that byte alone: an input's digit stands as a capital that has the
-    digit's low four bits, an answer's digit is the next one, and neither the space nor the LF is there."""
-    line = f"{0x00002083:016x} {0x14101:016x}\n"
+# The judge of compressed loads and stores.
+
+CELL = 0x5ac3a51008  # the 8 bytes that a word loads or stores; as a number it is cut by a store of 4 bytes
+ONES = 2 ** 64 - 1
+MARKS = 0x8080808080808080  # of each load, signed or not, it makes another number
+TEST, AFTER = struct.Struct("<Q31Q3Q"), struct.Struct("<31Q3Q")  # the word, x1 to x31, and the cell between its neighbours
+
+
+def low(width):
+    return (1 << 8 * width) - 1
+
+
+def runner():
+    """Reads tests and runs the word of each: every register and the memory are set before it and written out after it."""
+    fill = "".join(f"    ld t1, {256 + i}(t0)\n    sd t1, {i}(t2)\n" for i in (0, 8, 16))
+    set_all = "".join(f"    ld x{r}, {8 * r}(x31)\n" for r in range(1, 32))
+    keep_all = "".join(f"    sd x{r}, {8 * r - 8}(x31)\n" for r in range(1, 31))
+    keep_memory = "".join(f"    ld x2, {i}(x1)\n    sd x2, {248 + i}(x31)\n" for i in (0, 8, 16))
+    # the floating registers have what no other register has
+    floating = "".join(f"    fmv.d.x f{r}, t0\n" for r in range(32))
+    # norelax: an address is not counted from gp, which a test sets. No register is free behind the word, so x31 waits in f0; an
+    # instruction there that is not 2 bytes long takes half of the fmv
+    return f"""
+    .option norvc
+    .option norelax
+    .globl _start
+_start:
+    li t0, 0x0f0e0d0c0b0a0908
+{floating}    li a0, {CELL - 8}
+    li a1, 4096
+    li a2, 3
+    li a3, 0x32
+    li a4, -1
+    li a5, 0
+    li a7, 222
+    ecall
+next:
+    li a0, 0
+    lla a1, test
+    li a2, {TEST.size}
+    li a7, 63
+    ecall
+    li t0, {TEST.size}
+    bne a0, t0, end
+    lla t0, test
+    lhu t1, 0(t0)
+    lla t2, place
+    sh t1, 0(t2)
+    fence.i
+    li t2, {CELL - 8}
+{fill}    lla x31, test
+{set_all}    .2byte 0x0001
+place:
+    .2byte 0x0001
+    fmv.d.x f0, x31
+    lla x31, after
+{keep_all}    fmv.x.d x1, f0
+    sd x1, 240(x31)
+    li x1, {CELL - 8}
+{keep_memory}    li a0, 1
+    lla a1, after
+    li a2, {AFTER.size}
+    li a7, 64
+    ecall
+    j next
+end:
+    li a0, 0
+    li a7, 93
+    ecall
+    .data
+    .balign 8
+test: .zero {TEST.size}
+after: .zero {AFTER.size}
+"""
+
+
+def executed(tests, folder):
+    """What qemu leaves of each test in the registers and the memory; or the signal that ended it."""
+    source, binary, given = (os.path.join(folder, n) for n in ("runner.S", "runner", "tests"))
+    if not os.path.exists(binary):
+        with open(source, "w") as file:
+            file.write(runner())
+        # -N: words are put among the instructions
+        run("riscv64-linux-gnu-gcc", "-nostdlib", "-static", "-Wl,-N", "-o", binary, source)
+    with open(given, "wb") as file:
+        file.writelines(TEST.pack(*t) for t in tests)
+    with open(given, "rb") as file:
+        ran = subprocess.run(["qemu-riscv64", binary], stdin=file, cwd=folder, capture_output=True)
+    if ran.returncode:
+        return ran.returncode
+    after = list(AFTER.iter_unpack(ran.stdout))
+    if len(after) != len(tests):
+        sys.exit("the program under qemu-riscv64 wrote too little")
+    return after
+
+
+def observed(word, before, cells, after):
+    """What a word did, run once on each of the cells: it changed one register, or left a register's low bytes in the cell. Its decode,
+    the number moved from the last cell or to it, and what was there then."""
+    registers, left = [[0, *a[:31]] for a in after], [a[32] for a in after]
+    changed = [r for r in range(32) if any(a[r] != before[r] for a in registers)]
+    kept = all((a[31], a[33]) == (c ^ ONES, c ^ ONES) for a, c in zip(after, cells))
+    if kept and len(changed) == 1 and left == cells:
+        register = changed[0]
+        shown = registers[2][register]
+        for width in (1, 2, 4, 8):
+            # of 8 bytes nothing is left to extend, and the digit is 1
+            for signed in (1, 0):
+                if shown == MARKS & low(width) | signed * (ONES ^ low(width)):
+                    return 0x10000 + width * 0x1000 + signed * 0x100 + register, cells[3], registers[3][register]
+    # a byte that is not stored stays 0 in the first cell and 0xff in the second
+    width = next(w for w in range(9) if left[0] ^ left[1] | low(w) == ONES)
+    sources = [r for r in range(32) if before[r] & low(width) == left[0]]
+    if kept and not changed and len(sources) == 1 and all(a == left[0] | c & (ONES ^ low(width)) for a, c in zip(left, cells)):
+        return 0x20000 + width * 0x1000 + sources[0], before[sources[0]], left[0]
+    sys.exit(f"{word:#06x} under qemu-riscv64 is neither a load nor a store")
+
+
+def executed_list(chance, judged):
+    """Every 16-bit load and store, run; of each form with each register some words are taken. The reserved words are run too, and end
+    in an illegal instruction."""
+    numbers = values(chance)
+    # a register is known by what a store leaves of it: no two have the same low 32 bits, and none has x0's
+    contents = list({n % 2 ** 32: n for n in numbers if n % 2 ** 32}.values())
+    words = [w for w in SHORT if decode(judged[w], (2,))]
+    chance.shuffle(words)
+    made, tests = [], []
+    for w in words:
+        offset, base = map(int, re.fullmatch(r"x\d+,(\d+)\(x(\d+)\)", judged[w][2]).groups())
+        number = chance.choice(numbers)
+        before = [0, *chance.sample([n for n in contents if (n - number) % 2 ** 32], 31)]
+        before[base] = CELL - offset
+        cells = [0, ONES, MARKS, number]
+        made.append((w, before, cells))
+        tests += [(w, *before[1:], c ^ ONES, c, c ^ ONES) for c in cells]
+    with tempfile.TemporaryDirectory() as folder:
+        after = executed(tests, folder)
+        if isinstance(after, int):
+            sys.exit(f"the program under qemu-riscv64 ended with {after}")
+        for w in [0] + [w for w in SHORT if w & 0xcf83 == 0x4002]:
+            if decode(judged[w], (2,)) or executed([(w, *[CELL] * 31, 0, 0, 0)], folder) != -signal.SIGILL:
+                sys.exit(f"{w:#06x} is an instruction")
+    lines, taken = [], {}
+    for i, (w, before, cells) in enumerate(made):
+        decoded, number, result = observed(w, before, cells, after[4 * i:4 * i + 4])
+        _, name, operands = judged[w]
+        if decoded != decode(judged[w], (2,)):
+            sys.exit(f"{w:#06x} is {name} {operands} to objdump and {decoded:x} under qemu-riscv64")
+        width, register = decoded >> 12 & 15, decoded & 0xff
+        kind = (name, register, operands.endswith(f"(x{register})"), result >> 8 * width - 1 & 1)
+        taken[kind] = taken.get(kind, 0) + 1
+        if taken[kind] <= 3:
+            lines.append((w, trapped(INSTRUCTION, 2, decoded), number, result))
+    return sorted(lines)
+
+
+# The texts.
+
+def spelled(*numbers):
+    return " ".join(f"{n:016x}" for n in numbers) + "\n"
+
+
+def packed_lines(judged, start, stop):
+    for first in range(start, stop, 64):
+        yield "".join(f"{decode(judged[w], (2,)):05x}" for w in range(first, first + 64) if w & 3 != 3) + "\n"
+
+
+def wrong_lines(line):
+    """A line of pairs once for each of its bytes, wrong in that byte alone: an input's digit stands as a capital that has the digit's
+    low four bits, an answer's digit is the next one, and neither a space nor the LF is there."""
     for at, byte in enumerate(line):
-        other = "," if at == 16 else " " if at == 33 else chr(ord(byte) + 32) if at < 16 else chr(ord(byte) + 1)
+        other = "," if byte == " " else " " if byte == "\n" else chr(ord(byte) + 32) if at % 34 < 16 else chr(ord(byte) + 1)
+        yield line[:at] + other + line[at + 1:]
+
+
+def wrong_packed_lines(judged):
+    """The lines from word 0x4000 on, c.lw and c.lwsp among them: in each another of the 48 answers is wrong, in one digit, and in the
+    last the LF."""
+    for i, line in enumerate(packed_lines(judged, 0x4000, 0x4000 + 49 * 64)):
+        at = min(5 * i + i % 5, 240)
+        other = " " if at == 240 else f"{(int(line[at], 16) + 1) % 16:x}"
         yield line[:at] + other + line[at + 1:]
 
 
 def main():
     folder = sys.argv[1] if len(sys.argv) > 1 else os.path.join(os.path.dirname(__file__), "..", "crates", "test_vectors", "data")
-    lists = {
+    judged = dict(zip(SHORT, disassembled(SHORT, 2, 0)))
+    pairs = {
         "decode": decode_list(random.Random(1)),
         "fetched": fetched_list(random.Random(2)),
         "htinst": htinst_list(random.Random(3)),
         **moved_lists(random.Random(4)),
+        "executed": executed_list(random.Random(5), judged),
     }
+    lists = {name: [spelled(*numbers) for numbers in lines] for name, lines in pairs.items()}
+    lists["compressed"] = list(packed_lines(judged, 0, 0x10000))
+    # lw x1, 0(x0)
+    lists["wrong"] = list(wrong_lines(spelled(0x00002083, 0x14101)))
+    lists["wrong_compressed"] = list(wrong_packed_lines(judged))
+    # c.lwsp x7, 0(x2), of a number whose digits have capitals; and a reserved word, which moves nothing
+    lists["wrong_executed"] = list(wrong_lines(spelled(0x4382, 0x3214107, 0x0123456789012345, 0xffffffff89012345)))
+    lists["wrong_executed"].append(spelled(0x4002, trapped(INSTRUCTION, 2), 0, 0))
     os.makedirs(folder, exist_ok=True)
-    for name, pairs in lists.items():
+    for name, lines in lists.items():
         with open(os.path.join(folder, name), "w") as file:
-            file.writelines(f"{given:016x} {expected:016x}\n" for given, expected in pairs)
-        print(f"{name}: {len(pairs)} lines")
-    with open(os.path.join(folder, "wrong"), "w") as file:
-        file.writelines(wrong_lines())
+            file.writelines(lines)
+        print(f"{name}: {len(lines)} lines")
 
 
 main()

@@ -106,9 +106,13 @@ const STORE: Kind = Kind {
     ..ECALL
 };
 
-/// The last three are the three before them on a hart that leaves the instruction's place, stval or htinst, 0. A fetched word has its two
-/// low bits set.
-const KINDS: [Kind; 10] = [
+/// The compressed forms' bits that are drawn: the quadrant, 0 or 2, and all between it and funct3 but bit 7. That is set, so that c.lwsp and
+/// c.ldsp have an rd. funct3 is of three bits and stands one higher than a 32-bit word's.
+const COMPRESSED: u64 = 0x1f7e;
+
+/// The last five are the load, the store and stimecmp on a hart that leaves the instruction's place, stval or htinst, 0: of 32 bits, and
+/// the load and the store of 16.
+const KINDS: [Kind; 12] = [
     Kind { name: "TIME", share: 20, a7: 0x5449_4D45, ..ECALL },
     Kind { name: "legacy timer", share: 5, ..ECALL },
     Kind { name: "forward, with its answer", share: 10, a7: 0x10, a6_drawn: 7, ..ECALL },
@@ -119,6 +123,8 @@ const KINDS: [Kind; 10] = [
     Kind { name: "stimecmp, fetched", fetched: u64::MAX, ..STIMECMP },
     Kind { name: "load, fetched", word: 3, word_drawn: RD | RS1, fetched: u64::MAX, ..LOAD },
     Kind { name: "store, fetched", word: 0x23, word_drawn: RS1 | RS2, fetched: u64::MAX, ..STORE },
+    Kind { name: "load of 16 bits, fetched", word: 1 << 7, word_drawn: COMPRESSED, funct3: [2 << 1, 3 << 1, 0, 0, 0, 0, 0, 0], forms: 2, fetched: u64::MAX, ..LOAD },
+    Kind { name: "store of 16 bits, fetched", word: 1 << 7, word_drawn: COMPRESSED, funct3: [6 << 1, 7 << 1, 0, 0, 0, 0, 0, 0], forms: 2, fetched: u64::MAX, ..STORE },
 ];
 /// Of the kinds of the mix the first that a hart may leave to be fetched, and where it stands then.
 const FIRST: usize = 4;
@@ -156,7 +162,7 @@ const fn alone(kind: usize) -> Row {
 /// the first to meet it, and is most often predicted wrongly. In the second the generator has jumped by the kind before, the
 /// processor has that in its history, and the wrong prediction is the generator's: what is left is the handler's work. The third
 /// is the first on a hart that leaves every instruction to be fetched.
-pub static ROWS: [Row; 13] = [
+pub static ROWS: [Row; 15] = [
     Row { name: "the mix", kinds: mixed(false), foreseen: false },
     Row { name: "the mix, the kind foreseen", kinds: mixed(false), foreseen: true },
     Row { name: "the mix, fetched", kinds: mixed(true), foreseen: false },
@@ -170,6 +176,8 @@ pub static ROWS: [Row; 13] = [
     alone(7),
     alone(8),
     alone(9),
+    alone(10),
+    alone(11),
 ];
 
 /// The shares of the mix, in words.
@@ -196,7 +204,7 @@ fn draw(kind: &Kind, n: u64, value: u64) -> Work {
 }
 
 /// In one place, so that a kind is found by an address.
-static TABLE: [Kind; 10] = KINDS;
+static TABLE: [Kind; 12] = KINDS;
 
 /// One function for each kind, to jump to.
 fn kind<const KIND: usize>() -> &'static Kind {
@@ -207,8 +215,8 @@ fn kind<const KIND: usize>() -> &'static Kind {
 /// says where in the table.
 #[inline(always)]
 pub fn work<const FORESEEN: bool>(row: &Row, r: &mut Random) -> Work {
-    static BY_KIND: [fn() -> &'static Kind; 10] =
-        [kind::<0>, kind::<1>, kind::<2>, kind::<3>, kind::<4>, kind::<5>, kind::<6>, kind::<7>, kind::<8>, kind::<9>];
+    static BY_KIND: [fn() -> &'static Kind; 12] =
+        [kind::<0>, kind::<1>, kind::<2>, kind::<3>, kind::<4>, kind::<5>, kind::<6>, kind::<7>, kind::<8>, kind::<9>, kind::<10>, kind::<11>];
     let (n, value) = (r.number(), r.number());
     let place = row.kinds[((n >> 32) * 100 >> 32) as usize] as usize;
     draw(if FORESEEN { BY_KIND[place]() } else { &TABLE[place] }, n, value)

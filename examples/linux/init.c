@@ -1,5 +1,5 @@
-/* The first process of the guest: reads the match device by lw and by lwu from user mode, says what it read, and powers off. It is built
- * without compressed instructions: where the hart leaves htinst 0, document 01 decodes none, and the process would get a fault. */
+/* The first process of the guest: reads the match device by a compressed lw and by lwu from user mode, says what it read, and powers off. It
+ * is built with compressed instructions, as Debian's own programs are: where the hart leaves htinst 0, its c.lw and c.sd are fetched. */
 typedef unsigned long u64;
 
 static long sys(long number, u64 x0, u64 x1, u64 x2, u64 x3, u64 x4, u64 x5) {
@@ -28,10 +28,11 @@ void _start(void) {
     long at = sys(MMAP, 0, 4096, 3, 1, (u64)memory, 0x10000000);
     if (at < 0 && at > -4096) text("init: FAIL no device, error "), hex((u64)-at);
     else {
-        u64 lw, lwu, match;
-        asm volatile("lw %0, 0(%1)" : "=r"(lw) : "r"(at) : "memory");
-        asm volatile("lwu %0, 0(%1)" : "=r"(lwu) : "r"(at) : "memory");
-        asm volatile("sd %1, 0x20(%2)\n lbu %0, 0x28(%2)" : "=&r"(match) : "r"(0xefeeddccbbaa9988), "r"(at) : "memory");
+        register u64 device asm("a5") = (u64)at, candidate asm("a4") = 0xefeeddccbbaa9988, lw asm("a3"); /* of x8 to x15, as c.lw and c.sd ask */
+        u64 lwu, match;
+        asm volatile("c.lw %0, 0(%1)" : "=r"(lw) : "r"(device) : "memory");
+        asm volatile("lwu %0, 0(%1)" : "=r"(lwu) : "r"(device) : "memory");
+        asm volatile("c.sd %1, 0x20(%2)\n lbu %0, 0x28(%2)" : "=&r"(match) : "r"(candidate), "r"(device) : "memory");
         text("init: lw "), hex(lw), text(" lwu "), hex(lwu), text(match == 1 ? " a match" : " no match");
     }
     text("\n"), sys(WRITE, (u64)log, (u64)line, (u64)(end - line), 0, 0, 0);

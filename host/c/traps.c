@@ -32,6 +32,11 @@ static const struct kind {
     {"stimecmp-fetched", 0, 22, 0, 0, 0, 0x14d00073, RD | RS1, "123567", 1},
     {"load-fetched", 9, 21, 0, 0, 0, 3, RD | RS1 | LOAD_OFFSET, "0123456", 1},
     {"store-fetched", 10, 23, 0, 0, 0, 0x23, RS1 | RS2 | STORE_OFFSET, "0123", 1},
+    /* of 16 bits, by the access and the quadrant: bit 13, drawn, is the width */
+    {"c-load-fetched", 9, 21, 0, 0, 0, 0x4000, 0x3ffc, "0", 1},
+    {"c-sp-load-fetched", 9, 21, 0, 0, 0, 0x4082, 0x3f7c, "0", 1}, /* with an rd that is odd, and so not 0 */
+    {"c-store-fetched", 10, 23, 0, 0, 0, 0xc000, 0x3ffc, "0", 1},
+    {"c-sp-store-fetched", 10, 23, 0, 0, 0, 0xc002, 0x3ffc, "0", 1},
     {"interrupt", 1, UINT64_C(1) << 63 | 9, 0, 0, 0, 0, 0, "0", 0},
 };
 

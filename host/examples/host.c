@@ -7,6 +7,7 @@
 
 /* What the guest's memory would hold. */
 static const char line[] = "title 7 is on screen 3";
+static const uint64_t code_at = 0x8000000c, code = 0x4188; /* c.lw a0, 0(a1), 16 bits long */
 
 /* One trap to its exit: every ask is answered from here. */
 static uint64_t handle(struct vcpu *v, struct vcpu_trap trap, struct vcpu_out *out) {
@@ -15,6 +16,12 @@ static uint64_t handle(struct vcpu *v, struct vcpu_trap trap, struct vcpu_out *o
         struct vcpu_answer_words answer = {given - VCPU_ASK, 0, 0};
         switch (answer.ask) {
         case VCPU_ASK_FETCH:
+            if (out->word[0] == code_at) {
+                printf("  fetch at %#" PRIx64 ": %#" PRIx64 "\n", out->word[0], code);
+                answer.first = code;
+                answer.second = VCPU_FETCH_WORD;
+                break;
+            }
             printf("  fetch at %#" PRIx64 ": no page\n", out->word[0]);
             answer.first = out->word[0];
             answer.second = VCPU_FETCH_PAGE;
@@ -54,6 +61,7 @@ int main(void) {
     load(&v, "a fingerprint by lw", 0x2503, 0x1c3a77e1);
     load(&v, "its top bit set, by lw", 0x2503, 0x9c3a77e1);
     load(&v, "the same by lwu", 0x6503, 0x9c3a77e1);
+    load(&v, "the same by a compressed lw", 0, 0x9c3a77e1);
 
     v.x[17] = 0x4442434E, v.x[16] = 0, v.x[10] = sizeof line - 1, v.x[11] = 0x80100000, v.x[12] = 0;
     uint64_t given = handle(&v, ecall, &out);

@@ -7,9 +7,16 @@ use curbizzolu::*;
 
 const LINE: &[u8] = b"title 7 is on screen 3\n";
 
+/// The one instruction that can be fetched, and where it lies: c.lw a0, 0(a1), 16 bits long.
+const CODE: (GuestVirtAddr, u32) = (GuestVirtAddr(0x8000_000c), 0x4188);
+
 /// The host's side: what it answers. There is no guest memory here, so the copy brings a fixed line.
 fn serve(vcpu: &Vcpu, ask: Ask, buffer: &mut Vec<u8>) -> Answer {
     match ask {
+        Ask::Fetch { at, supervisor } if at == CODE.0 => {
+            println!("  asked to fetch at {at:#x}, supervisor {supervisor}: {:#x}", CODE.1);
+            Answer::Fetched(Fetch::Word(CODE.1))
+        }
         Ask::Fetch { at, supervisor } => {
             println!("  asked to fetch at {at:#x}, supervisor {supervisor}: the guest's page tables have no page there");
             Answer::Fetched(Fetch::Page(at))
@@ -70,6 +77,7 @@ fn main() -> Result<(), Error> {
     handle(&mut vcpu, "A title's fingerprint, by lw a0:", load(0x2503), 0x1c3a_77e1)?;
     handle(&mut vcpu, "One with its top bit set, by lw a0:", load(0x2503), 0x9c3a_77e1)?;
     handle(&mut vcpu, "The same, by lwu a0:", load(0x6503), 0x9c3a_77e1)?;
+    handle(&mut vcpu, "The same, by a compressed lw a0 that the hart left out of htinst:", load(0), 0x9c3a_77e1)?;
 
     for (register, value) in [(17, 0x4442_434E), (16, 0), (10, LINE.len() as u64), (11, 0x8010_0000), (12, 0)] {
         vcpu.set_gpr(register, value)?;

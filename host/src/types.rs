@@ -342,13 +342,23 @@ impl Ask {
 /// The guest takes a page, access or misaligned fault itself.
 ///
 /// ```
-/// use curbizzolu::{Fetch, GuestVirtAddr};
-/// let missing = Fetch::Page(GuestVirtAddr(0x4000));
-/// assert_ne!(missing, Fetch::Word(0x4000));
+/// # use curbizzolu::*;
+/// # fn main() -> Result<(), Error> {
+/// let mut vcpu = Vcpu::new(0, 0);
+/// vcpu.setup()?;
+/// // a load from a device, by an instruction that the hart left out of htinst
+/// vcpu.start(&Trap { scause: 21, htval: 0x1000_0000 >> 2, ..Trap::default() })?;
+/// // it is c.lw a0, 0(a1)
+/// let step = vcpu.answer(&Answer::Fetched(Fetch::Word(0x4188)))?;
+/// assert_eq!(step, Step::Exit(Exit::MmioRead { addr: GuestPhysAddr(0x1000_0000), width: Width::Word }));
+/// vcpu.complete_load(0x9c3a_77e1)?;
+/// assert_eq!((vcpu.get_gpr(10)?, vcpu.sepc), (0xffff_ffff_9c3a_77e1, 2));
+/// # Ok(())
+/// # }
 /// ```
 #[derive(Clone, Copy, Debug, Eq, Hash, PartialEq)]
 pub enum Fetch {
-    /// The instruction.
+    /// The instruction. Where it is 16 bits long (its low two bits are not 3) the upper half is not looked at.
     Word(u32),
     /// The guest's page tables have no page here.
     Page(GuestVirtAddr),

@@ -172,6 +172,39 @@ fn rows() -> Vec<(Vec<(usize, u64)>, Call)> {
         row(&waits, &[9, 1, COMPLETIONS[1]]);
         row(&waits, &[14, 5, 6]);
     }
+    // W2, 16-bit words that were fetched, by funct3 and the bits 12..2 between it and the quadrant: each form with its register at both
+    // ends, under its own access and another.
+    let c = |funct3: u64, between: u64, quadrant: u64| funct3 << 13 | between << 2 | quadrant;
+    let mut fetched = |sepc: u64, access: u64, word: u64| row(&[(32, sepc), (54, 3), (55, 0x1000_0003), (56, access)], &[11, 1, word, 0]);
+    for (funct3, access) in [(2, 1), (3, 1), (6, 2), (7, 2)] {
+        // c.lw, c.ld, c.sw, c.sd: rd' or rs2' is bits 4..2, and 5 the base's
+        for register in [0, 1, 7] {
+            fetched(0x8000_0000, access, c(funct3, 5 << 5 | register, 0));
+        }
+        // c.lwsp, c.ldsp: rd is bits 11..7, and the rest is offset; c.swsp, c.sdsp: rs2 is bits 6..2, and the rest is offset
+        for register in [0, 1, 2, 31] {
+            let places = if access == 1 { [register << 5 | 9, register << 5] } else { [9 << 5 | register, register] };
+            for between in places {
+                fetched(0x8000_0000, access, c(funct3, between, 2));
+            }
+        }
+        fetched(0x8000_0000, 3 - access, c(funct3, 5 << 5 | 1, 0));
+        fetched(0x8000_0000, 3 - access, c(funct3, 9 << 5 | 7, 2));
+        fetched(0x8000_0000, 4, c(funct3, 9 << 5 | 7, 2));
+        // quadrant 1 has none
+        fetched(0x8000_0000, access, c(funct3, 9 << 5 | 7, 1));
+        // the upper bits are not looked at; sepc moves on by 2 modulo 2^64
+        fetched(u64::MAX - 1, access, 0xabcd_ef01_ffff_0000 | c(funct3, 5 << 5 | 1, 0));
+        fetched(u64::MAX, access, 0xffff_0000 | c(funct3, 9 << 5 | 7, 2));
+    }
+    // floating forms and all others
+    for funct3 in [0, 1, 4, 5] {
+        for quadrant in [0, 2] {
+            for access in [1, 2] {
+                fetched(0x8000_0000, access, c(funct3, 9 << 5 | 7, quadrant));
+            }
+        }
+    }
     rows
 }
 

@@ -218,18 +218,43 @@ impl Vcpu {
             _ => Width::Double,
         };
         match (word & 0x7f, write) {
-            (0x03, false) if f3 != 7 => {
-                self.waiting = Waiting::Load { rd: word >> 7 & 31, width, signed: f3 < 4 };
-                self.advance(length);
-                Step::Exit(Exit::MmioRead { addr: at, width })
-            }
-            (0x23, true) if f3 < 4 => {
-                let data = F::cut(width, F::read(&self.x, word >> 20 & 31));
-                self.advance(length);
-                Step::Exit(Exit::MmioWrite { addr: at, width, data })
-            }
-            _ => Step::Exit(Exit::NestedPageFault { addr: at, access: 1 + write as u64 }),
+            (0x03, false) if f3 != 7 => self.load(at, width, f3 < 4, word >> 7 & 31, length),
+            (0x23, true) if f3 < 4 => self.store::<F>(at, width, word >> 20 & 31, length),
+            _ => Self::nested(at, write),
         }
+    }
+
+    /// The eight forms of 16 bits: bit 13 is the width, bit 15 tells a store from a load, and bit 14 is set.
+    #[inline(always)]
+    fn compressed<F: Forms>(&mut self, at: u64, write: bool, word: u32) -> Step {
+        let width = if word >> 13 & 1 == 0 { Width::Word } else { Width::Double };
+        let (prime, rd, rs2) = (8 + (word >> 2 & 7), word >> 7 & 31, word >> 2 & 31);
+        match (word >> 14 & 3, word & 3, write) {
+            (1, 0, false) => self.load(at, width, true, prime, 2),
+            (1, 2, false) if rd != 0 => self.load(at, width, true, rd, 2),
+            (3, 0, true) => self.store::<F>(at, width, prime, 2),
+            (3, 2, true) => self.store::<F>(at, width, rs2, 2),
+            _ => Self::nested(at, write),
+        }
+    }
+
+    #[inline(always)]
+    fn load(&mut self, at: u64, width: Width, signed: bool, rd: u32, length: u64) -> Step {
+        self.waiting = Waiting::Load { rd, width, signed };
+        self.advance(length);
+        Step::Exit(Exit::MmioRead { addr: at, width })
+    }
+
+    #[inline(always)]
+    fn store<F: Forms>(&mut self, at: u64, width: Width, rs2: u32, length: u64) -> Step {
+        let data = F::cut(width, F::read(&self.x, rs2));
+        self.advance(length);
+        Step::Exit(Exit::MmioWrite { addr: at, width, data })
+    }
+
+    #[inline(always)]
+    fn nested(at: u64, write: bool) -> Step {
+        Step::Exit(Exit::NestedPageFault { addr: at, access: 1 + write as u64 })
     }
 
     /// Answers the ask that waits. Both are looked at where they lie: to copy what was just stored in parts waits for the stores.
@@ -246,7 +271,7 @@ impl Vcpu {
             (&Waiting::FetchFault { at, write }, Answer::Fetched(fetch)) => {
                 self.waiting = Waiting::Idle;
                 match *fetch {
-                    Fetch::Word(word) if word & 3 != 3 => self.access::<F>(at, write, word & 0xffff, 2),
+                    Fetch::Word(word) if word & 3 != 3 => self.compressed::<F>(at, write, word),
                     Fetch::Word(word) if word >> 2 & 7 == 7 => Step::Error(Error::DecodeFailed),
                     Fetch::Word(word) => self.access::<F>(at, write, word, 4),
                     fault => self.missed(fault),

@@ -5,8 +5,8 @@ use mathlib.Core.List.{List, [], _∷_, _++_}
 use mathlib.Core.Path.{_≡_}
 use lib.ListN.{getD, set, replicate}
 use lib.Dec.{eqb}
-use Rattle.demand3_table.specs.Turns.{Turn, call}
-use Rattle.isa_types.specs.Pick.{pick, and}
+use Rattle.demand3_table.specs.Turns.{Turn}
+use Rattle.isa_types.specs.Pick.{pick, and, or}
 use Rattle.scope.specs.OneTrap.{exitNumber, askNumber}
 use Rattle.scope.specs.Refusals.{errorNumber}
 use Rattle.scope.specs.declared.traps.Ask.{Ask}
@@ -15,15 +15,13 @@ use Rattle.scope.specs.declared.traps.Exit.{Exit}
 use Rattle.scope.specs.declared.traps.Exit.the-variants as exit
 use Rattle.scope.specs.declared.traps.Reply.{Reply}
 use Rattle.scope.specs.declared.traps.Reply.the-variants as reply
-use Rattle.scope.specs.declared.traps.Trap.{Trap}
 use Rattle.isa_consts.specs.Csr.{setupSstatus, setupHstatus, setupHie}
 use Rattle.scope.specs.declared.machine.Vcpu.{Vcpu}
 use Rattle.scope.specs.declared.machine.Waiting.the-variants as waiting
 use Rattle.scope.specs.Record.{listed}
 use Rattle.demand3_table.specs.Table.{namesOf}
-use Rattle.demand3_table.specs.Runs.{Sight, runOf, seenOf, among, Untouched, written}
+use Rattle.demand3_table.specs.Runs.{Sight, runOf, seenOf, stepOf, among, Untouched, written}
 use Rattle.demand3_table.specs.Alike.{Alike}
-use Rattle.scope.specs.declared.hosts.HostCall.the-variants as hostCall
 use Rattle.scope.specs.declared.machine.Waiting.{Waiting}
 
 -- a record after setup, with sepc 0x80000000, vstimecmp 7 and these registers
@@ -118,19 +116,23 @@ sameList [] (m ∷ ms) = false
 sameList (n ∷ ns) [] = false
 sameList (n ∷ ns) (m ∷ ms) = and (eqb n m) (sameList ns ms)
 
--- a row of the table at work: a register, two contents, a record, a trap and what follows it
+-- a call of the sequence names the register
+unfoldable pub named : ℕ → Vcpu → List Turn → Bool
+named r v [] = false
+named r v (c ∷ cs) = or (among r (namesOf v c)) (named r (stepOf v c) cs)
+
+-- a row of the table at work: a register, another content of it, a record and a sequence
 pub record Row : Type 0 where
   pub register : ℕ
   pub content : ℕ
   pub before : Vcpu
-  pub trap : Trap
-  pub later : List Turn
+  pub calls : List Turn
 
--- the trap names the register, and what the runs tell differs
+-- the sequence names the register, and what the runs tell differs
 unfoldable pub matters : Row → Bool
 matters k =
-    and (among (k .register) (namesOf (k .before) (call (hostCall.Start (k .trap)))))
-    (pick (sameList (toldOf (k .before) (call (hostCall.Start (k .trap)) ∷ k .later)) (toldOf (other (k .register) (k .content) (k .before)) (call (hostCall.Start (k .trap)) ∷ k .later))) false true)
+    and (named (k .register) (k .before) (k .calls))
+    (pick (sameList (toldOf (k .before) (k .calls)) (toldOf (other (k .register) (k .content) (k .before)) (k .calls))) false true)
 
 unfoldable pub allMatter : List Row → Bool
 allMatter [] = true

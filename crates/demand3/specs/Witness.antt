@@ -1,6 +1,6 @@
 -- Demand 3 is not vacuous: closed examples, computed by the checker. Sequences meet its premises with r different before and
--- after, among them one that starts with an ask waiting, with a refused call and a register read out; in one r is written and
--- agrees from then on; and in rows of the reading table two records that differ in a named register come out differently.
+-- after, among them one that starts with an ask waiting, with a refused call and a register read out, and one whose fetch waits at
+-- the start; in one r is written and agrees from then on; and in rows of the reading table two records that differ in a named register come out differently.
 use Prim.Native.Nat.{ℕ}
 use mathlib.Core.Bool.{true}
 use mathlib.Core.List.{List, [], _∷_}
@@ -11,6 +11,7 @@ use Rattle.demand3_table.specs.Turns.{Turn, call, print}
 use Rattle.scope.specs.Ecalls.{ecallEffect, timeEffect, spiEffect, hsmEffect, srstEffect, spanEffect, consoleEffect, dbcnEffect, rfncEffect, forwardEffect, notSupportedEffect, standardRequest, lesserOf, returnsOf, movesOf, staysOf, asksOf, setTimerOf, hypercallOf, consoleReadEffect, copiedEffect, copiedOutEffect, ecallAnswer, givesOf}
 use Rattle.scope.specs.OneTrap.{answerNumber, answerValues, exitNumber, askNumber}
 use Rattle.scope.specs.Refusals.{errorNumber, finishedOf, askingOf, failedOf, refusedOf, doneOf, leavesOf, unlessAsking}
+use Rattle.scope.specs.declared.traps.Access.the-variants as access
 use Rattle.scope.specs.declared.traps.Answer.the-variants as answers
 use Rattle.scope.specs.declared.traps.Ask.the-variants as ask
 use Rattle.scope.specs.declared.traps.Exit.the-variants as exit
@@ -21,8 +22,8 @@ use Rattle.isa_types.specs.declared.Width.the-variants as width
 use Rattle.isa_consts.specs.Sbi.{eidSpi, eidHsm, eidHvc, eidDbcn, eidRfnc}
 use Rattle.isa_registers.specs.Bits.{spvpOf, sieOf, withBits}
 use Rattle.isa_registers.specs.Values.{guestPageFaultAddr}
-use Rattle.isa_decoder.specs.Laws.{storeSource-store}
-use Rattle.isa_decoder.specs.Examples.{lw-x7, sw-x7, cut-5, cut-6, csrrw-opcode, csrrw-csr, csrrw-funct3, csrrw-rs1, zero-opcode}
+use Rattle.isa_decoder.specs.Laws.{storeSource-absent, storeSource-store}
+use Rattle.isa_decoder.specs.Examples.{lw-x7, sw-x7, absent, c-lwsp-x7, c-sw-x9, c-sdsp-x7, long-5, long-6, cut-5, cut-6, csrrw-opcode, csrrw-csr, csrrw-funct3, csrrw-rs1, zero-opcode}
 use Rattle.scope.specs.declared.machine.Vcpu.{Vcpu}
 use Rattle.scope.specs.Record.{valueOf, stored, moved, timed, pended, eventNumber, bumped, counted, waitingAsk, isIdle, listed, applied, noArgs, ecallAskNumber}
 use Rattle.scope.specs.VirtualInstruction.{askFetchOf, missedOf, trapStatusOf, injectedOf, missedEffect, virtualEffect, clearBits, setBits, stimecmpBy, stimecmpEffect, stimecmpStval, stimecmpWord}
@@ -32,7 +33,7 @@ use Rattle.scope.specs.Calls.{printCount, baseOf, fitted, printable, printedOf,
 use Rattle.demand3_table.specs.Table.{a0, a1, a2, a3, a4, a5, a7, sourceNames, forwardNames, timeNames, srstNames, spiNames, hsmNames, consoleNames, byteNames, dbcnNames, eidNames, ecallNames, funct3Names, stimecmpNames, storeNames, accessNames, wordNames, fetchNames, answerNames, namesOf, readsOf, callNames, callReads, classNames}
 use Rattle.demand3_table.specs.Runs.{sightOf, stepOf, runOf, seenOf, Apart, Untouched, renews, wroteBy, written, wrote}
 use Rattle.demand3_table.specs.Alike.{Alike}
-use Rattle.demand3.specs.Shown.{exampleRecord, other, Met, exitNumbers, askNumbers, replyNumbers, sightNumbers, toldOf, sameList, Row, matters, allMatter, Joined, waits}
+use Rattle.demand3.specs.Shown.{exampleRecord, other, Met, exitNumbers, askNumbers, replyNumbers, sightNumbers, toldOf, sameList, Row, named, matters, allMatter, Joined, waits}
 use Rattle.scope.specs.Answers.{answerEffect, fetchEffect, fittingEffect, numbersEffect, valuesEffect, wordEffect}
 use Rattle.scope.specs.declared.hosts.HostCall.the-variants as hostCall
 use Rattle.scope.specs.declared.machine.EcallAsk.the-variants as asked
@@ -50,7 +51,7 @@ other-alike r n v h =
 
 -- one name that opens what a call goes through; the decoder stays shut
 opened : ℕ
-unfolding answerNumber exitNumber askNumber errorNumber spvpOf sieOf withBits guestPageFaultAddr standardRequest valueOf stored moved timed pended eventNumber bumped counted waitingAsk isIdle listed applied noArgs finishedOf askingOf failedOf refusedOf doneOf lesserOf returnsOf movesOf staysOf asksOf setTimerOf hypercallOf askFetchOf missedOf trapStatusOf injectedOf missedEffect setBits clearBits stimecmpBy stimecmpWord stimecmpStval calledOf baseOf effectOf stimecmpEffect loadUnder storeUnder faultOf faultEffect copiedEffect ecallAnswer ecallAskNumber completedOf argumentsOf ecallEffect virtualEffect mmioOf pageFaultOf classOf classEffect startEffect wordEffect fetchEffect numbersEffect valuesEffect answerValues fittingEffect answerEffect printCount fitted printable printedOf sourceNames forwardNames timeNames srstNames spiNames hsmNames consoleNames byteNames dbcnNames eidNames ecallNames funct3Names stimecmpNames storeNames classNames accessNames wordNames fetchNames answerNames namesOf readsOf sightOf stepOf runOf seenOf Untouched exitNumbers askNumbers replyNumbers sightNumbers toldOf sameList matters allMatter timeEffect spiEffect hsmEffect srstEffect spanEffect consoleEffect dbcnEffect rfncEffect forwardEffect notSupportedEffect leavesOf unlessAsking callNames callReads askedCount givesOf consoleReadEffect copiedOutEffect gprReply written renews wroteBy wrote
+unfolding answerNumber exitNumber askNumber errorNumber spvpOf sieOf withBits guestPageFaultAddr standardRequest valueOf stored moved timed pended eventNumber bumped counted waitingAsk isIdle listed applied noArgs finishedOf askingOf failedOf refusedOf doneOf lesserOf returnsOf movesOf staysOf asksOf setTimerOf hypercallOf askFetchOf missedOf trapStatusOf injectedOf missedEffect setBits clearBits stimecmpBy stimecmpWord stimecmpStval calledOf baseOf effectOf stimecmpEffect loadUnder storeUnder faultOf faultEffect copiedEffect ecallAnswer ecallAskNumber completedOf argumentsOf ecallEffect virtualEffect mmioOf pageFaultOf classOf classEffect startEffect wordEffect fetchEffect numbersEffect valuesEffect answerValues fittingEffect answerEffect printCount fitted printable printedOf sourceNames forwardNames timeNames srstNames spiNames hsmNames consoleNames byteNames dbcnNames eidNames ecallNames funct3Names stimecmpNames storeNames classNames accessNames wordNames fetchNames answerNames namesOf readsOf sightOf stepOf runOf seenOf Untouched exitNumbers askNumbers replyNumbers sightNumbers toldOf sameList named matters allMatter timeEffect spiEffect hsmEffect srstEffect spanEffect consoleEffect dbcnEffect rfncEffect forwardEffect notSupportedEffect leavesOf unlessAsking callNames callReads askedCount givesOf consoleReadEffect copiedOutEffect gprReply written renews wroteBy wrote
 opened = 0
 
 abbrev zeros : List ℕ
@@ -197,7 +198,7 @@ abbrev calls : ℕ → ℕ → List ℕ
 calls eid fid = set (set zeros 17 eid) 16 fid
 
 abbrev row : ℕ → List ℕ → Row
-row r x = record { register = r; content = 9; before = exampleRecord x; trap = ecall; later = [] }
+row r x = record { register = r; content = 9; before = exampleRecord x; calls = call (hostCall.Start ecall) ∷ [] }
 
 -- a7; legacy 0, a0; HVC, a5; sPI 0, a1; HSM 0, a2; DBCN 0, a2
 abbrev rows : List Row
@@ -215,11 +216,46 @@ unfolding opened
 rows-matter = refl
 
 -- csrrw of x5
-pub stimecmp-matters : matters (record { register = 5; content = 9; before = exampleRecord zeros; trap = trapped 22 0x14D292F3 0; later = [] }) ≡ true
+pub stimecmp-matters : matters (record { register = 5; content = 9; before = exampleRecord zeros; calls = call (hostCall.Start (trapped 22 0x14D292F3 0)) ∷ [] }) ≡ true
 unfolding opened
 stimecmp-matters = rw (csrrw-opcode, csrrw-csr, csrrw-funct3, csrrw-rs1)
 
 -- sw of x7
-pub store-matters : matters (record { register = 7; content = 6; before = exampleRecord (set zeros 7 5); trap = trapped 23 0 0x702023; later = [] }) ≡ true
+pub store-matters : matters (record { register = 7; content = 6; before = exampleRecord (set zeros 7 5); calls = call (hostCall.Start (trapped 23 0 0x702023)) ∷ [] }) ≡ true
 unfolding opened
 store-matters = rw (sw-x7, storeSource-store, cut-5, cut-6)
+
+-- compressed stores: c.sw of x9, which its trap fetches, and c.sdsp of x7, whose fetch waits when the sequence starts
+
+abbrev fetched : ℕ → Turn
+fetched w = call (hostCall.Answer (answers.Fetched (fetch.Word w)))
+
+pub c-sw-matters : matters (record { register = 9; content = 6; before = exampleRecord (set zeros 9 5); calls = call (hostCall.Start (trapped 23 0 0)) ∷ fetched 0xc004 ∷ [] }) ≡ true
+unfolding opened
+c-sw-matters = rw (absent, storeSource-absent, c-sw-x9, storeSource-store, cut-5, cut-6)
+
+abbrev storing : Vcpu
+storing = waits (waiting.FetchFault (record { 0 = 0x1000_0000 }) access.Write) (exampleRecord (set zeros 7 5))
+
+pub c-sdsp-matters : matters (record { register = 7; content = 6; before = storing; calls = fetched 0xe01e ∷ [] }) ≡ true
+unfolding opened
+c-sdsp-matters = rw (c-sdsp-x7, storeSource-store, long-5, long-6)
+
+-- c.lwsp into x7, whose fetch waits when the sequence starts, and its completion: x5 is not touched
+
+abbrev fetching : Vcpu
+fetching = waits (waiting.FetchFault (record { 0 = 0x1000_0000 }) access.Read) (exampleRecord (set zeros 5 1))
+
+abbrev fetchingCalls : List Turn
+fetchingCalls = fetched 0x4382 ∷ call (hostCall.CompleteLoad 0x8000_0000) ∷ []
+
+pub fetching-met : Met 5 2 fetching fetchingCalls (reply.Exit (exit.MmioRead (record { 0 = 0x1000_0000 }) width.Word) ∷ reply.Done ∷ [])
+unfolding opened
+fetching-met =
+    record {
+      alike = other-alike 5 2 fetching refl;
+      untouched = (apart, apart, (apart, apart, tt));
+      seen = rw c-lwsp-x7;
+      before = refl;
+      after = rw c-lwsp-x7;
+    }

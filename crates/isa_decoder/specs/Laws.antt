@@ -15,6 +15,11 @@ use Rattle.isa_fields.specs.Fields.{funct3Field, opcodeField, rdField, rs2Field
 use Rattle.isa_types.specs.Pick.{or, pick, and}
 use Rattle.isa_types.specs.declared.Width.the-variants as width
 
+-- a word that has yet to be fetched reads nothing
+pub storeSource-absent : storeSource trapped.Absent ≡ 0
+unfolding storeSource
+storeSource-absent = refl
+
 -- a store reads its rs2
 pub storeSource-store : (w : Width) (rs2 n : ℕ) → storeSource (trapped.Instruction (decoded.Store w rs2) n) ≡ rs2
 unfolding storeSource opSource

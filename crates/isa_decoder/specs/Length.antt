@@ -1,5 +1,5 @@
 -- The instruction's length and the word to decode. PRIV, 'Hypervisor Extension', htinst: transformed instructions and
--- pseudoinstructions; ISA, 'Expanded Instruction-Length Encoding'; 01, Guest page fault.
+-- pseudoinstructions; ISA, 'Expanded Instruction-Length Encoding'; 01, Guest page fault; 02, W2.
 use Prim.Native.Nat.{ℕ, _/_, _%_, _^_}
 use lib.Dec.{eqb}
 use lib.Bits.{bitOr}
@@ -8,6 +8,7 @@ use Rattle.isa_decoder.specs.declared.Decoded.{Decoded}
 use Rattle.isa_decoder.specs.declared.Decoded.the-variants as decoded
 use Rattle.isa_decoder.specs.declared.Trapped.{Trapped}
 use Rattle.isa_decoder.specs.declared.Trapped.the-variants as trapped
+use Rattle.isa_decoder.specs.Compressed.{compressedOf}
 use Rattle.isa_decoder.specs.Decode.{decodeOf}
 
 -- the low 32 bits of htinst. 0x3000 and 0x3020: a read or write of the page-table walk, and no instruction. Else low bits 01
@@ -24,13 +25,12 @@ transformedOf w =
 unfoldable pub htinstOf : ℕ → Trapped
 htinstOf h = pick (eqb h 0) trapped.Absent (transformedOf (h % 2 ^ 32))
 
--- a fetched word: low two bits not 3 is length 2 (16 bits are kept, and a word that ends so is no 32-bit load or store),
--- bits 4..2 not 7 is length 4
+-- a fetched word: low two bits not 3 is length 2, a compressed instruction in the low 16 bits (02, W2); bits 4..2 not 7 is length 4
 unfoldable pub fetchedOf : ℕ → Trapped
 fetchedOf w =
     pick (eqb (w % 4) 3)
     (pick (eqb (w / 4 % 8) 7) trapped.Unfit (trapped.Instruction (decodeOf w) 4))
-    (trapped.Instruction (decodeOf (w % 2 ^ 16)) 2)
+    (trapped.Instruction (compressedOf w) 2)
 
 -- the register that a decoded store reads: its rs2; 0 stands for none
 unfoldable pub opSource : Decoded → ℕ

@@ -1,9 +1,9 @@
 -- funct3 and bit 1 as the decoder takes them, with no branch: the same loads, stores and lengths.
 use Prim.Native.Nat.{ℕ, suc, zero, _<_, _≤_, _+_, _*_, _/_, _%_}
-use native.Mathlib.Nat.{mod-lt}
+use native.Mathlib.Nat.{div-add-mod', mod-lt}
 use native.Mathlib.Omega.{arith}
 use mathlib.Core.Bool.{Bool, true, false}
-use mathlib.Core.Path.{_≡_, refl, ap, sym, _∙_}
+use mathlib.Core.Path.{_≡_, refl, ap, sym, subst, _∙_}
 use lib.Arith.{mod-mul}
 use lib.Dec.{eqb, ltb}
 use borrow.Author.Tests.{ne-eqb}
@@ -14,6 +14,7 @@ use Rattle.isa_decoder.specs.declared.Decoded.the-variants as decoded
 use Rattle.isa_decoder.specs.declared.Decoded.{Decoded}
 use Rattle.isa_decoder.specs.declared.Trapped.the-variants as trapped
 use Rattle.isa_decoder.specs.declared.Trapped.{Trapped}
+use Rattle.isa_decoder.specs.Compressed.{quadrant0Of, quadrant2Of, spLoadOf}
 use Rattle.isa_decoder.specs.Decode.{loadOf, storeOf}
 
 -- the four widths in order
@@ -83,3 +84,66 @@ length-odd w d h =
     let small : w % 2 < 2 = mod-lt w (omega arith) in
     let one : w % 2 ≡ 1 = omega (arith, h) in
     sym (ap (λ (n : ℕ). byLow n d) (two-bits w ∙ ap (λ (n : ℕ). (w / 2 % 2) * 2 + n) one) ∙ odd-by (w / 2 % 2) d (mod-lt (w / 2) (omega arith)))
+
+-- a quadrant of the 16-bit words by its loads and stores: funct3 2 and 3, 6 and 7
+abbrev byWidth : (Width → Decoded) → (Width → Decoded) → ℕ → Decoded
+byWidth load store f =
+    pick (eqb f 2) (load width.Word)
+    (pick (eqb f 3) (load width.Double)
+    (pick (eqb f 6) (store width.Word)
+    (pick (eqb f 7) (store width.Double)
+    decoded.Neither)))
+
+-- half a number, and which half
+halved : (f q : ℕ) → f / 2 ≡ q → q * 2 + f % 2 ≡ f
+halved f q h = ap (λ (n : ℕ). n * 2 + f % 2) (sym h) ∙ div-add-mod' f 2
+
+c-load-by : (load store : Width → Decoded) (r : ℕ) → r < 2 → load (widthAt ((1 * 2 + r) % 4)) ≡ byWidth load store (1 * 2 + r)
+unfolding widthAt
+c-load-by load store zero h = refl
+c-load-by load store (suc zero) h = refl
+c-load-by load store (suc (suc r)) h = absurd (omega arith)
+
+c-store-by : (load store : Width → Decoded) (r : ℕ) → r < 2 → store (widthAt ((3 * 2 + r) % 4)) ≡ byWidth load store (3 * 2 + r)
+unfolding widthAt
+c-store-by load store zero h = refl
+c-store-by load store (suc zero) h = refl
+c-store-by load store (suc (suc r)) h = absurd (omega arith)
+
+loads-by : (load store : Width → Decoded) (f : ℕ) → f / 2 ≡ 1 → load (widthAt (f % 4)) ≡ byWidth load store f
+loads-by load store f h =
+    subst (λ (n : ℕ). load (widthAt (n % 4)) ≡ byWidth load store n) (halved f 1 h) (c-load-by load store (f % 2) (mod-lt f (omega arith)))
+
+stores-by : (load store : Width → Decoded) (f : ℕ) → f / 2 ≡ 3 → store (widthAt (f % 4)) ≡ byWidth load store f
+stores-by load store f h =
+    subst (λ (n : ℕ). store (widthAt (n % 4)) ≡ byWidth load store n) (halved f 3 h) (c-store-by load store (f % 2) (mod-lt f (omega arith)))
+
+neither-by : (load store : Width → Decoded) (f : ℕ) → (f / 2 ≡ 1 → ⊥) → (f / 2 ≡ 3 → ⊥) → decoded.Neither ≡ byWidth load store f
+neither-by load store f h k =
+    simp (ne-eqb f 2 (λ e. h (ap (λ (n : ℕ). n / 2) e)), ne-eqb f 3 (λ e. h (ap (λ (n : ℕ). n / 2) e)), ne-eqb f 6 (λ e. k (ap (λ (n : ℕ). n / 2) e)), ne-eqb f 7 (λ e. k (ap (λ (n : ℕ). n / 2) e)))
+
+-- C.LW and C.LD, C.SW and C.SD, none of them
+pub c-load-straight : (f r : ℕ) → f / 2 ≡ 1 → decoded.Load (widthAt (f % 4)) true r ≡ quadrant0Of f r
+unfolding quadrant0Of
+c-load-straight f r h = loads-by (λ w. decoded.Load w true r) (λ w. decoded.Store w r) f h
+
+pub c-store-straight : (f r : ℕ) → f / 2 ≡ 3 → decoded.Store (widthAt (f % 4)) r ≡ quadrant0Of f r
+unfolding quadrant0Of
+c-store-straight f r h = stores-by (λ w. decoded.Load w true r) (λ w. decoded.Store w r) f h
+
+pub c-neither : (f r : ℕ) → (f / 2 ≡ 1 → ⊥) → (f / 2 ≡ 3 → ⊥) → decoded.Neither ≡ quadrant0Of f r
+unfolding quadrant0Of
+c-neither f r h k = neither-by (λ w. decoded.Load w true r) (λ w. decoded.Store w r) f h k
+
+-- C.LWSP and C.LDSP, C.SWSP and C.SDSP, none of them
+pub sp-load-straight : (f rd rs2 : ℕ) → f / 2 ≡ 1 → spLoadOf (widthAt (f % 4)) rd ≡ quadrant2Of f rd rs2
+unfolding quadrant2Of
+sp-load-straight f rd rs2 h = loads-by (λ w. spLoadOf w rd) (λ w. decoded.Store w rs2) f h
+
+pub sp-store-straight : (f rd rs2 : ℕ) → f / 2 ≡ 3 → decoded.Store (widthAt (f % 4)) rs2 ≡ quadrant2Of f rd rs2
+unfolding quadrant2Of
+sp-store-straight f rd rs2 h = stores-by (λ w. spLoadOf w rd) (λ w. decoded.Store w rs2) f h
+
+pub sp-neither : (f rd rs2 : ℕ) → (f / 2 ≡ 1 → ⊥) → (f / 2 ≡ 3 → ⊥) → decoded.Neither ≡ quadrant2Of f rd rs2
+unfolding quadrant2Of
+sp-neither f rd rs2 h k = neither-by (λ w. spLoadOf w rd) (λ w. decoded.Store w rs2) f h k

@@ -1,6 +1,7 @@
 // The instruction behind a guest page fault: its length, and whether it is a load or a store.
 // The handler knows this crate by its promises alone.
 ghost use mathlib.Core.Path.{_≡_};
+ghost use Rattle.isa_decoder.specs.Compressed.{compressedBy, compressedOf, quadrant0Of, quadrant2Of, spLoadOf};
 ghost use Rattle.isa_decoder.specs.Decode.{decodeBy, decodeOf, loadOf, storeOf};
 ghost use Rattle.isa_decoder.specs.Straight.{widthAt};
 ghost use Rattle.isa_decoder.specs.Length.{fetchedOf, htinstOf, opSource, storeSource, transformedOf};
@@ -76,7 +77,7 @@ pub fn from_fetched(word: u32) -> Trapped
         };
     }
     Trapped::Instruction {
-        op: decode(w % 0x1_0000),
+        op: compressed(w),
         length: 2,
     }
 }
@@ -98,6 +99,79 @@ fn decode_by(opcode: u64, word: u64) -> Decoded
         return store(isa_fields::funct3(word), isa_fields::rs2(word));
     }
     Decoded::Neither
+}
+
+// The load or store that a 16-bit word is.
+pub fn compressed(word: u64) -> Decoded
+    ensures { λ r. ⌜ r ≡ compressedOf word ⌝ }
+{
+    compressed_by(isa_fields::quadrant(word), word)
+}
+
+fn compressed_by(quadrant: u64, word: u64) -> Decoded
+    ensures { λ r. ⌜ r ≡ compressedBy quadrant word ⌝ }
+{
+    if quadrant == 0 {
+        return quadrant0(isa_fields::c_funct3(word), isa_fields::prime(word));
+    }
+    if quadrant == 2 {
+        return quadrant2(
+            isa_fields::c_funct3(word),
+            isa_fields::rd(word),
+            isa_fields::c_rs2(word),
+        );
+    }
+    Decoded::Neither
+}
+
+// C.LW, C.LD, C.SW, C.SD: bits 2 and 1 of funct3 are 01 in a load and 11 in a store, and its low two bits the width's place, as in a
+// 32-bit word. The width is taken before the tests: behind them the compiler knows that two are left, and makes a jump of it.
+fn quadrant0(funct3: u64, prime: usize) -> Decoded
+    ensures { λ r. ⌜ r ≡ quadrant0Of funct3 prime ⌝ }
+{
+    let w = width(funct3 % 4);
+    if funct3 / 2 == 1 {
+        return Decoded::Load {
+            width: w,
+            signed: true,
+            rd: prime,
+        };
+    }
+    if funct3 / 2 == 3 {
+        return Decoded::Store {
+            width: w,
+            rs2: prime,
+        };
+    }
+    Decoded::Neither
+}
+
+// C.LWSP, C.LDSP, C.SWSP, C.SDSP.
+fn quadrant2(funct3: u64, rd: usize, rs2: usize) -> Decoded
+    ensures { λ r. ⌜ r ≡ quadrant2Of funct3 rd rs2 ⌝ }
+{
+    let w = width(funct3 % 4);
+    if funct3 / 2 == 1 {
+        return sp_load(w, rd);
+    }
+    if funct3 / 2 == 3 {
+        return Decoded::Store { width: w, rs2 };
+    }
+    Decoded::Neither
+}
+
+// A load into x0 is reserved here, where a 32-bit one is a load.
+fn sp_load(width: Width, rd: usize) -> Decoded
+    ensures { λ r. ⌜ r ≡ spLoadOf width rd ⌝ }
+{
+    if rd == 0 {
+        return Decoded::Neither;
+    }
+    Decoded::Load {
+        width,
+        signed: true,
+        rd,
+    }
 }
 
 // The register that a store moves; 0, which reads 0, where there is no store.

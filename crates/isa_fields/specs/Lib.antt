@@ -1,1 +1,2 @@
+pub mod Compressed
 pub mod Fields

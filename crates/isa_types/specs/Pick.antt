@@ -1,6 +1,8 @@
 -- Choosing by a test, and 64-bit numbers.
 use Prim.Native.Nat.{ℕ, _%_, _^_}
+use native.Mathlib.Omega.{arith}
 use mathlib.Core.Bool.{Bool, true, false}
+use mathlib.Core.Path.{_≡_}
 
 -- the first where the test holds, else the second
 abbrev pub pick : {A : Type 0} → Bool → A → A → A
@@ -18,6 +20,10 @@ and false b = false
 abbrev pub not : Bool → Bool
 not true = false
 not false = true
+
+-- a test that holds and fails
+pub never : {A : Type 0} → true ≡ false → A
+never h = let z : _≡_ {A = ℕ} 0 1 = cc in absurd (omega arith)
 
 -- modulo 2^64
 abbrev pub wrapped : ℕ → ℕ

@@ -1,6 +1,5 @@
 -- Which calls touch hvip: every other one leaves it. 01, The record and Ecalls; 02, W1.
 use Prim.Native.Nat.{ℕ, _%_, _^_}
-use native.Mathlib.Omega.{arith}
 use mathlib.Core.Bool.{Bool, true, false}
 use mathlib.Core.List.{List}
 use mathlib.Core.Path.{_≡_, refl}
@@ -9,7 +8,7 @@ use lib.ListN.{getD}
 use Rattle.isa_consts.specs.Csr.{consoleRoom}
 use Rattle.isa_consts.specs.Sbi.{eidDbcn, eidHsm, eidHvc, eidRfnc, eidSpi, eidSrst, eidTime, legacyClearIpi, legacyFenceI, legacyGetchar, legacyPutchar, legacySendIpi, legacySetTimer, legacySfenceVma, legacySfenceVmaAsid, legacyShutdown}
 use Rattle.isa_consts.specs.Traps.{envCallFromVs, knownCause, loadGuestPageFault, storeGuestPageFault, supervisorExt, supervisorSoft, supervisorTimer, virtualInstruction}
-use Rattle.isa_types.specs.Pick.{and, or, pick}
+use Rattle.isa_types.specs.Pick.{and, never, or, pick}
 use Rattle.isa_types.specs.declared.GuestPhysAddr.{GuestPhysAddr}
 use Rattle.scope.specs.Answers.{answerEffect, fetchEffect, fittingEffect, numbersEffect, valuesEffect, wordEffect}
 use Rattle.scope.specs.Calls.{baseOf, calledOf, effectOf, gprReply}
@@ -80,9 +79,6 @@ touchesHvip v (hostCall.ToPrint length) = false
 -- an effect that leaves it
 pub record Keeps (c : Csrs) (e : Effect) : Type 0 where
   pub hvip : e .csrs .hs .hvip ≡ c .hs .hvip
-
-never : {A : Type 0} → true ≡ false → A
-never h = let z : _≡_ {A = ℕ} 0 1 = cc in absurd (omega arith)
 
 either : {c : Csrs} (b : Bool) {e f : Effect} → Keeps c e → Keeps c f → Keeps c (pick b e f)
 either {c} b k l = one-of (Keeps c) b k l

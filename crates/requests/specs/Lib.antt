@@ -1,2 +1,4 @@
 pub mod Hvip
 pub mod SetTimer
+pub mod Meaning
+pub mod Compressed

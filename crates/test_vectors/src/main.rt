@@ -1,6 +1,6 @@
 // Runs the decoder and the extension over the lists in data/ and counts the lines on which they give something else.
-// A line is an input and the expected answer, each of 16 hex digits; docs/VECTORS.md says what they mean.
-ghost use Prim.Native.Nat.{_<_, _≤_};
+// docs/VECTORS.md says what a line of each list is.
+ghost use Prim.Native.Nat.{_+_, _<_, _≤_};
 use isa_decoder::Decoded;
 use isa_decoder::Trapped;
 use isa_types::Width;
@@ -9,7 +9,17 @@ use libc::STDOUT_FILENO;
 // A list that never ends is cut here.
 const MOST_LINES: u64 = 100_000;
 
-// What is done with the input of each line of a list.
+// What a line of a list is.
+enum List {
+    // An input and the expected answer, each of 16 hex digits.
+    Pairs(Task),
+    // The answers for 48 words of 16 bits, each of 5 digits. The first line's words begin at this one.
+    Packed(u32),
+    // Two pairs: a fetched word and its answer, a number and what that load or store makes of it.
+    Executed,
+}
+
+// What is done with the input of a pair.
 enum Task {
     Decode,
     Fetched,
@@ -28,26 +38,36 @@ enum Line {
 
 // The arguments name the lists, in this order.
 fn main() {
-    run(1, Task::Decode);
-    run(2, Task::Fetched);
-    run(3, Task::Htinst);
-    run(4, Task::Load(Width::Byte, true));
-    run(5, Task::Load(Width::Half, true));
-    run(6, Task::Load(Width::Word, true));
-    run(7, Task::Load(Width::Double, true));
-    run(8, Task::Load(Width::Byte, false));
-    run(9, Task::Load(Width::Half, false));
-    run(10, Task::Load(Width::Word, false));
-    run(11, Task::Store(Width::Byte));
-    run(12, Task::Store(Width::Half));
-    run(13, Task::Store(Width::Word));
-    run(14, Task::Store(Width::Double));
-    // a line for each of a line's bytes, wrong there alone: this list shows that the comparison can say so
-    run(15, Task::Decode);
+    pairs(1, Task::Decode);
+    pairs(2, Task::Fetched);
+    pairs(3, Task::Htinst);
+    pairs(4, Task::Load(Width::Byte, true));
+    pairs(5, Task::Load(Width::Half, true));
+    pairs(6, Task::Load(Width::Word, true));
+    pairs(7, Task::Load(Width::Double, true));
+    pairs(8, Task::Load(Width::Byte, false));
+    pairs(9, Task::Load(Width::Half, false));
+    pairs(10, Task::Load(Width::Word, false));
+    pairs(11, Task::Store(Width::Byte));
+    pairs(12, Task::Store(Width::Half));
+    pairs(13, Task::Store(Width::Word));
+    pairs(14, Task::Store(Width::Double));
+    // the same list twice: the upper 16 bits of a fetched word, here all 0 and all 1, are not looked at
+    run(15, List::Packed(0));
+    run(16, List::Packed(0xffff_0000));
+    run(17, List::Executed);
+    // every line of these is wrong, and all but one in one byte alone: they show that each comparison can say so
+    pairs(18, Task::Decode);
+    run(19, List::Packed(0x4000));
+    run(20, List::Executed);
+}
+
+fn pairs(argument: usize, task: Task) {
+    run(argument, List::Pairs(task));
 }
 
 // Compares one list, and writes its name, its lines and how many of them are wrong.
-fn run(argument: usize, task: Task) {
+fn run(argument: usize, list: List) {
     let mut space = [0u8; 16];
     let n = os::arg(argument, &mut space);
     let fd = os::open_read(&space[..n]);
@@ -55,15 +75,15 @@ fn run(argument: usize, task: Task) {
         os::fail(&space[..n]);
         return;
     }
-    compare(fd, &space[..n], task);
+    compare(fd, &space[..n], list);
     libc::close(fd);
 }
 
-fn compare(fd: i32, name: &[u8], task: Task) {
+fn compare(fd: i32, name: &[u8], list: List) {
     let mut lines: u64 = 0;
     let mut wrong: u64 = 0;
     while lines < MOST_LINES {
-        match next_line(fd, task) {
+        match next_line(fd, list, lines) {
             Line::End => break,
             Line::Right => {
                 lines += 1;
@@ -79,23 +99,84 @@ fn compare(fd: i32, name: &[u8], task: Task) {
     print(name, b": wrong ", wrong);
 }
 
-// Reads a line and compares it: the input, spelled anew, and the answer must be its very bytes.
-fn next_line(fd: i32, task: Task) -> Line {
-    let mut line = [0u8; 34];
-    let n = io::read_full(fd, &mut line);
+// Reads a line, which so many stand before, and compares it: its inputs, spelled anew, and the answers must be its very bytes.
+fn next_line(fd: i32, list: List, before: u64) -> Line
+    requires { ⌜ before < 100000 ⌝ }
+{
+    let mut line = [0u8; 241];
+    let size = line_size(list);
+    let n = io::read_full(fd, &mut line[..size]);
     if n == 0 {
         return Line::End;
     }
-    if n == 34 && is_line_of(&line, task) {
+    if n == size && is_line_of(&line, list, before) {
         return Line::Right;
     }
     Line::Wrong
 }
 
-fn is_line_of(line: &[u8; 34], task: Task) -> bool {
-    let input = number(line);
+fn line_size(list: List) -> usize
+    ensures { λ r. ⌜ r ≤ 241 ⌝ }
+{
+    match list {
+        List::Pairs(_) => 34,
+        List::Packed(_) => 241,
+        List::Executed => 68,
+    }
+}
+
+fn is_line_of(line: &[u8; 241], list: List, before: u64) -> bool
+    requires { ⌜ before < 100000 ⌝ }
+{
+    match list {
+        List::Pairs(task) => is_pair(line, 0, task, b'\n'),
+        List::Packed(start) => is_packed(line, start as u64 + before * 64),
+        List::Executed => is_pair(line, 0, Task::Fetched, b' ') && is_moved(line),
+    }
+}
+
+// Whether a line has a pair at a place, and a byte after it.
+fn is_pair(line: &[u8; 241], at: usize, task: Task, after: u8) -> bool
+    requires { ⌜ at ≤ 207 ⌝ }
+{
+    let input = number(line, at);
     let answer = answered(task, input);
-    says(line, 0, input, b' ') && says(line, 17, answer, b'\n')
+    says(line, at, input, b' ') && says(line, at + 17, answer, after)
+}
+
+// Of the 64 numbers from this one on, those that end in the bits 11 begin a longer instruction and are left out.
+fn is_packed(line: &[u8; 241], first: u64) -> bool
+    requires { ⌜ first < 0x200000000 ⌝ }
+{
+    let mut i: usize = 0;
+    while i < 48 {
+        if !is_short(line, 5 * i, first + (i / 3 * 4 + i % 3) as u64) {
+            return false;
+        }
+        i += 1;
+    }
+    line[240] == b'\n'
+}
+
+// Whether a line has, at a place, the five digits of a word that is an instruction of 2 bytes.
+fn is_short(line: &[u8; 241], at: usize, word: u64) -> bool
+    requires { ⌜ at ≤ 235 ⌝ }
+{
+    let answer = answered(Task::Fetched, word);
+    answer / 0x10_0000 == 0x32 && spells(line, at, 5, answer % 0x10_0000)
+}
+
+// Whether a line has, behind the pair of its word, a number and what that 16-bit load or store makes of it.
+fn is_moved(line: &[u8; 241]) -> bool {
+    match isa_decoder::compressed(number(line, 0)) {
+        Decoded::Load {
+            width,
+            signed,
+            rd: _,
+        } => is_pair(line, 34, Task::Load(width, signed), b'\n'),
+        Decoded::Store { width, rs2: _ } => is_pair(line, 34, Task::Store(width), b'\n'),
+        Decoded::Neither => false,
+    }
 }
 
 fn answered(task: Task, input: u64) -> u64 {
@@ -143,12 +224,14 @@ fn sign(signed: bool) -> u64
     if signed { 0x100 } else { 0 }
 }
 
-// The number that a line's first 16 bytes spell, if they spell one.
-fn number(line: &[u8; 34]) -> u64 {
+// The number that 16 bytes of a line spell, if they spell one.
+fn number(line: &[u8; 241], at: usize) -> u64
+    requires { ⌜ at ≤ 225 ⌝ }
+{
     let mut n: u64 = 0;
     let mut i: usize = 0;
     while i < 16 {
-        n = n % 0x1000_0000_0000_0000 * 16 + hex_digit(line[i]);
+        n = n % 0x1000_0000_0000_0000 * 16 + hex_digit(line[at + i]);
         i += 1;
     }
     n
@@ -165,19 +248,27 @@ fn hex_digit(b: u8) -> u64
 }
 
 // Whether a line has the 16 digits of a number at a place, and a byte after them.
-fn says(line: &[u8; 34], at: usize, n: u64, after: u8) -> bool
-    requires { ⌜ at ≤ 17 ⌝ }
+fn says(line: &[u8; 241], at: usize, n: u64, after: u8) -> bool
+    requires { ⌜ at ≤ 224 ⌝ }
+{
+    spells(line, at, 16, n) && line[at + 16] == after
+}
+
+// Whether a line has the digits of a number at a place.
+fn spells(line: &[u8; 241], at: usize, digits: usize, n: u64) -> bool
+    requires { ⌜ digits ≤ 16 ⌝ }
+    requires { ⌜ at + digits ≤ 241 ⌝ }
 {
     let mut text = [0u8; 16];
-    io::hex(n, 16, &mut text);
+    io::hex(n, digits, &mut text);
     let mut i: usize = 0;
-    while i < 16 {
+    while i < digits {
         if line[at + i] != text[i] {
             return false;
         }
         i += 1;
     }
-    line[at + 16] == after
+    true
 }
 
 fn print(name: &[u8], what: &[u8], n: u64) {

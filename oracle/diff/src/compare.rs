@@ -1,6 +1,6 @@
 //! One trap on both sides, and whether the two agree but for the switches.
 
-use scripted::Request;
+use scripted::{Fetched, Request};
 
 use crate::input::Input;
 use crate::outcome::*;
@@ -37,8 +37,10 @@ pub fn run_both(
 ) -> Pair {
     let used = board.used;
     let given = rust_input(board, input);
-    let given_other = given.record != input.record || given.stale != input.stale;
-    let not_shown = if given_other { parts_from_twin(rust, input) } else { None };
+    let given_other = given.record != input.record
+        || given.stale != input.stale
+        || given.trap != input.trap;
+    let (asked, not_shown) = if given_other { run_true(rust, input) } else { Default::default() };
     if !loaded || given_other {
         rust.load(&given.record, given.bound, given.stale);
     }
@@ -46,7 +48,12 @@ pub fn run_both(
         subject.load(&input.record);
     }
     let mut by_rust = run_rust(board, rust, &given);
-    adjust(board, input, &mut by_rust);
+    if given.trap != input.trap {
+        // The Rust has the word from htinst; by the true input it asked for it.
+        by_rust.requests.splice(0..0, asked);
+    }
+    // The other switches go by the trap that the Rust was given.
+    adjust(board, &Input { trap: given.trap, ..input.clone() }, &mut by_rust);
     if let Some(switch) = not_shown {
         switches::not_shown(&mut by_rust, switch);
     }
@@ -74,9 +81,12 @@ fn run_rust(board: &mut Board, rust: &mut RustSide, given: &Input) -> Outcome {
 }
 
 /// Where the Rust is given another input, it must do with the true one what
-/// 01 does with its twin; otherwise the switch that does not show.
-fn parts_from_twin(rust: &mut RustSide, input: &Input) -> Option<Switch> {
-    let (switch, twin) = switches::twin(input)?;
+/// 01 does with its twin; otherwise the switch that does not show. Gives its
+/// requests too.
+fn run_true(rust: &mut RustSide, input: &Input) -> (Vec<Request>, Option<Switch>) {
+    let Some((switch, twin)) = switches::twin(input) else {
+        return Default::default();
+    };
     rust.load(&input.record, input.bound, input.stale);
     let board = &mut Board::all_on();
     let mut by_rust = run_rust(board, rust, input);
@@ -87,7 +97,13 @@ fn parts_from_twin(rust: &mut RustSide, input: &Input) -> Option<Switch> {
         by_rust.record.vstimecmp = twin.record.vstimecmp;
     }
     adjust(board, &twin, &mut by_rust);
-    (by_rust != by_model(&twin)).then_some(switch)
+    // 01 has error 5 by the length rule, the Rust by the decoder.
+    let undecoded = match (switch, input.script.fetch) {
+        (Switch::Compressed, Fetched::Word(word)) => Some(word & 0xffff),
+        _ => None,
+    };
+    let shown = by_rust == Outcome { undecoded, ..by_model(&twin) };
+    (by_rust.requests, (!shown).then_some(switch))
 }
 
 /// A build with overflow checks panics where sepc passes 2^64. The outcome

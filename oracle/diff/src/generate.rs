@@ -8,8 +8,9 @@ use crate::input::Input;
 use crate::instructions::*;
 use crate::random::Random;
 
-/// The classes, by the names that `--only` takes.
-pub const CLASSES: [&str; 61] = [
+/// The classes, by the names that `--only` takes. A new one stands last: the
+/// stored captures of those before it then stay as they are.
+pub const CLASSES: [&str; 64] = [
     "interrupt-handled",
     "interrupt-known",
     "interrupt-unknown",
@@ -71,6 +72,9 @@ pub const CLASSES: [&str; 61] = [
     "wild-ecall",
     "wild-fault",
     "wild",
+    "compressed-load-fetch",
+    "compressed-store-fetch",
+    "compressed-other-fetch",
 ];
 
 /// A record with every number random and nothing waiting.
@@ -262,7 +266,7 @@ fn virtual_instruction(r: &mut Random, name: &str, trap: &mut Trap, fetch: &mut 
 
 fn page_fault(r: &mut Random, name: &str, trap: &mut Trap, fetch: &mut Fetched) {
     // The direction fits the word more often than not.
-    let (fits, odd) = if name.starts_with("store") { (23, 21) } else { (21, 23) };
+    let (fits, odd) = if name.contains("store") { (23, 21) } else { (21, 23) };
     trap.scause = if r.once_in(4) { odd } else { fits };
     if !name.ends_with("htinst") {
         trap.htinst = 0;
@@ -294,6 +298,10 @@ fn page_fault(r: &mut Random, name: &str, trap: &mut Trap, fetch: &mut Fetched) 
         "load-fetch" => *fetch = Fetched::Word(load(r)),
         "store-fetch" => *fetch = Fetched::Word(store(r)),
         "other-fetch" => *fetch = Fetched::Word(other(r)),
+        "compressed-load-fetch" => *fetch = Fetched::Word(compressed_load(r)),
+        "compressed-store-fetch" => *fetch = Fetched::Word(compressed_store(r)),
+        "compressed-other-fetch" => *fetch = Fetched::Word(compressed_other(r)),
+        // 32-bit forms but for their low bits, and any 16-bit words.
         "compressed-fetch" => {
             let words = [r.number() as u32, load(r), store(r), 0x3000, 0x3020];
             *fetch = Fetched::Word(r.pick(&words) & !3 | r.below(3) as u32);

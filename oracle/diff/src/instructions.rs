@@ -82,6 +82,73 @@ pub fn other(r: &mut Random) -> u32 {
     }
 }
 
+/// c.lw, c.ld, c.lwsp or c.ldsp.
+pub fn compressed_load(r: &mut Random) -> u32 {
+    let funct3 = r.pick(&[2, 3]);
+    let word = if r.coin() {
+        compressed(r, 0, funct3)
+    } else {
+        let rd = match register(r) {
+            0 => 10,
+            rd => rd,
+        };
+        compressed(r, 2, funct3) & !(31 << 7) | rd << 7
+    };
+    below_any_half(r, word)
+}
+
+/// c.sw, c.sd, c.swsp or c.sdsp; the last two with bits 11..7, of their
+/// offset, 0 more often.
+pub fn compressed_store(r: &mut Random) -> u32 {
+    let funct3 = r.pick(&[6, 7]);
+    let word = if r.coin() {
+        compressed(r, 0, funct3)
+    } else {
+        let word = compressed(r, 2, funct3) & !(31 << 2) | register(r) << 2;
+        if r.once_in(4) {
+            word & !(31 << 7)
+        } else {
+            word
+        }
+    };
+    below_any_half(r, word)
+}
+
+/// A 16-bit word, most of them no load or store of the eight, but nearly.
+pub fn compressed_other(r: &mut Random) -> u32 {
+    let (quadrant, funct3) = (r.pick(&[0, 2]), r.below(8) as u32);
+    let word = match r.below(8) {
+        // c.lwsp and c.ldsp into x0, which are reserved.
+        0 | 1 => compressed(r, 2, 2 | funct3 & 1) & !(31 << 7),
+        // c.fld, c.fsd and those by sp.
+        2 => compressed(r, quadrant, 1 | funct3 & 4),
+        // Later extensions' c.lbu, c.lhu, c.lh, c.sb, c.sh.
+        3 => compressed(r, 0, 4),
+        4 => compressed(r, 1, funct3),
+        // No instruction, and what would be pseudo words in htinst.
+        5 => r.pick(&[0, 0, 0x3000, 0x3020]),
+        // A bit off one of the eight.
+        6 => compressed(r, quadrant, 2 | funct3) ^ 1 << r.below(16),
+        _ => r.below(1 << 16) as u32,
+    };
+    let word = if word & 3 == 3 { word ^ 1 << r.below(2) } else { word };
+    below_any_half(r, word)
+}
+
+/// Any 16-bit word of a quadrant and funct3.
+fn compressed(r: &mut Random, quadrant: u32, funct3: u32) -> u32 {
+    r.below(1 << 16) as u32 & !0xe003 | funct3 << 13 | quadrant
+}
+
+/// A 16-bit word as a fetch may give it: alone, or with what stands behind it.
+fn below_any_half(r: &mut Random, word: u32) -> u32 {
+    match r.below(4) {
+        0 | 1 => word,
+        2 => 0xffff_0000 | word,
+        _ => (r.number() as u32) << 16 | word,
+    }
+}
+
 /// htinst for a 32-bit word: bit 1 is clear for a compressed one, and the
 /// high half may hold anything.
 pub fn htinst(r: &mut Random, word: u32) -> u64 {

@@ -7,6 +7,9 @@ mod captures;
 mod compare;
 mod constants;
 #[cfg(test)]
+mod every_compressed;
+mod expand;
+#[cfg(test)]
 mod faults;
 mod generate;
 #[cfg(has_in_place)]

@@ -6,7 +6,7 @@ use model::*;
 
 use crate::calls::{random_call, vector};
 use crate::generate;
-use crate::instructions::{load, other, stimecmp, store};
+use crate::instructions::*;
 use crate::random::Random;
 use crate::subject::{Model, Subject};
 
@@ -97,7 +97,7 @@ fn fitting_answer(r: &mut Random, waiting: &Waiting) -> Answer {
     match *waiting {
         Waiting::Fetch(_) => {
             let at = r.edgy();
-            Answer::Fetch(match r.below(10) {
+            Answer::Fetch(match r.below(13) {
                 0 => FetchAnswer::Page(GuestVirtAddr(at)),
                 1 => FetchAnswer::Access(GuestVirtAddr(at)),
                 2 => FetchAnswer::Misaligned(GuestVirtAddr(at)),
@@ -107,6 +107,9 @@ fn fitting_answer(r: &mut Random, waiting: &Waiting) -> Answer {
                 6 => FetchAnswer::Word(load(r)),
                 7 => FetchAnswer::Word(store(r)),
                 8 => FetchAnswer::Word(other(r)),
+                9 => FetchAnswer::Word(compressed_load(r)),
+                10 => FetchAnswer::Word(compressed_store(r)),
+                11 => FetchAnswer::Word(compressed_other(r)),
                 _ => FetchAnswer::Word(at as u32),
             })
         }

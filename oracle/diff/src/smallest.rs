@@ -46,6 +46,8 @@ fn with(mut input: Input, change: impl FnOnce(&mut Input)) -> Input {
 fn inputs() -> Vec<(&'static str, Input, Ending, Ending)> {
     let nothing = Ending::NOTHING;
     let nested = |flags| Ending::new(NESTED_PAGE_FAULT, &[0, flags]);
+    let read_of = |bytes| Ending::new(MMIO_READ, &[0, bytes]);
+    let write_of = |bytes, data| Ending::new(MMIO_WRITE, &[0, bytes, data]);
     let csr = |stval| with(input(22), |i| i.trap.stval = stval);
     let hvip = |input| with(input, |i| i.record.hvip = 0x40);
     let htinst = |scause, htinst| with(input(scause), |i| i.trap.htinst = htinst);
@@ -53,6 +55,7 @@ fn inputs() -> Vec<(&'static str, Input, Ending, Ending)> {
     let read = with(ecall(&[(17, EID_DBCN), (16, 1), (10, 1)]), |i| i.trap.room = 1);
     let stale = with(csr(0x14D0_20F3), |i| i.stale = Some(1));
     let store = with(htinst(23, 0x10_0023), |i| i.record.x[1] = 0x100);
+    let compressed_store = with(fetched(23, 0xc000), |i| i.record.x[8] = 1 << 32);
     vec![
         ("console-bound", ecall(&console), nothing, nothing),
         ("console-a2", with(ecall(&console), |i| i.record.x[12] = 1), nothing, nothing),
@@ -62,27 +65,38 @@ fn inputs() -> Vec<(&'static str, Input, Ending, Ending)> {
         ("fetched-opcode", fetched(22, 0x14D0_2000), Ending::error(3), nothing),
         ("trap-codes", input(2), Ending::error(3), Ending::error(4)),
         ("trap-codes", input(1 << 63), Ending::error(3), Ending::error(4)),
-        ("direction", fetched(23, 0x03), nested(2), Ending::new(MMIO_READ, &[0, 1])),
-        ("direction", fetched(21, 0x23), nested(1), Ending::new(MMIO_WRITE, &[0, 1, 0])),
+        ("direction", fetched(23, 0x03), nested(2), read_of(1)),
+        ("direction", fetched(21, 0x23), nested(1), write_of(1, 0)),
         ("other-word-flags", htinst(21, 5), nested(1), nested(0)),
         ("undecoded-word", fetched(21, 0), nested(1), Ending::error(5)),
-        (
-            "store-data",
-            store,
-            Ending::new(MMIO_WRITE, &[0, 1, 0]),
-            Ending::new(MMIO_WRITE, &[0, 1, 0x100]),
-        ),
-        (
-            "access-events",
-            htinst(21, 1),
-            Ending::new(MMIO_READ, &[0, 1]),
-            Ending::new(MMIO_READ, &[0, 1]),
-        ),
+        // c.lwsp into x0, and c.lw under 23: neither is an access.
+        ("undecoded-word", fetched(21, 0x4002), nested(1), Ending::error(5)),
+        ("undecoded-word", fetched(23, 0x4000), nested(2), Ending::error(5)),
+        // c.lw, c.ld, c.lwsp, c.ldsp
+        ("compressed", fetched(21, 0x4000), read_of(4), Ending::error(5)),
+        ("compressed", fetched(21, 0x6000), read_of(8), Ending::error(5)),
+        ("compressed", fetched(21, 0x4082), read_of(4), Ending::error(5)),
+        ("compressed", fetched(21, 0x6082), read_of(8), Ending::error(5)),
+        // c.sw, c.sd, c.swsp, c.sdsp
+        ("compressed", fetched(23, 0xc000), write_of(4, 0), Ending::error(5)),
+        ("compressed", fetched(23, 0xe000), write_of(8, 0), Ending::error(5)),
+        ("compressed", fetched(23, 0xc002), write_of(4, 0), Ending::error(5)),
+        ("compressed", fetched(23, 0xe002), write_of(8, 0), Ending::error(5)),
+        ("store-data", store, write_of(1, 0), write_of(1, 0x100)),
+        ("store-data", compressed_store, write_of(4, 0), write_of(4, 1 << 32)),
+        ("access-events", htinst(21, 1), read_of(1), read_of(1)),
+        ("access-events", fetched(21, 0x4000), read_of(4), read_of(4)),
         ("cached-vstimecmp", stale, nothing, nothing),
         (
             "sepc-overflow",
             with(ecall(&[]), |i| i.record.sepc = u64::MAX - 3),
             nothing,
+            Ending::new(PANIC, &[]),
+        ),
+        (
+            "sepc-overflow",
+            with(fetched(21, 0x4000), |i| i.record.sepc = u64::MAX - 1),
+            read_of(4),
             Ending::new(PANIC, &[]),
         ),
     ]
@@ -95,7 +109,7 @@ fn off(name: &str) -> Board {
 }
 
 /// Every subject that this program was built with.
-fn subjects() -> Vec<Box<dyn Subject>> {
+pub fn subjects() -> Vec<Box<dyn Subject>> {
     use SubjectName::*;
     [Model, Abi, InPlace].into_iter().filter_map(subject_named).collect()
 }

@@ -22,6 +22,7 @@ pub enum Switch {
     Direction,
     OtherWordFlags,
     UndecodedWord,
+    Compressed,
     StoreData,
     AccessEvents,
     CachedVstimecmp,
@@ -33,7 +34,7 @@ pub enum Switch {
 use Switch::*;
 
 /// Each switch with its name and what it does.
-pub const SWITCHES: [(Switch, &str, &str); 15] = [
+pub const SWITCHES: [(Switch, &str, &str); 16] = [
     (ConsoleBound, "console-bound", "DBCN 0 and 1 with a0 above the room: the Rust is given a0 = room"),
     (ConsoleA2, "console-a2", "DBCN 0 and 1 with a0 and a2 not 0: the Rust's outcome is replaced by INVALID_PARAM, 0"),
     (EmptyCopy, "empty-copy", "DBCN 1 answered 0, 0: the Rust's copy of no bytes is dropped, and 0, 0 returned"),
@@ -43,6 +44,7 @@ pub const SWITCHES: [(Switch, &str, &str); 15] = [
     (Direction, "direction", "a load under 23 or a store under 21, which the Rust decodes: NestedPageFault, record unchanged"),
     (OtherWordFlags, "other-word-flags", "a word that is no load or store: the Rust's NestedPageFault gets READ or WRITE"),
     (UndecodedWord, "undecoded-word", "a word that the decoder refuses: the Rust's error 5 is NestedPageFault with READ or WRITE"),
+    (Compressed, "compressed", "a fetched 16-bit load or store, which the stand-in's decoder refuses: the Rust is given its 32-bit form in htinst"),
     (StoreData, "store-data", "MmioWrite: the Rust's data is cut to the width"),
     (AccessEvents, "access-events", "a decoded load or store: the Rust's two PMU events are not compared"),
     (CachedVstimecmp, "cached-vstimecmp", "a stimecmp access with a saved vstimecmp that is not the live one: the Rust is given the live one"),
@@ -107,6 +109,11 @@ pub fn rust_input(board: &mut Board, input: &Input) -> Input {
     {
         given.stale = None;
     }
+    if let Some(htinst) = compressed(input) {
+        if board.takes(Compressed) {
+            given.trap.htinst = htinst as u64;
+        }
+    }
     given
 }
 
@@ -119,6 +126,12 @@ pub fn twin(input: &Input) -> Option<(Switch, Input)> {
         // 01 has no more room than this.
         twin.trap.room = a0;
         return (a0 <= 4096).then_some((ConsoleBound, twin));
+    }
+    if compressed(input).is_some() {
+        // Error 5 after the fetch, and nothing else: what 01 has for a word
+        // that is too long.
+        twin.script.fetch = Fetched::Word(0x1f);
+        return Some((Compressed, twin));
     }
     twin.record.vstimecmp = input.stale?;
     twin.stale = None;

@@ -5,7 +5,7 @@
 
 use crate::calls::{root, vector};
 use crate::generate;
-use crate::instructions::{load, other, stimecmp, store};
+use crate::instructions::*;
 use crate::random::Random;
 use crate::record_words::{ReplyWords, Words};
 
@@ -44,6 +44,8 @@ pub struct Tally {
     errors: [u64; 8],
     /// Of the replies to kind 13, those that print.
     printed: u64,
+    /// Loads and stores by a fetched 16-bit word.
+    compressed: [u64; 2],
 }
 
 impl Tally {
@@ -62,7 +64,7 @@ impl Tally {
 
     /// Prints the counts; true if everything was reached.
     pub fn print(&self, entry: &Entry) -> bool {
-        let mut reached = self.printed != 0;
+        let mut reached = self.printed != 0 && !self.compressed.contains(&0);
         for (what, row) in self.rows() {
             for (number, count) in row.iter().enumerate() {
                 // Asks and errors are from 1 on; kinds of call too, and to
@@ -77,6 +79,8 @@ impl Tally {
             }
         }
         println!("bytes to print{:>9}", self.printed);
+        println!("16-bit loads{:>11}", self.compressed[0]);
+        println!("16-bit stores{:>10}", self.compressed[1]);
         if !reached {
             println!("a number was not reached");
         }
@@ -113,6 +117,9 @@ pub fn one(r: &mut Random, entry: &Entry, tally: &mut Tally) -> Result<(), Strin
     let due = from01::call(&mut due_words, kind, numbers);
     let is = (entry.call)(&mut words, kind, numbers);
     tally.reply(kind, &due);
+    if kind == 11 && numbers[1] & 3 != 3 && due.kind == 0 && matches!(due.number, 9 | 10) {
+        tally.compressed[due.number as usize - 9] += 1;
+    }
     let same = is.kind == due.kind
         && is.number == due.number
         && is.values == due.values
@@ -170,14 +177,17 @@ fn waiting(r: &mut Random, call: u64) -> [u64; 4] {
         0 => strange(r, WAITING),
         1..=3 => r.below(WAITING + 1),
         _ => match call {
+            // A guest page fault's fetch, whose answers have the most rules.
+            11 if r.once_in(4) => 3,
             11 => 2 + r.below(WAITING - 1),
             12 => 1,
             13 => 6,
             _ => 0,
         },
     };
-    let bytes = r.pick(&[1, 2, 4, 8]);
-    let second = if r.coin() { bytes } else { number(r) };
+    // A width, or READ and WRITE.
+    let known: &[u64] = if kind == 3 { &[1, 2] } else { &[1, 2, 4, 8] };
+    let second = if r.coin() { r.pick(known) } else { number(r) };
     [kind, number(r), second, if r.coin() { r.below(2) } else { number(r) }]
 }
 
@@ -194,10 +204,13 @@ fn answer(r: &mut Random, waiting: &[u64; 4], numbers: &mut [u64; 5]) {
     };
     match ask {
         1 if r.coin() => {
-            let word = match r.below(4) {
+            let word = match r.below(7) {
                 0 => load(r),
                 1 => store(r),
                 2 => stimecmp(r),
+                3 => compressed_load(r),
+                4 => compressed_store(r),
+                5 => compressed_other(r),
                 _ => other(r),
             };
             (numbers[1], numbers[2]) = (r.number() << 32 | word as u64, 0);

@@ -3,6 +3,7 @@
 
 use scripted::Fetched;
 
+use crate::expand;
 use crate::input::Input;
 
 /// Whether the word is a write or read of stimecmp, its opcode left aside.
@@ -39,10 +40,28 @@ pub enum FaultWord {
     Other,
 }
 
+/// A fetched 16-bit word that is a load under 21 or a store under 23, as
+/// htinst has it.
+pub fn compressed(input: &Input) -> Option<u32> {
+    let write = match input.trap.scause {
+        21 => false,
+        23 => true,
+        _ => return None,
+    };
+    if input.trap.htinst != 0 {
+        return None;
+    }
+    let Fetched::Word(word) = input.script.fetch else {
+        return None;
+    };
+    expand::htinst(word as u16).filter(|&htinst| expand::is_store(htinst) == write)
+}
+
 /// A guest page fault's word where the length rule lets it through, as the
-/// decoder is given it.
+/// decoder is given it. A compressed access has none here: it has a switch of
+/// its own.
 pub fn fault_word(input: &Input) -> Option<(FaultWord, u32)> {
-    if input.trap.scause != 21 && input.trap.scause != 23 {
+    if input.trap.scause != 21 && input.trap.scause != 23 || compressed(input).is_some() {
         return None;
     }
     let word = if input.trap.htinst == 0 {

@@ -1,6 +1,7 @@
 //! "Virtual instruction" and "Guest page fault", with the fetch that both
 //! may ask for.
 
+use crate::compressed;
 use crate::record::*;
 use crate::reply::*;
 
@@ -48,7 +49,7 @@ fn nested_page_fault(address: u64, access: Access) -> Reply {
 }
 
 /// The `size` bits of a word from bit `from` on.
-fn field(word: u32, from: u32, size: u32) -> u64 {
+pub fn field(word: u32, from: u32, size: u32) -> u64 {
     (u64::from(word) >> from) & ((1 << size) - 1)
 }
 
@@ -123,12 +124,13 @@ pub fn start_guest_page(
         return error(UNSUPPORTED);
     }
     // "Otherwise low bits 01 length 2, 11 length 4, else error 5; then OR 2."
+    // The 32-bit form with either length: W2 is about fetched words (reading).
     let length = match word % 4 {
         1 => 2,
         3 => 4,
         _ => return error(DECODE_FAILED),
     };
-    memory_access(r, address, access, word | 2, length)
+    memory_access(r, address, access, decode(word | 2), length)
 }
 
 pub fn fetched_guest_page(
@@ -145,15 +147,19 @@ pub fn fetched_guest_page(
     // "low two bits not 3 is length 2 (keep 16 bits); bits 4..2 not 7 is
     // length 4; else error 5." No OR 2 here (reading).
     if field(word, 0, 2) != 3 {
-        memory_access(r, address, access, word & 0xffff, 2)
+        // "when htinst is 0 our fetched 16-bit words": "Decode the ISA's c.lw
+        // [...] and move sepc on by 2." (W2) The upper 16 bits are not looked
+        // at (reading).
+        memory_access(r, address, access, compressed::decode(word as u16), 2)
     } else if field(word, 2, 3) != 7 {
-        memory_access(r, address, access, word, 4)
+        memory_access(r, address, access, decode(word), 4)
     } else {
         error(DECODE_FAILED)
     }
 }
 
-enum Decoded {
+/// What a word of either encoding decodes to.
+pub enum Decoded {
     Load { rd: u64, bytes: u64, signed: bool },
     Store { rs2: u64, bytes: u64 },
     Other,
@@ -181,9 +187,16 @@ fn decode(word: u32) -> Decoded {
     }
 }
 
-/// The access by its word. With EXECUTE nothing is decoded (words).
-fn memory_access(r: &mut Record, address: u64, access: Access, word: u32, length: u64) -> Reply {
-    match (access, decode(word)) {
+/// "the meaning of a load or store once, for both encodings, over the decoded
+/// form" (W2). With EXECUTE nothing is decoded (words).
+fn memory_access(
+    r: &mut Record,
+    address: u64,
+    access: Access,
+    decoded: Decoded,
+    length: u64,
+) -> Reply {
+    match (access, decoded) {
         // "sepc moves on by the length." "A decoded load waits": sepc moves
         // with the exit, and rd 0 waits too (reading).
         (Access::Read, Decoded::Load { rd, bytes, signed }) => {
@@ -198,7 +211,7 @@ fn memory_access(r: &mut Record, address: u64, access: Access, word: u32, length
             exit(MMIO_WRITE, &[address, bytes, cut(r.x(rs2), bytes)])
         }
         // "Everything else: NestedPageFault(address, READ or WRITE), record
-        // unchanged."
+        // unchanged." "as does a load under 23 or a store under 21" (W2).
         _ => nested_page_fault(address, access),
     }
 }

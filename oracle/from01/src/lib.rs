@@ -4,12 +4,14 @@
 //!
 //! It is written to be read beside 01 and the requests of 02 that have landed:
 //! each rule stands under the sentence that it follows. Quotes are 01's; one
-//! from a request has the request's name behind it, as "(W1)". "(reading)"
-//! marks a point that they leave open and a recorded reading settles,
-//! "(words)" one of the layout as words.
+//! from a request has the request's name behind it, as "(W1)" or "(W2)".
+//! "(reading)" marks a point that they leave open and a recorded reading
+//! settles, "(words)" one of the layout as words. Where they name a form of the
+//! ISA, its fields are the ISA's.
 
 #![forbid(unsafe_code)]
 
+mod compressed;
 mod ecall;
 mod fault;
 mod record;

@@ -1,5 +1,5 @@
 //! The marked cases, the refusal table, the rules of the waiting words and
-//! each rule of 01 by an example; then W1 with what it says stays.
+//! each rule of 01 by an example; then W1 and W2, each with what it says stays.
 
 use super::*;
 
@@ -592,7 +592,10 @@ fn ask_number(words: &mut [u64; 58]) -> u64 {
 
 #[test]
 fn waiting_fetch_with_execute_decodes_nothing() {
-    for word in [0x2383, 0x702023, 0x13, 0x2381] {
+    for word in [0x2383, 0x702023, 0x13, 0x2381]
+        .into_iter()
+        .chain(c_words())
+    {
         check(
             &mut with(&[(54, 3), (55, 0x1000), (56, 3)]),
             11,
@@ -1040,8 +1043,9 @@ fn loads_and_stores() {
             &[(54, 0)],
         );
     }
-    // Neither a load nor a store: funct3 7, SQ's place, another opcode. A
-    // fetched 16-bit word decodes as nothing, 0x3000 among them.
+    // Neither a load nor a store: funct3 7, SQ's place, another opcode. So with
+    // these fetched 16-bit words: quadrant 1, c.fld (0x3000 and 0x3020 are
+    // pseudo in htinst alone) and 0x0000.
     for word in [0x7003, 0x4023, 0x13] {
         let nested = exit(NESTED_PAGE_FAULT, &[4, 1]);
         check(&mut filled(), 10, [21, 0, 1, word, 0], nested, &[]);
@@ -1404,6 +1408,417 @@ fn w1_a_later_tick_is_kept() {
     step(10, [22, 0x14D29073, 0, 0, 0], 0x400);
 }
 
+// W2: compressed loads and stores
+
+/// Each load of the eight by an example: the word, rd and the bytes.
+const C_LOADS: [(u64, u64, u64); 4] = [
+    // c.lw x14, 4(x15). CL: funct3 010, offset[5:3] 000, rs1' 15 - 8 = 111,
+    // offset[2|6] 10, rd' 14 - 8 = 110, op 00:
+    // 010 000 111 10 110 00 = 0100 0011 1101 1000.
+    (0x43D8, 14, 4),
+    // c.ld x11, 200(x10); 200 = 128 + 64 + 8. CL: funct3 011, offset[5:3] 001,
+    // rs1' 10 - 8 = 010, offset[7:6] 11, rd' 11 - 8 = 011, op 00:
+    // 011 001 010 11 011 00 = 0110 0101 0110 1100.
+    (0x656C, 11, 8),
+    // c.lwsp x5, 12(x2); 12 = 8 + 4. CI: funct3 010, offset[5] 0, rd 00101,
+    // offset[4:2] 011, offset[7:6] 00, op 10:
+    // 010 0 00101 011 00 10 = 0100 0010 1011 0010.
+    (0x42B2, 5, 4),
+    // c.ldsp x31, 296(x2); 296 = 256 + 32 + 8. CI: funct3 011, offset[5] 1, rd
+    // 11111, offset[4:3] 01, offset[8:6] 100, op 10:
+    // 011 1 11111 01 100 10 = 0111 1111 1011 0010.
+    (0x7FB2, 31, 8),
+];
+
+/// Each store of the eight by an example: the word, rs2 and the bytes.
+const C_STORES: [(u64, usize, u64); 4] = [
+    // c.sw x9, 64(x12). CS: funct3 110, offset[5:3] 000, rs1' 12 - 8 = 100,
+    // offset[2|6] 01, rs2' 9 - 8 = 001, op 00:
+    // 110 000 100 01 001 00 = 1100 0010 0010 0100.
+    (0xC224, 9, 4),
+    // c.sd x15, 16(x8). CS: funct3 111, offset[5:3] 010, rs1' 8 - 8 = 000,
+    // offset[7:6] 00, rs2' 15 - 8 = 111, op 00:
+    // 111 010 000 00 111 00 = 1110 1000 0001 1100.
+    (0xE81C, 15, 8),
+    // c.swsp x1, 84(x2); 84 = 64 + 16 + 4. CSS: funct3 110, offset[5:2] 0101,
+    // offset[7:6] 01, rs2 00001, op 10:
+    // 110 0101 01 00001 10 = 1100 1010 1000 0110.
+    (0xCA86, 1, 4),
+    // c.sdsp x8, 384(x2); 384 = 256 + 128. CSS: funct3 111, offset[5:3] 000,
+    // offset[8:6] 110, rs2 01000, op 10:
+    // 111 000 110 01000 10 = 1110 0011 0010 0010.
+    (0xE322, 8, 8),
+];
+
+/// The eight words.
+fn c_words() -> impl Iterator<Item = u64> {
+    let loads = C_LOADS.into_iter().map(|(word, ..)| word);
+    loads.chain(C_STORES.into_iter().map(|(word, ..)| word))
+}
+
+/// The fetch of a guest page fault at address 7 waits, with this access.
+fn fetching(base: [u64; 58], access: u64) -> [u64; 58] {
+    changed(base, &[(54, 3), (55, 7), (56, access)])
+}
+
+/// The word fetched under 21 is a load of length 2; gives the later record.
+#[track_caller]
+fn fetched_load(base: [u64; 58], word: u64, rd: u64, bytes: u64) -> [u64; 58] {
+    let mut w = fetching(base, 1);
+    let read = exit(MMIO_READ, &[7, bytes]);
+    let sepc = w[SEPC].wrapping_add(2);
+    let later = [(54, 1), (55, rd), (56, bytes), (57, 1), (SEPC, sepc)];
+    check(&mut w, 11, [1, word, 0, 0, 0], read, &later);
+    w
+}
+
+/// The word fetched under 23 is a store of length 2 and of this data.
+#[track_caller]
+fn fetched_store(base: [u64; 58], word: u64, bytes: u64, data: u64) {
+    let mut w = fetching(base, 2);
+    let write = exit(MMIO_WRITE, &[7, bytes, data]);
+    let later = [(54, 0), (SEPC, w[SEPC].wrapping_add(2))];
+    check(&mut w, 11, [1, word, 0, 0, 0], write, &later);
+}
+
+/// The fetched word ends as NestedPageFault with this access.
+#[track_caller]
+fn fetched_nested(word: u64, access: u64) {
+    let nested = exit(NESTED_PAGE_FAULT, &[7, access]);
+    let mut w = fetching(filled(), access);
+    check(&mut w, 11, [1, word, 0, 0, 0], nested, &[(54, 0)]);
+}
+
+/// Neither a load nor a store, with any access.
+#[track_caller]
+fn fetched_neither(word: u64) {
+    for access in [1, 2, 4] {
+        fetched_nested(word, access);
+    }
+}
+
+/// CI: funct3, bit 12, rd, bits 6..2, op 10. The rest is six bits.
+fn ci(funct3: u64, rd: u64, rest: u64) -> u64 {
+    let (bit_12, bits_6_to_2) = (rest / 32, rest % 32);
+    funct3 << 13 | bit_12 << 12 | rd << 7 | bits_6_to_2 << 2 | 2
+}
+
+/// A number cut to 4 or 8 bytes.
+fn cut(number: u64, bytes: u64) -> u64 {
+    match bytes {
+        4 => number % (1 << 32),
+        _ => number,
+    }
+}
+
+#[test]
+fn w2_each_load_from_its_start_to_its_completion() {
+    for (word, rd, bytes) in C_LOADS {
+        let mut w = filled();
+        let fetch = ask(ASK_FETCH, &[w[SEPC], 0]);
+        let waits = [(54, 3), (55, 7), (56, 1)];
+        check(&mut w, 10, [21, 3, 1, 0, 0], fetch, &waits);
+        let mut w = fetched_load(w, word, rd, bytes);
+        // The load waits as any other: a start and an answer are refused.
+        check(&mut w, 10, [21, 3, 1, 0, 0], error(2), &[]);
+        check(&mut w, 11, [1, word, 0, 0, 0], error(7), &[]);
+        let x = match bytes {
+            4 => 0xFFFF_FFFF_8586_8788,
+            _ => 0x8182_8384_8586_8788,
+        };
+        let numbers = [0x8182_8384_8586_8788, 0, 0, 0, 0];
+        check(&mut w, 12, numbers, done(), &[(rd as usize, x), (54, 0)]);
+    }
+}
+
+#[test]
+fn w2_each_store_from_its_start() {
+    for (word, rs2, bytes) in C_STORES {
+        let mut w = with(&[(rs2, 0x8182_8384_8586_8788)]);
+        let fetch = ask(ASK_FETCH, &[w[SEPC], 0]);
+        let waits = [(54, 3), (55, 7), (56, 2)];
+        check(&mut w, 10, [23, 3, 1, 0, 0], fetch, &waits);
+        let data = match bytes {
+            4 => 0x8586_8788,
+            _ => 0x8182_8384_8586_8788,
+        };
+        fetched_store(w, word, bytes, data);
+    }
+}
+
+#[test]
+fn w2_completions_cut_and_extend() {
+    for (word, rd, bytes) in C_LOADS {
+        for (number, low, whole) in [
+            (0, 0, 0),
+            (0x7FFF_FFFF, 0x7FFF_FFFF, 0x7FFF_FFFF),
+            (0x8000_0000, !0x7FFF_FFFF, 0x8000_0000),
+            (0xFFFF_FFFF, u64::MAX, 0xFFFF_FFFF),
+            (1 << 32, 0, 1 << 32),
+            (!0x8000_0000, 0x7FFF_FFFF, !0x8000_0000),
+            (TOP + 0x8000_0000, !0x7FFF_FFFF, TOP + 0x8000_0000),
+            (u64::MAX, u64::MAX, u64::MAX),
+        ] {
+            let mut w = fetched_load(filled(), word, rd, bytes);
+            let x = if bytes == 4 { low } else { whole };
+            let later = [(rd as usize, x), (54, 0)];
+            check(&mut w, 12, [number, 0, 0, 0, 0], done(), &later);
+        }
+    }
+}
+
+#[test]
+fn w2_every_word_of_the_eight() {
+    // Each form by its format: every register, and every number in the bits
+    // of the base and the offset, which change nothing.
+    let base = filled();
+    for (funct3, bytes) in [(2, 4), (3, 8)] {
+        for rd in 8..=15 {
+            for rest in 0..1 << 8 {
+                // CL: bits 12..5 and rd'.
+                let word = funct3 << 13 | rest << 5 | (rd - 8) << 2;
+                fetched_load(base, word, rd, bytes);
+            }
+        }
+        for rd in 1..=31 {
+            for rest in 0..1 << 6 {
+                fetched_load(base, ci(funct3, rd, rest), rd, bytes);
+            }
+        }
+    }
+    for (funct3, bytes) in [(6, 4), (7, 8)] {
+        for rs2 in 8..=15 {
+            for rest in 0..1 << 8 {
+                // CS: bits 12..5 and rs2'.
+                let word = funct3 << 13 | rest << 5 | (rs2 - 8) << 2;
+                fetched_store(base, word, bytes, cut(base[rs2 as usize], bytes));
+            }
+        }
+        for rs2 in 1..=31 {
+            for rest in 0..1 << 6 {
+                // CSS: bits 12..7 and rs2.
+                let word = funct3 << 13 | rest << 7 | rs2 << 2 | 2;
+                fetched_store(base, word, bytes, cut(base[rs2 as usize], bytes));
+            }
+        }
+    }
+}
+
+#[test]
+fn w2_count_over_all_words() {
+    // By quadrant, exit and bytes: what a word is under 21 and under 23.
+    let mut counts = std::collections::BTreeMap::new();
+    let base = filled();
+    let mut words = 0;
+    for word in (0..1 << 16).filter(|word| word % 4 != 3) {
+        words += 1;
+        let mut forms = 0;
+        for access in [1, 2] {
+            let mut w = fetching(base, access);
+            let reply = call(&mut w, 11, [1, word, 0, 0, 0]);
+            if reply.number != NESTED_PAGE_FAULT {
+                let key = (word % 4, reply.number, reply.values[1]);
+                *counts.entry(key).or_insert(0) += 1;
+                forms += 1;
+            }
+        }
+        // No word is both.
+        assert!(forms <= 1, "{word:x}");
+    }
+    // 2^16 words but the 2^14 whose low two bits are 3.
+    assert_eq!(words, 65536 - 16384);
+    // A form has quadrant and funct3 fixed, 16 - 2 - 3 = 11 bits free: 2^11 =
+    // 2048 words, as CL and CS 3 + 3 + 2 + 3 bits, as CSS 6 + 5. So has CI, 1 +
+    // 5 + 5, but rd is one of 31: 31 * 2^6 = 1984.
+    let expected = [
+        ((0, MMIO_READ, 4), 2048),  // c.lw
+        ((0, MMIO_READ, 8), 2048),  // c.ld
+        ((0, MMIO_WRITE, 4), 2048), // c.sw
+        ((0, MMIO_WRITE, 8), 2048), // c.sd
+        ((2, MMIO_READ, 4), 1984),  // c.lwsp
+        ((2, MMIO_READ, 8), 1984),  // c.ldsp
+        ((2, MMIO_WRITE, 4), 2048), // c.swsp
+        ((2, MMIO_WRITE, 8), 2048), // c.sdsp
+    ];
+    assert_eq!(counts, expected.into());
+    // 6 * 2048 + 2 * 1984 words in all; the other 32896 are neither.
+    assert_eq!(counts.values().sum::<i32>(), 49152 - 32896);
+}
+
+#[test]
+fn w2_c_lwsp_and_c_ldsp_with_rd_0_are_no_loads() {
+    for funct3 in [2, 3] {
+        for rest in 0..1 << 6 {
+            fetched_neither(ci(funct3, 0, rest));
+        }
+    }
+    // Among them: offset 0, the two examples with rd cut out, offset bits all
+    // 1: 010 1 00000 11111 10 = 0101 0000 0111 1110, 011 so too.
+    for word in [0x4002, 0x6002, 0x4032, 0x7032, 0x507E, 0x707E] {
+        fetched_neither(word);
+    }
+    // lw x0 and ld x0 wait as before, and the completion writes no register.
+    for (word, bytes) in [(0x2003, 4), (0x3003, 8)] {
+        let mut w = fetching(filled(), 1);
+        let later = [(54, 1), (55, 0), (56, bytes), (57, 1), (SEPC, next(&w))];
+        let read = exit(MMIO_READ, &[7, bytes]);
+        check(&mut w, 11, [1, word, 0, 0, 0], read, &later);
+        check(&mut w, 12, [5, 0, 0, 0, 0], done(), &[(54, 0)]);
+    }
+}
+
+#[test]
+fn w2_c_swsp_and_c_sdsp_with_bits_11_to_7_zero_are_stores() {
+    let base = with(&[(5, 0x8182_8384_8586_8788)]);
+    for (word, bytes, data) in [
+        // c.swsp x5, 0(x2): 110 000000 00101 10 = 1100 0000 0001 0110.
+        (0xC016, 4, 0x8586_8788),
+        // c.swsp x5, 32(x2), offset[5:2] 1000: 1101 0000 0001 0110.
+        (0xD016, 4, 0x8586_8788),
+        // c.sdsp x5, 0(x2): 111 000000 00101 10 = 1110 0000 0001 0110.
+        (0xE016, 8, 0x8182_8384_8586_8788),
+        // c.sdsp x5, 32(x2), offset[5:3] 100: 1111 0000 0001 0110.
+        (0xF016, 8, 0x8182_8384_8586_8788),
+    ] {
+        fetched_store(base, word, bytes, data);
+    }
+}
+
+#[test]
+fn w2_c_swsp_and_c_sdsp_of_x0_store_0() {
+    // Whatever slot 0 holds and the offset is: bits 11..7 zero among them.
+    for slot in [0, 5, u64::MAX] {
+        for offset in 0..1 << 6 {
+            fetched_store(with(&[(0, slot)]), 6 << 13 | offset << 7 | 2, 4, 0);
+            fetched_store(with(&[(0, slot)]), 7 << 13 | offset << 7 | 2, 8, 0);
+        }
+        // c.swsp x0, 12(x2): 110 0011 00 00000 10 = 1100 0110 0000 0010.
+        fetched_store(with(&[(0, slot)]), 0xC602, 4, 0);
+        // c.sdsp x0, 8(x2): 111 001 000 00000 10 = 1110 0100 0000 0010.
+        fetched_store(with(&[(0, slot)]), 0xE402, 8, 0);
+    }
+}
+
+#[test]
+fn w2_other_words_are_neither() {
+    // 0x0000, by definition illegal.
+    fetched_neither(0);
+    // Quadrant 0: c.addi4spn, c.fld, c.fsd, and funct3 4, where Zcb has c.lbu,
+    // c.lhu, c.lh, c.sb and c.sh. Quadrant 2: c.slli, c.fldsp, c.jr, c.mv,
+    // c.ebreak, c.jalr, c.add, c.fsdsp. All of quadrant 1.
+    for rest in 0..1 << 11 {
+        for funct3 in [0, 1, 4, 5] {
+            fetched_neither(funct3 << 13 | rest << 2);
+            fetched_neither(funct3 << 13 | rest << 2 | 2);
+        }
+        for funct3 in 0..8 {
+            fetched_neither(funct3 << 13 | rest << 2 | 1);
+        }
+    }
+    for word in [
+        // c.fld f14, 8(x15): 001 001 111 00 110 00 = 0010 0111 1001 1000.
+        0x2798, // c.fsd f14, 8(x15): 101 001 111 00 110 00 = 1010 0111 1001 1000.
+        0xA798, // c.fldsp f5, 8(x2): 001 0 00101 01 000 10 = 0010 0010 1010 0010.
+        0x22A2, // c.fsdsp f5, 8(x2): 101 001 000 00101 10 = 1010 0100 0001 0110.
+        0xA416, // c.lbu x14, 1(x15): 100 000 111 10 110 00 = 1000 0011 1101 1000.
+        0x83D8, // c.lhu x14, 2(x15): 100 001 111 0 1 110 00 = 1000 0111 1011 1000.
+        0x87B8, // c.sb x14, 1(x15): 100 010 111 10 110 00 = 1000 1011 1101 1000.
+        0x8BD8, // c.sh x14, 2(x15): 100 011 111 0 1 110 00 = 1000 1111 1011 1000.
+        0x8FB8,
+    ] {
+        fetched_neither(word);
+    }
+}
+
+#[test]
+fn w2_upper_bits_are_not_looked_at() {
+    // 3, 0x2383 and 0x702023 as the next instruction; all bits above 16.
+    for upper in [1, 3, 0x2383, 0x7020, 0x8000, 0xFFFF, 0x1_0000, !0 >> 16] {
+        for (word, rd, bytes) in C_LOADS {
+            fetched_load(filled(), upper << 16 | word, rd, bytes);
+            fetched_nested(upper << 16 | word, 2);
+        }
+        for (word, rs2, bytes) in C_STORES {
+            let data = cut(filled()[rs2], bytes);
+            fetched_store(filled(), upper << 16 | word, bytes, data);
+            fetched_nested(upper << 16 | word, 1);
+        }
+        for word in [0, 1, 2, 0x4002, 0x6002, 0x2798, 0x83D8] {
+            fetched_neither(upper << 16 | word);
+        }
+    }
+}
+
+#[test]
+fn w2_sepc_wraps() {
+    for (sepc, later) in [
+        (u64::MAX - 1, 0),
+        (u64::MAX, 1),
+        (u64::MAX - 3, u64::MAX - 1),
+    ] {
+        let base = with(&[(SEPC, sepc)]);
+        for (word, rd, bytes) in C_LOADS {
+            let w = fetched_load(base, word, rd, bytes);
+            assert_eq!(w[SEPC], later);
+        }
+        for (word, ..) in C_STORES {
+            let mut w = fetching(base, 2);
+            call(&mut w, 11, [1, word, 0, 0, 0]);
+            assert_eq!(w[SEPC], later);
+        }
+    }
+}
+
+#[test]
+fn w2_a_load_under_23_and_a_store_under_21_are_neither() {
+    for (word, ..) in C_LOADS {
+        fetched_nested(word, 2);
+        fetched_nested(word, 4);
+    }
+    for (word, ..) in C_STORES {
+        fetched_nested(word, 1);
+        fetched_nested(word, 4);
+    }
+}
+
+#[test]
+fn w2_htinst_stays() {
+    // A compressed word there has low bits 00 or 10: error 5. Low bits 01 are
+    // the 32-bit form with length 2, bits 15..13 whatever they are.
+    for word in c_words() {
+        for scause in [21, 23] {
+            check(&mut filled(), 10, [scause, 3, 1, word, 0], error(5), &[]);
+            let nested = exit(NESTED_PAGE_FAULT, &[7, (scause - 19) / 2]);
+            let numbers = [scause, 3, 1, word & !3 | 1, 0];
+            check(&mut filled(), 10, numbers, nested, &[]);
+        }
+    }
+    for (htinst, rd) in [(0x2381, 7), (0x2001, 0), (0x4398_2381, 7)] {
+        let mut w = filled();
+        let sepc = w[SEPC] + 2;
+        let later = [(54, 1), (55, rd), (56, 4), (57, 1), (SEPC, sepc)];
+        let read = exit(MMIO_READ, &[7, 4]);
+        check(&mut w, 10, [21, 3, 1, htinst, 0], read, &later);
+        // The same word fetched is of quadrant 1.
+        fetched_neither(htinst);
+    }
+}
+
+#[test]
+fn w2_other_fetches_stay() {
+    // Under 22, and where the fetch faults: its number is an address.
+    for word in c_words() {
+        let mut w = with(&[(54, 2)]);
+        let later = [(54, 0), (EVENTS + 1, w[EVENTS + 1] + 1)];
+        check(&mut w, 11, [1, word, 0, 0, 0], error(3), &later);
+        for access in [1, 2] {
+            let mut w = fetching(filled(), access);
+            let nested = exit(NESTED_PAGE_FAULT, &[word, 4]);
+            check(&mut w, 11, [1, word, 4, 0, 0], nested, &[(54, 0)]);
+        }
+    }
+}
+
 // Any words
 
 #[test]
@@ -1431,6 +1846,8 @@ fn total_and_refusals_change_nothing() {
         0x14D292F3,
         0x2383,
         0x702023,
+        0x43D8, // c.lw
+        0xE322, // c.sdsp
         0x54494D45,
         0x735049,
         0x48534D,

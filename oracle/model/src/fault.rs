@@ -1,5 +1,6 @@
 //! Guest page faults: the word and its length, then the decoded access.
 
+use crate::compressed::decode_compressed;
 use crate::decode::{decode, Decoded};
 use crate::*;
 
@@ -23,22 +24,30 @@ impl Vcpu {
             3 => 4,
             _ => return Reply::Error(Error::DecodeFailed),
         };
-        self.access(addr, write, word | 2, length)
+        self.access(addr, write, decode(word | 2), length)
     }
 
     /// A fetched word under a guest page fault.
     pub(crate) fn fault_word(&mut self, addr: GuestPhysAddr, write: bool, word: u32) -> Reply {
         if word & 3 != 3 {
-            self.access(addr, write, word & 0xffff, 2)
+            self.access(addr, write, decode_compressed(word as u16), 2)
         } else if (word >> 2) & 7 != 7 {
-            self.access(addr, write, word, 4)
+            self.access(addr, write, decode(word), 4)
         } else {
             Reply::Error(Error::DecodeFailed)
         }
     }
 
-    fn access(&mut self, addr: GuestPhysAddr, write: bool, word: u32, length: u64) -> Reply {
-        match (decode(word), write) {
+    /// What a decoded word does: its length is all that tells the encodings
+    /// apart.
+    fn access(
+        &mut self,
+        addr: GuestPhysAddr,
+        write: bool,
+        decoded: Decoded,
+        length: u64,
+    ) -> Reply {
+        match (decoded, write) {
             (Decoded::Load { rd, width, signed }, false) => {
                 self.move_on(length);
                 self.waiting = Waiting::Load { rd, width, signed };

@@ -1,11 +1,12 @@
 //! Document 01's exit handler as a plain program, written from 01, the
-//! requests of 02 that have landed (W1) and the recorded readings of both
-//! alone. It judges the published Rust and the proved library; it shares no
-//! line with either.
+//! requests of 02 that have landed (W1, W2), the recorded readings of both and
+//! the ISA's instruction formats alone. It judges the published Rust and the
+//! proved library; it shares no line with either.
 
 #![forbid(unsafe_code)]
 
 mod calls;
+mod compressed;
 mod decode;
 mod ecall;
 mod fault;

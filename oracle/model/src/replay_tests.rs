@@ -112,6 +112,23 @@ fn a_load_prints_after_its_completion() {
     assert_eq!(run(&(start + "word=0000000000000000\n")), bad(39));
 }
 
+/// 02, W2: a fetched c.lw asks for its completion, as lw does.
+#[test]
+fn a_compressed_load_takes_its_completion() {
+    // c.lw x10, with high bits that a fetch ignores.
+    let start = header(&[]) + &trap([21, 0, 0x400, 0]) + &reply(0xffff_0000_ffff_4008, 0);
+    let text = start.clone() + &reply(0x8000_0000, 99);
+    assert_eq!(run(&text), four(9, 2, 0xffff_ffff_8000_0000, 0));
+    assert_eq!(run(&start), bad(40));
+    // Under 23 it is no load, and a store takes none.
+    let start = header(&[(x(10), 5)]) + &trap([23, 0, 0x400, 0]);
+    assert_eq!(run(&(start.clone() + &reply(0x4008, 0))), four(8, 0, 5, 0));
+    assert_eq!(run(&(start + &reply(0xc008, 0))), four(10, 2, 5, 0));
+    // c.lwsp into x0 is reserved.
+    let start = header(&[]) + &trap([21, 0, 0x400, 0]);
+    assert_eq!(run(&(start + &reply(0x4002, 0))), four(8, 0, 0, 0));
+}
+
 #[test]
 fn errors_and_exits_go_on() {
     let text = header(&[(x(17), 8)])

@@ -360,10 +360,236 @@ fn fetched_words_by_length() {
     let addr = GuestPhysAddr(7);
     let fault = Reply::Exit(Exit::NestedPageFault { addr, access: Access::Read });
     assert_eq!(run(0x2383), (Reply::Exit(Exit::MmioRead { addr, width: Width::Four }), 4));
-    // 01 is no 32-bit form when fetched, and 0x3000 is no pseudo word.
+    // Low bits 01 are no 32-bit form when fetched, and 0x3000 is no pseudo word.
     assert_eq!(run(0x2381), (fault, 0));
     assert_eq!(run(0x3000), (fault, 0));
+    // c.lw
+    assert_eq!(run(0x4000), (Reply::Exit(Exit::MmioRead { addr, width: Width::Four }), 2));
     assert_eq!(run(0x1f), (Reply::Error(Error::DecodeFailed), 0));
+}
+
+/// A guest page fault whose word is fetched, at address 7.
+fn fetched(v: &mut Vcpu, scause: u64, word: u32) -> Reply {
+    let ask = Ask::Fetch { at: GuestVirtAddr(v.sepc), supervisor: v.supervisor() };
+    assert_eq!(v.start(&Trap { htval: 1, stval: 7, ..trap(scause) }), Reply::Ask(ask));
+    v.answer(&Answer::Fetch(FetchAnswer::Word(word)))
+}
+
+/// Registers that tell their numbers, in x0's slot too.
+fn numbered() -> Vcpu {
+    let mut v = Vcpu { sepc: 0x8000_0000, ..Vcpu::zero() };
+    v.x = std::array::from_fn(|i| 0xffff_ffff_8000_0000 + i as u64);
+    v
+}
+
+/// 02, W2: these 16-bit words are no access, whatever the cause.
+fn is_no_access(word: u32) {
+    let addr = GuestPhysAddr(7);
+    for (scause, access) in [(21, Access::Read), (23, Access::Write)] {
+        let mut v = numbered();
+        let fault = Exit::NestedPageFault { addr, access };
+        assert_eq!(fetched(&mut v, scause, word), Reply::Exit(fault), "{word:#x}");
+        assert_eq!(v, numbered());
+    }
+}
+
+/// 02, W2: c.lw, c.ld, c.lwsp, c.ldsp, with small and large offsets.
+#[test]
+fn compressed_loads() {
+    let addr = GuestPhysAddr(7);
+    for (word, rd, width) in [
+        (0x4000, 8, Width::Four),
+        (0x5cfc, 15, Width::Four),
+        (0x6000, 8, Width::Eight),
+        (0x7cfc, 15, Width::Eight),
+        (0x4082, 1, Width::Four),
+        (0x5ffe, 31, Width::Four),
+        (0x6082, 1, Width::Eight),
+        (0x7ffe, 31, Width::Eight),
+    ] {
+        // The upper half is another instruction's, or nothing's.
+        for upper in [0, 0x1_0000, 0x2503_0000, 0xffff_0000] {
+            let mut v = numbered();
+            let exit = Exit::MmioRead { addr, width };
+            assert_eq!(fetched(&mut v, 21, word | upper), Reply::Exit(exit), "{word:#x}");
+            let waiting = Waiting::Load { rd, width, signed: true };
+            assert_eq!(v, Vcpu { sepc: 0x8000_0002, waiting, ..numbered() });
+            // A load under 23.
+            let mut v = numbered();
+            let fault = Exit::NestedPageFault { addr, access: Access::Write };
+            assert_eq!(fetched(&mut v, 23, word | upper), Reply::Exit(fault));
+            assert_eq!(v, numbered());
+        }
+    }
+}
+
+/// 02, W2: c.sw, c.sd, c.swsp, c.sdsp. Bits 11..7 of the last two are of the
+/// offset, and 0 in half of these; x0 stores 0.
+#[test]
+fn compressed_stores() {
+    let addr = GuestPhysAddr(7);
+    for (word, rs2, width) in [
+        (0xc000, 8, Width::Four),
+        (0xdcfc, 15, Width::Four),
+        (0xe000, 8, Width::Eight),
+        (0xfcfc, 15, Width::Eight),
+        (0xc002, 0, Width::Four),
+        (0xc07e, 31, Width::Four),
+        (0xdf96, 5, Width::Four),
+        (0xe002, 0, Width::Eight),
+        (0xe07e, 31, Width::Eight),
+        (0xff96, 5, Width::Eight),
+    ] {
+        let data = match (rs2, width) {
+            (0, _) => 0,
+            (_, Width::Four) => 0x8000_0000 + rs2,
+            _ => 0xffff_ffff_8000_0000 + rs2,
+        };
+        for upper in [0, 0x1_0000, 0x2503_0000, 0xffff_0000] {
+            let mut v = numbered();
+            let exit = Exit::MmioWrite { addr, width, data };
+            assert_eq!(fetched(&mut v, 23, word | upper), Reply::Exit(exit), "{word:#x}");
+            assert_eq!(v, Vcpu { sepc: 0x8000_0002, ..numbered() });
+            // A store under 21.
+            let mut v = numbered();
+            let fault = Exit::NestedPageFault { addr, access: Access::Read };
+            assert_eq!(fetched(&mut v, 21, word | upper), Reply::Exit(fault));
+            assert_eq!(v, numbered());
+        }
+    }
+}
+
+/// 02, W2: each register that a form can name.
+#[test]
+fn compressed_registers() {
+    let addr = GuestPhysAddr(7);
+    for field in 0..8 {
+        let mut v = numbered();
+        fetched(&mut v, 21, 0x6000 | field << 2);
+        let load = Waiting::Load { rd: 8 + field as u64, width: Width::Eight, signed: true };
+        assert_eq!(v.waiting, load);
+        let exit =
+            Exit::MmioWrite { addr, width: Width::Eight, data: numbered().x[8 + field as usize] };
+        assert_eq!(fetched(&mut numbered(), 23, 0xe000 | field << 2), Reply::Exit(exit));
+    }
+    for field in 1..32 {
+        let mut v = numbered();
+        fetched(&mut v, 21, 0x6002 | field << 7);
+        let load = Waiting::Load { rd: field as u64, width: Width::Eight, signed: true };
+        assert_eq!(v.waiting, load);
+        let exit = Exit::MmioWrite { addr, width: Width::Eight, data: numbered().x[field as usize] };
+        assert_eq!(fetched(&mut numbered(), 23, 0xe002 | field << 2), Reply::Exit(exit));
+    }
+}
+
+/// 02, W2: "c.lwsp and c.ldsp with rd 0 are reserved", with any offset, where
+/// lw and ld with rd 0 wait.
+#[test]
+fn compressed_loads_by_sp_into_x0_are_reserved() {
+    for form in [0x4002, 0x6002] {
+        for offset in 0..32 {
+            is_no_access(form | offset << 2);
+            is_no_access(form | offset << 2 | 1 << 12);
+        }
+    }
+    for word in [0x2003, 0x3003] {
+        let mut v = numbered();
+        fetched(&mut v, 21, word);
+        assert!(matches!(v.waiting, Waiting::Load { rd: 0, .. }));
+    }
+}
+
+/// 02, W2: the other 16-bit words.
+#[test]
+fn other_compressed_words() {
+    // c.fld, c.fsd, c.fldsp, c.fsdsp.
+    for word in [0x2000, 0xa000, 0x2082, 0xa006] {
+        is_no_access(word);
+    }
+    // Later extensions' c.lbu, c.lhu, c.lh, c.sb, c.sh.
+    for word in [0x8000, 0x8400, 0x8440, 0x8800, 0x8c00] {
+        is_no_access(word);
+    }
+    // No instruction, whatever stands above it, and no pseudo word.
+    for word in [0, 0x2503_0000, 0xffff_0000, 0x3000, 0x3020] {
+        is_no_access(word);
+    }
+    // All of quadrant 1, and of quadrants 0 and 2 the other half.
+    for funct3 in 0..8 {
+        for bits in [0, 0x80, 0x1f7c, 0x1ffc] {
+            is_no_access(funct3 << 13 | bits | 1);
+            if funct3 & 2 == 0 {
+                is_no_access(funct3 << 13 | bits);
+                is_no_access(funct3 << 13 | bits | 2);
+            }
+        }
+    }
+}
+
+/// 02, W2: of all 16-bit words, those with the eight forms' quadrants and
+/// funct3 but the 64 reserved ones of each load by sp.
+#[test]
+fn compressed_words_in_all() {
+    let (mut loads, mut stores) = (0, 0);
+    for word in (0..=0xffff).filter(|word| word & 3 != 3) {
+        let read = fetched(&mut Vcpu::zero(), 21, word);
+        loads += matches!(read, Reply::Exit(Exit::MmioRead { .. })) as u32;
+        let written = fetched(&mut Vcpu::zero(), 23, word);
+        stores += matches!(written, Reply::Exit(Exit::MmioWrite { .. })) as u32;
+    }
+    assert_eq!((loads, stores), (4 * 2048 - 2 * 64, 4 * 2048));
+}
+
+/// 02, W2: sepc moves on by 2 modulo 2^64.
+#[test]
+fn a_compressed_access_wraps_sepc() {
+    for (scause, word) in [(21, 0x4000), (21, 0x6082), (23, 0xe000), (23, 0xc002)] {
+        for (sepc, later) in [(u64::MAX - 1, 0), (u64::MAX, 1), (u64::MAX - 3, u64::MAX - 1)] {
+            let mut v = Vcpu { sepc, ..Vcpu::zero() };
+            fetched(&mut v, scause, word);
+            assert_eq!(v.sepc, later);
+        }
+    }
+}
+
+/// 02, W2: the completion of c.lw and c.lwsp extends the sign, that of c.ld
+/// and c.ldsp takes the number whole. It changes rd and the waiting part.
+#[test]
+fn compressed_loads_complete() {
+    for (word, rd, number, want) in [
+        (0x4000, 8, 0x8000_0000, 0xffff_ffff_8000_0000),
+        (0x4000, 8, 0xffff_ffff_7fff_ffff, 0x7fff_ffff),
+        (0x4082, 1, 0x1_8000_0001, 0xffff_ffff_8000_0001),
+        (0x5ffe, 31, 0x1_0000_0005, 5),
+        (0x6000, 8, 0x8000_0000, 0x8000_0000),
+        (0x6082, 1, u64::MAX - 1, u64::MAX - 1),
+    ] {
+        let mut v = numbered();
+        fetched(&mut v, 21, word);
+        assert_eq!(v.complete_load(number), Reply::Done);
+        let mut later = Vcpu { sepc: 0x8000_0002, ..numbered() };
+        later.x[rd] = want;
+        assert_eq!(v, later, "{word:#x}");
+    }
+}
+
+/// 02, W2 is about fetched words of guest page faults: htinst has 32-bit forms
+/// alone, and a virtual instruction none of these.
+#[test]
+fn compressed_words_elsewhere() {
+    for htinst in [0x4000, 0x4082, 0x6000, 0xc000, 0xe002] {
+        let reply = Vcpu::zero().start(&Trap { htinst, ..trap(21) });
+        assert_eq!(reply, Reply::Error(Error::DecodeFailed));
+    }
+    // lbu x1, compressed: length 2 and the 32-bit form's width and sign.
+    let mut v = Vcpu::zero();
+    v.start(&Trap { htinst: 0x4081, ..trap(21) });
+    let waiting = Waiting::Load { rd: 1, width: Width::One, signed: false };
+    assert_eq!((v.sepc, v.waiting), (2, waiting));
+    let mut v = Vcpu::zero();
+    v.start(&trap(22));
+    let reply = v.answer(&Answer::Fetch(FetchAnswer::Word(0x4000)));
+    assert_eq!((reply, v.sepc, v.counts[1]), (Reply::Error(Error::Unsupported), 0, 1));
 }
 
 #[test]

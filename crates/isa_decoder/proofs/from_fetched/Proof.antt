@@ -16,13 +16,13 @@ returns-2 : tie.Need-returns-2
 unfolding fetchedOf
 returns-2 c = simp (c .decode .ensures, ne-eqb _ _ (c .before .if2 .left), eq-eqb _ _ (c .before .before .if1 .taken))
 
-decode-requires-2 : tie.Need-decode-requires-2
-decode-requires-2 c κs = search needs
+compressed-requires : tie.Need-compressed-requires
+compressed-requires c κs = search needs
 
 returns-3 : tie.Need-returns-3
 unfolding fetchedOf
-returns-3 c = simp (c .decode2 .ensures, ne-eqb _ _ (c .before .if1 .left))
+returns-3 c = simp (c .compressed .ensures, ne-eqb _ _ (c .before .if1 .left))
 
 pub from-fetched-spec : {M : Type 1} → statement M
 from-fetched-spec =
-    tie.close (tie.spec returns decode-requires returns-2 decode-requires-2 returns-3)
+    tie.close (tie.spec returns decode-requires returns-2 compressed-requires returns-3)

@@ -6,16 +6,16 @@ use Rattle.test_vectors.proofs.compare.Statement.{statement}
 use Rattle.test_vectors.proofs.compare.Tie as tie
 
 abbrev Inv-loop : tie.InvT-loop
-Inv-loop fd name task lines₀ wrong₀ t6 t7 t8 lines wrong = (lines ≤ 100000) × (wrong ≤ lines)
+Inv-loop fd name list lines₀ wrong₀ t6 t7 t8 lines wrong = (lines ≤ 100000) × (wrong ≤ lines)
 
 abbrev μ-loop : tie.MeasureT-loop
-μ-loop fd name task lines₀ wrong₀ t6 t7 t8 lines wrong = 100000 - lines
+μ-loop fd name list lines₀ wrong₀ t6 t7 t8 lines wrong = 100000 - lines
 
 loop-holds : tie.Need-loop-holds Inv-loop μ-loop
 loop-holds c = omega arith
 
 next-line-requires : tie.Need-next-line-requires Inv-loop μ-loop
-next-line-requires c κs = tt
+next-line-requires c κs = omega arith
 
 enum-told : tie.Need-enum-told Inv-loop μ-loop
 enum-told c = search needs

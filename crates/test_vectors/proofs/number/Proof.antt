@@ -5,16 +5,19 @@ use Rattle.test_vectors.proofs.number.Statement.{statement}
 use Rattle.test_vectors.proofs.number.Tie as tie
 
 abbrev Inv-loop : tie.InvT-loop
-Inv-loop line n₀ i₀ n i = Unit {0}
+Inv-loop line at n₀ i₀ n i = Unit {0}
 
 abbrev μ-loop : tie.MeasureT-loop
-μ-loop line n₀ i₀ n i = 16 - i
+μ-loop line at n₀ i₀ n i = 16 - i
 
 loop-holds : tie.Need-loop-holds Inv-loop μ-loop
 loop-holds c = tt
 
 mul-n : tie.Need-mul-n Inv-loop μ-loop
 mul-n c = omega arith
+
+add-hex-digit : tie.Need-add-hex-digit Inv-loop μ-loop
+add-hex-digit c = omega arith
 
 element-copy-out-hex-digit : tie.Need-element-copy-out-hex-digit Inv-loop μ-loop
 element-copy-out-hex-digit c = omega arith
@@ -45,6 +48,7 @@ number-spec =
     μ-loop
     loop-holds
     mul-n
+    add-hex-digit
     element-copy-out-hex-digit
     hex-digit-requires
     add-n

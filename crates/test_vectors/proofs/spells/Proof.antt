@@ -1,14 +1,14 @@
--- `test_vectors::says` is safe and ends. The measure is the number of digits that are left.
+-- `test_vectors::spells` is safe and ends. The measure is the number of digits that are left.
 use Prim.Native.Nat.{_-_}
 use native.Mathlib.Omega.{arith}
-use Rattle.test_vectors.proofs.says.Statement.{statement}
-use Rattle.test_vectors.proofs.says.Tie as tie
+use Rattle.test_vectors.proofs.spells.Statement.{statement}
+use Rattle.test_vectors.proofs.spells.Tie as tie
 
 abbrev Inv-loop : tie.InvT-loop
-Inv-loop line at n after text i₀ i = Unit {0}
+Inv-loop line at digits n text i₀ i = Unit {0}
 
 abbrev μ-loop : tie.MeasureT-loop
-μ-loop line at n after text i₀ i = 16 - i
+μ-loop line at digits n text i₀ i = digits - i
 
 hex-requires : tie.Need-hex-requires Inv-loop μ-loop
 hex-requires c κs = tt
@@ -37,17 +37,11 @@ loop-less c = omega arith
 loop-again : tie.Need-loop-again Inv-loop μ-loop
 loop-again c = tt
 
-add-result : tie.Need-add-result Inv-loop μ-loop
-add-result c = omega arith
-
-element-copy-out-result : tie.Need-element-copy-out-result Inv-loop μ-loop
-element-copy-out-result c = omega arith
-
 returns-2 : tie.Need-returns-2 Inv-loop μ-loop
 returns-2 c = tt
 
-pub says-spec : {M : Type 1} → statement M
-says-spec =
+pub spells-spec : {M : Type 1} → statement M
+spells-spec =
     tie.close
     (tie.spec
     Inv-loop
@@ -61,6 +55,4 @@ says-spec =
     add-i
     loop-less
     loop-again
-    add-result
-    element-copy-out-result
     returns-2)
