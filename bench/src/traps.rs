@@ -110,8 +110,8 @@ const STORE: Kind = Kind {
 /// c.ldsp have an rd. funct3 is of three bits and stands one higher than a 32-bit word's.
 const COMPRESSED: u64 = 0x1f7e;
 
-/// The last five are the load, the store and stimecmp on a hart that leaves the instruction's place, stval or htinst, 0: of 32 bits, and
-/// the load and the store of 16.
+/// The last five are for a hart that leaves the instruction's place, stval or htinst, 0: stimecmp, the load, the store, then the load and
+/// the store of 16 bits.
 const KINDS: [Kind; 12] = [
     Kind { name: "TIME", share: 20, a7: 0x5449_4D45, ..ECALL },
     Kind { name: "legacy timer", share: 5, ..ECALL },

@@ -58,7 +58,7 @@ void finish(struct guest *g, const struct vcpu_trap *t, u64 reply, const u64 *wo
         return;
     case VCPU_EXIT_CPU_DOWN:
     case VCPU_EXIT_SYSTEM_DOWN: g->down = 1; return;
-    case VCPU_EXIT_NESTED_PAGE_FAULT: /* no load or store of the base, or a fetch; RAM was mapped before */
+    case VCPU_EXIT_NESTED_PAGE_FAULT: /* nothing that decodes, or a fetch; RAM was mapped before */
         inject(v, access == VCPU_ACCESS_READ ? 5 : access == VCPU_ACCESS_WRITE ? 7 : 1, t->stval);
         return;
     case VCPU_EXIT_MMIO_READ: /* sepc has moved: where there is no device, a bus gives ones */

@@ -1,6 +1,7 @@
 -- Demand 3 is not vacuous: closed examples, computed by the checker. Sequences meet its premises with r different before and
 -- after, among them one that starts with an ask waiting, with a refused call and a register read out, and one whose fetch waits at
--- the start; in one r is written and agrees from then on; and in rows of the reading table two records that differ in a named register come out differently.
+-- the start; in one r is written and agrees from then on; and in rows of the reading table two records that differ in a named
+-- register come out differently.
 use Prim.Native.Nat.{ℕ}
 use mathlib.Core.Bool.{true}
 use mathlib.Core.List.{List, [], _∷_}

@@ -133,7 +133,7 @@ stimecmpNames w =
 
 -- "Decoded store": rs2. storeSource is opSource of the word that was decoded (isa_decoder/specs/Length.antt). That opSource of
 -- a decoded 32-bit word is its bits 24..20 where it is a store, and 0 where not, is store-field in isa_decoder/specs/Laws.antt; of a
--- 16-bit one, 8 and its bits 4..2 or its bits 6..2 (02, W2), compressed-field in CompressedLaws.antt
+-- 16-bit one (02, W2) 8 plus its bits 4..2 in quadrant 0 and its bits 6..2 in quadrant 2, compressed-field in CompressedLaws.antt
 unfoldable pub storeNames : Trapped → List ℕ
 storeNames i = sourceNames (storeSource i)
 

@@ -26,8 +26,8 @@ quadrant0Of f r =
 unfoldable pub spLoadOf : Width → ℕ → Decoded
 spLoadOf w rd = pick (eqb rd 0) decoded.Neither (decoded.Load w true rd)
 
--- quadrant 2 by funct3: 2 C.LWSP, 3 C.LDSP, 6 C.SWSP, 7 C.SDSP. 0 C.SLLI, 1 C.FLDSP, 4 (jumps, moves, C.ADD) and 5 C.FSDSP are
--- neither. A store has no rd: bits 11..7 are of its offset. Its rs2 may be x0
+-- quadrant 2 by funct3: 2 C.LWSP, 3 C.LDSP, 6 C.SWSP, 7 C.SDSP. 0 C.SLLI, 1 C.FLDSP, 4 (jumps, moves, C.ADD, C.EBREAK) and 5
+-- C.FSDSP are neither. A store has no rd: bits 11..7 are of its offset. Its rs2 may be x0
 unfoldable pub quadrant2Of : ℕ → ℕ → ℕ → Decoded
 quadrant2Of f rd rs2 =
     pick (eqb f 2) (spLoadOf width.Word rd)

@@ -4,8 +4,7 @@ use mathlib.Core.Bool.{Bool, true, false}
 use mathlib.Core.Path.{_≡_, refl, ap, _∙_}
 use lib.Dec.{eqb}
 use lib.Pow.{field, mod-mod-pow}
-use borrow.Author.Tests.{eqb-true, eq-eqb, ne-eqb}
-use native.Mathlib.Omega.{arith}
+use borrow.Author.Tests.{eqb-true}
 use Rattle.isa_types.specs.Pick.{or, pick, and, never, not}
 use Rattle.isa_types.specs.declared.Width.{Width}
 use Rattle.isa_types.specs.declared.Width.the-variants as width
@@ -31,7 +30,7 @@ pub compressed-low : (w : ℕ) → compressedOf (w % 2 ^ 16) ≡ compressedOf w
 unfolding compressedOf compressedBy quadrantField cFunct3Field primeField cRs2Field rdField
 compressed-low w = rw (mod-mod-pow w 14 2, low w 0 3 13, low w 11 3 2, low w 4 5 7, low w 9 5 2) refl
 
--- a load into a register of quadrant 2 reads no register that the handler is asked for, reserved or not
+-- C.LWSP and C.LDSP have no rs2, with rd 0 too
 sp-source : (w : Width) (rd : ℕ) (b : Bool) → opSource (pick b decoded.Neither (decoded.Load w true rd)) ≡ 0
 unfolding opSource
 sp-source w rd true = refl
@@ -125,7 +124,33 @@ pub c-sdsp : (w : ℕ) → Encodes 2 7 w → compressedOf w ≡ decoded.Store wi
 unfolding compressedOf compressedBy quadrant2Of
 c-sdsp w e = rw (e .op, e .funct) refl
 
--- everything else
+-- C.LWSP and C.LDSP with rd 0 are reserved
+pub c-lwsp-x0 : (w : ℕ) → Encodes 2 2 w → eqb (rdField w) 0 ≡ true → compressedOf w ≡ decoded.Neither
+unfolding compressedOf compressedBy quadrant2Of spLoadOf
+c-lwsp-x0 w e z = rw (e .op, e .funct, z) refl
+
+pub c-ldsp-x0 : (w : ℕ) → Encodes 2 3 w → eqb (rdField w) 0 ≡ true → compressedOf w ≡ decoded.Neither
+unfolding compressedOf compressedBy quadrant2Of spLoadOf
+c-ldsp-x0 w e z = rw (e .op, e .funct, z) refl
+
+-- the floating forms
+pub c-fld : (w : ℕ) → Encodes 0 1 w → compressedOf w ≡ decoded.Neither
+unfolding compressedOf compressedBy quadrant0Of
+c-fld w e = rw (e .op, e .funct) refl
+
+pub c-fsd : (w : ℕ) → Encodes 0 5 w → compressedOf w ≡ decoded.Neither
+unfolding compressedOf compressedBy quadrant0Of
+c-fsd w e = rw (e .op, e .funct) refl
+
+pub c-fldsp : (w : ℕ) → Encodes 2 1 w → compressedOf w ≡ decoded.Neither
+unfolding compressedOf compressedBy quadrant2Of
+c-fldsp w e = rw (e .op, e .funct) refl
+
+pub c-fsdsp : (w : ℕ) → Encodes 2 5 w → compressedOf w ≡ decoded.Neither
+unfolding compressedOf compressedBy quadrant2Of
+c-fsdsp w e = rw (e .op, e .funct) refl
+
+-- the word is one of the eight forms
 unfoldable pub isForm : ℕ → Bool
 isForm w =
     or (and (eqb (quadrantField w) 0) (or (cLoadFunct3 w) (cStoreFunct3 w)))
@@ -160,6 +185,7 @@ none-by p q false true f true hp hq h = never h
 none-by p q false true f false hp hq h = hq refl
 none-by p q false false f g hp hq h = refl
 
+-- everything else
 pub c-none : (w : ℕ) → isForm w ≡ false → compressedOf w ≡ decoded.Neither
 unfolding compressedOf compressedBy quadrant0Of quadrant2Of spLoadOf isForm cLoadFunct3 cStoreFunct3
 c-none w =

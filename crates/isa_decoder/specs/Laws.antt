@@ -20,6 +20,11 @@ pub storeSource-absent : storeSource trapped.Absent ≡ 0
 unfolding storeSource
 storeSource-absent = refl
 
+-- an instruction reads what its decoded form does
+pub storeSource-op : (op : Decoded) (n : ℕ) → storeSource (trapped.Instruction op n) ≡ opSource op
+unfolding storeSource
+storeSource-op op n = refl
+
 -- a store reads its rs2
 pub storeSource-store : (w : Width) (rs2 n : ℕ) → storeSource (trapped.Instruction (decoded.Store w rs2) n) ≡ rs2
 unfolding storeSource opSource

@@ -2,7 +2,7 @@
 use Prim.Native.Nat.{ℕ, suc, zero, _<_, _≤_, _+_, _*_, _/_, _%_}
 use native.Mathlib.Nat.{div-add-mod', mod-lt}
 use native.Mathlib.Omega.{arith}
-use mathlib.Core.Bool.{Bool, true, false}
+use mathlib.Core.Bool.{true}
 use mathlib.Core.Path.{_≡_, refl, ap, sym, subst, _∙_}
 use lib.Arith.{mod-mul}
 use lib.Dec.{eqb, ltb}

@@ -39,7 +39,9 @@ pub fn csr(word: u64) -> u64
     word / 0x10_0000 % 4096
 }
 
-// The fields of a 16-bit word. Its rd, where it has one of 5 bits, lies where a 32-bit word has its own.
+// The fields of a 16-bit word begin here. Its rd, where it has one of 5 bits, lies where a 32-bit word has its own.
+
+// The low two bits of any word.
 pub fn quadrant(word: u64) -> u64
     ensures { λ r. ⌜ r ≡ quadrantField word ⌝ }
 {

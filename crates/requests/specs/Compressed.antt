@@ -2,22 +2,28 @@
 -- 16 bits long stays NestedPageFault: floating forms, C.LWSP and C.LDSP with rd 0, a load under 23, a store under 21.
 use Prim.Native.Nat.{ℕ, _%_, _^_}
 use mathlib.Core.Bool.{Bool, true, false}
-use mathlib.Core.List.{List, [], _∷_}
+use mathlib.Core.List.{List, []}
 use mathlib.Core.Path.{_≡_, refl, ap, sym, subst, _∙_}
 use lib.Dec.{eqb}
 use borrow.Author.Tests.{eqb-true}
 use Rattle.demand3_table.specs.Table.{accessNames, answerNames, callNames, fetchNames, sourceNames, storeNames, wordNames}
 use Rattle.isa_decoder.specs.Compressed.{compressedOf}
-use Rattle.isa_decoder.specs.CompressedLaws.{Encodes, c-ld, c-ldsp, c-lw, c-lwsp, c-none, c-sd, c-sdsp, c-sw, c-swsp, cLoadFunct3, cStoreFunct3, compressed-low, fetched-short, isForm}
-use Rattle.isa_decoder.specs.Laws.{storeSource-store}
-use Rattle.isa_decoder.specs.Length.{fetchedOf, storeSource}
+use Rattle.isa_decoder.specs.CompressedLaws.{Encodes, c-fld, c-fldsp, c-fsd, c-fsdsp, c-ld, c-ldsp, c-ldsp-x0, c-lw, c-lwsp, c-lwsp-x0, c-none, c-sd, c-sdsp, c-sw, c-swsp, cLoadFunct3, cStoreFunct3, compressed-field, compressed-low, fetched-short, isForm}
+use Rattle.isa_consts.specs.Traps.{loadGuestPageFault, storeGuestPageFault}
+use Rattle.isa_decoder.specs.Laws.{storeSource-op}
+use Rattle.isa_decoder.specs.Length.{opSource}
+use Rattle.isa_registers.specs.Values.{guestPageFaultAddr}
+use Rattle.scope.specs.Classes.{classOf}
+use Rattle.scope.specs.Record.{isIdle}
+use Rattle.scope.specs.declared.decided.Class.the-variants as class
+use Rattle.scope.specs.declared.traps.Trap.{Trap}
 use Rattle.isa_decoder.specs.declared.Decoded.the-variants as decoded
 use Rattle.isa_decoder.specs.declared.Decoded.{Decoded}
 use Rattle.isa_decoder.specs.declared.Trapped.the-variants as trapped
 use Rattle.isa_decoder.specs.declared.Trapped.{Trapped}
 use Rattle.isa_fields.specs.Compressed.{cFunct3Field, cRs2Field, primeField, quadrantField}
 use Rattle.isa_fields.specs.Fields.{rdField}
-use Rattle.isa_types.specs.Pick.{and, not, or}
+use Rattle.isa_types.specs.Pick.{and, not, or, pick}
 use Rattle.isa_types.specs.declared.GuestPhysAddr.{GuestPhysAddr}
 use Rattle.isa_types.specs.declared.Width.the-variants as width
 use Rattle.isa_types.specs.declared.Width.{Width}
@@ -43,7 +49,7 @@ use Rattle.words_call.specs.Words.{callOf, replyWordsOf}
 use Rattle.words_entry.specs.Words.{Exported, exportedOf}
 use Rattle.in_place_record.specs.View.{Made, viewOf}
 use Rattle.demands_words.specs.Left.{Sized, left-shows}
-use Rattle.requests.specs.Meaning.{Loads, Means, Nested, Stores, by-fetch}
+use Rattle.requests.specs.Meaning.{Asks, Means, Nested, asks, by-fetch}
 
 -- the answer that c is: the word that a guest page fault of access k at an address had to have fetched, 16 bits long
 pub record Fetched (v : Vcpu) (c : HostCall) (at : GuestPhysAddr) (k : Access) (word : ℕ) : Type 0 where
@@ -62,24 +68,36 @@ pub record NoForm (word : ℕ) : Type 0 where
   pub not-c-swsp : Encodes 2 6 word → ⊥
   pub not-c-sdsp : Encodes 2 7 word → ⊥
 
--- the request, of call c on record v with this outcome. The lines are the eight forms by quadrant and funct3, each with its register;
--- then every other word; a load that is not under 21, a store that is not under 23; that the upper 16 bits are not looked at; and the
--- reading table's new row: under a write the answer names the source of a compressed store, x0 never, and under a read nothing
+-- the source of a compressed store: rs2′ in quadrant 0, rs2 in quadrant 2; 0 where the word is none
+abbrev pub sourceField : ℕ → ℕ
+sourceField w = pick (eqb (quadrantField w) 0) (pick (cStoreFunct3 w) (primeField w) 0) (pick (eqb (quadrantField w) 2) (pick (cStoreFunct3 w) (cRs2Field w) 0) 0)
+
+-- the request, of call c on record v with this outcome. Under 21 and 23 with htinst 0 the word is asked for. Then the eight forms by
+-- quadrant and funct3, each with its register: `Means` has a load under a read and a store under a write, and NestedPageFault under
+-- anything else. Then what stays NestedPageFault: the reserved and the floating forms, and every word that is none of the eight. The
+-- upper 16 bits are not looked at. Last the reading table's row: under a write the answer names the source of a compressed store, x0
+-- never, and under anything else nothing
 pub record W2 (v : Vcpu) (o : Outcome) (c : HostCall) : Type 0 where
-  pub c-lw : (at : GuestPhysAddr) (word : ℕ) → Fetched v c at access.Read word → Encodes 0 2 word → Loads v o at width.Word true (primeField word) 2
-  pub c-ld : (at : GuestPhysAddr) (word : ℕ) → Fetched v c at access.Read word → Encodes 0 3 word → Loads v o at width.Double true (primeField word) 2
-  pub c-sw : (at : GuestPhysAddr) (word : ℕ) → Fetched v c at access.Write word → Encodes 0 6 word → Stores v o at width.Word (primeField word) 2
-  pub c-sd : (at : GuestPhysAddr) (word : ℕ) → Fetched v c at access.Write word → Encodes 0 7 word → Stores v o at width.Double (primeField word) 2
-  pub c-lwsp : (at : GuestPhysAddr) (word : ℕ) → Fetched v c at access.Read word → Encodes 2 2 word → eqb (rdField word) 0 ≡ false → Loads v o at width.Word true (rdField word) 2
-  pub c-ldsp : (at : GuestPhysAddr) (word : ℕ) → Fetched v c at access.Read word → Encodes 2 3 word → eqb (rdField word) 0 ≡ false → Loads v o at width.Double true (rdField word) 2
-  pub c-swsp : (at : GuestPhysAddr) (word : ℕ) → Fetched v c at access.Write word → Encodes 2 6 word → Stores v o at width.Word (cRs2Field word) 2
-  pub c-sdsp : (at : GuestPhysAddr) (word : ℕ) → Fetched v c at access.Write word → Encodes 2 7 word → Stores v o at width.Double (cRs2Field word) 2
+  pub asks-21 : (t : Trap) → c ≡ hostCall.Start t → isIdle (v .waiting) ≡ true → t .scause ≡ loadGuestPageFault → t .htinst ≡ 0 → Asks v o (guestPageFaultAddr (t .htval) (t .stval)) access.Read
+  pub asks-23 : (t : Trap) → c ≡ hostCall.Start t → isIdle (v .waiting) ≡ true → t .scause ≡ storeGuestPageFault → t .htinst ≡ 0 → Asks v o (guestPageFaultAddr (t .htval) (t .stval)) access.Write
+  pub c-lw : (at : GuestPhysAddr) (k : Access) (word : ℕ) → Fetched v c at k word → Encodes 0 2 word → Means v o at k (decoded.Load width.Word true (primeField word)) 2
+  pub c-ld : (at : GuestPhysAddr) (k : Access) (word : ℕ) → Fetched v c at k word → Encodes 0 3 word → Means v o at k (decoded.Load width.Double true (primeField word)) 2
+  pub c-sw : (at : GuestPhysAddr) (k : Access) (word : ℕ) → Fetched v c at k word → Encodes 0 6 word → Means v o at k (decoded.Store width.Word (primeField word)) 2
+  pub c-sd : (at : GuestPhysAddr) (k : Access) (word : ℕ) → Fetched v c at k word → Encodes 0 7 word → Means v o at k (decoded.Store width.Double (primeField word)) 2
+  pub c-lwsp : (at : GuestPhysAddr) (k : Access) (word : ℕ) → Fetched v c at k word → Encodes 2 2 word → eqb (rdField word) 0 ≡ false → Means v o at k (decoded.Load width.Word true (rdField word)) 2
+  pub c-ldsp : (at : GuestPhysAddr) (k : Access) (word : ℕ) → Fetched v c at k word → Encodes 2 3 word → eqb (rdField word) 0 ≡ false → Means v o at k (decoded.Load width.Double true (rdField word)) 2
+  pub c-swsp : (at : GuestPhysAddr) (k : Access) (word : ℕ) → Fetched v c at k word → Encodes 2 6 word → Means v o at k (decoded.Store width.Word (cRs2Field word)) 2
+  pub c-sdsp : (at : GuestPhysAddr) (k : Access) (word : ℕ) → Fetched v c at k word → Encodes 2 7 word → Means v o at k (decoded.Store width.Double (cRs2Field word)) 2
+  pub c-lwsp-x0 : (at : GuestPhysAddr) (k : Access) (word : ℕ) → Fetched v c at k word → Encodes 2 2 word → eqb (rdField word) 0 ≡ true → Nested v o at k
+  pub c-ldsp-x0 : (at : GuestPhysAddr) (k : Access) (word : ℕ) → Fetched v c at k word → Encodes 2 3 word → eqb (rdField word) 0 ≡ true → Nested v o at k
+  pub c-fld : (at : GuestPhysAddr) (k : Access) (word : ℕ) → Fetched v c at k word → Encodes 0 1 word → Nested v o at k
+  pub c-fsd : (at : GuestPhysAddr) (k : Access) (word : ℕ) → Fetched v c at k word → Encodes 0 5 word → Nested v o at k
+  pub c-fldsp : (at : GuestPhysAddr) (k : Access) (word : ℕ) → Fetched v c at k word → Encodes 2 1 word → Nested v o at k
+  pub c-fsdsp : (at : GuestPhysAddr) (k : Access) (word : ℕ) → Fetched v c at k word → Encodes 2 5 word → Nested v o at k
   pub no-form : (at : GuestPhysAddr) (k : Access) (word : ℕ) → Fetched v c at k word → NoForm word → Nested v o at k
-  pub load-elsewhere : (at : GuestPhysAddr) (k : Access) (word : ℕ) → Fetched v c at k word → (k ≡ access.Read → ⊥) → (w : Width) (s : Bool) (rd : ℕ) → compressedOf word ≡ decoded.Load w s rd → Nested v o at k
-  pub store-elsewhere : (at : GuestPhysAddr) (k : Access) (word : ℕ) → Fetched v c at k word → (k ≡ access.Write → ⊥) → (w : Width) (rs2 : ℕ) → compressedOf word ≡ decoded.Store w rs2 → Nested v o at k
   pub low-half : (at : GuestPhysAddr) (k : Access) (word : ℕ) → Fetched v c at k word → Means v o at k (compressedOf (word % 2 ^ 16)) 2
-  pub names-store : (at : GuestPhysAddr) (word : ℕ) → Fetched v c at access.Write word → (w : Width) (rs2 : ℕ) → compressedOf word ≡ decoded.Store w rs2 → callNames v c ≡ sourceNames rs2
-  pub names-read : (at : GuestPhysAddr) (word : ℕ) → Fetched v c at access.Read word → callNames v c ≡ []
+  pub names-write : (at : GuestPhysAddr) (word : ℕ) → Fetched v c at access.Write word → callNames v c ≡ sourceNames (sourceField word)
+  pub names-else : (at : GuestPhysAddr) (k : Access) (word : ℕ) → Fetched v c at k word → (k ≡ access.Write → ⊥) → callNames v c ≡ []
 
 -- a fetched 16-bit word means what its decoded form means
 of : (v : Vcpu) (c : HostCall) (at : GuestPhysAddr) (k : Access) (word : ℕ) (op : Decoded) → Fetched v c at k word → compressedOf word ≡ op
@@ -131,37 +149,60 @@ names v c at k word f =
     ∙ ap (λ (n : Waiting). wordNames n word) (f .waits)
     ∙ ap (λ (i : Trapped). accessNames k i) (fetched-short word (f .short))
 
-store-names : (w : Width) (rs2 : ℕ) → accessNames access.Write (trapped.Instruction (decoded.Store w rs2) 2) ≡ sourceNames rs2
+store-names : (op : Decoded) → accessNames access.Write (trapped.Instruction op 2) ≡ sourceNames (opSource op)
 unfolding accessNames storeNames
-store-names w rs2 = ap sourceNames (storeSource-store w rs2 2)
+store-names op = ap sourceNames (storeSource-op op 2)
 
-read-names : (i : Trapped) → accessNames access.Read i ≡ []
+else-names : (k : Access) (i : Trapped) → (k ≡ access.Write → ⊥) → accessNames k i ≡ []
 unfolding accessNames
-read-names i = refl
+else-names access.Read i h = refl
+else-names access.Write i h = absurd (h refl)
+else-names access.Execute i h = refl
+
+started : (v : Vcpu) (c : HostCall) (t : Trap) (n : ℕ) (k : Access) → c ≡ hostCall.Start t → isIdle (v .waiting) ≡ true → classOf n ≡ class.PageFault k → t .scause ≡ n → t .htinst ≡ 0
+    → Asks v (calledOf v c) (guestPageFaultAddr (t .htval) (t .stval)) k
+started v c t n k e idle at cause zero =
+    subst (λ (c : HostCall). Asks v (calledOf v c) (guestPageFaultAddr (t .htval) (t .stval)) k) (sym e) (asks v t k idle (ap classOf cause ∙ at) zero)
+
+loads-fault : classOf loadGuestPageFault ≡ class.PageFault access.Read
+unfolding classOf
+loads-fault = refl
+
+stores-fault : classOf storeGuestPageFault ≡ class.PageFault access.Write
+unfolding classOf
+stores-fault = refl
 
 -- by value, for every record and call
 pub w2 : (v : Vcpu) (c : HostCall) → W2 v (calledOf v c) c
 w2 v c =
     record {
-      c-lw = λ at word f e. of v c at access.Read word _ f (c-lw word e) .load width.Word true (primeField word) refl refl;
-      c-ld = λ at word f e. of v c at access.Read word _ f (c-ld word e) .load width.Double true (primeField word) refl refl;
-      c-sw = λ at word f e. of v c at access.Write word _ f (c-sw word e) .store width.Word (primeField word) refl refl;
-      c-sd = λ at word f e. of v c at access.Write word _ f (c-sd word e) .store width.Double (primeField word) refl refl;
-      c-lwsp = λ at word f e n. of v c at access.Read word _ f (c-lwsp word e n) .load width.Word true (rdField word) refl refl;
-      c-ldsp = λ at word f e n. of v c at access.Read word _ f (c-ldsp word e n) .load width.Double true (rdField word) refl refl;
-      c-swsp = λ at word f e. of v c at access.Write word _ f (c-swsp word e) .store width.Word (cRs2Field word) refl refl;
-      c-sdsp = λ at word f e. of v c at access.Write word _ f (c-sdsp word e) .store width.Double (cRs2Field word) refl refl;
+      asks-21 = λ t e idle cause zero. started v c t loadGuestPageFault access.Read e idle loads-fault cause zero;
+      asks-23 = λ t e idle cause zero. started v c t storeGuestPageFault access.Write e idle stores-fault cause zero;
+      c-lw = λ at k word f e. of v c at k word _ f (c-lw word e);
+      c-ld = λ at k word f e. of v c at k word _ f (c-ld word e);
+      c-sw = λ at k word f e. of v c at k word _ f (c-sw word e);
+      c-sd = λ at k word f e. of v c at k word _ f (c-sd word e);
+      c-lwsp = λ at k word f e n. of v c at k word _ f (c-lwsp word e n);
+      c-ldsp = λ at k word f e n. of v c at k word _ f (c-ldsp word e n);
+      c-swsp = λ at k word f e. of v c at k word _ f (c-swsp word e);
+      c-sdsp = λ at k word f e. of v c at k word _ f (c-sdsp word e);
+      c-lwsp-x0 = λ at k word f e z. of v c at k word _ f (c-lwsp-x0 word e z) .neither refl;
+      c-ldsp-x0 = λ at k word f e z. of v c at k word _ f (c-ldsp-x0 word e z) .neither refl;
+      c-fld = λ at k word f e. of v c at k word _ f (c-fld word e) .neither refl;
+      c-fsd = λ at k word f e. of v c at k word _ f (c-fsd word e) .neither refl;
+      c-fldsp = λ at k word f e. of v c at k word _ f (c-fldsp word e) .neither refl;
+      c-fsdsp = λ at k word f e. of v c at k word _ f (c-fsdsp word e) .neither refl;
       no-form = λ at k word f h. of v c at k word _ f (c-none word (is-none word h)) .neither refl;
-      load-elsewhere = λ at k word f h w s rd e. of v c at k word _ f e .load-elsewhere w s rd h refl;
-      store-elsewhere = λ at k word f h w rs2 e. of v c at k word _ f e .store-elsewhere w rs2 h refl;
       low-half = λ at k word f. of v c at k word _ f (sym (compressed-low word));
-      names-store = λ at word f w rs2 e. names v c at access.Write word f ∙ ap (λ (p : Decoded). accessNames access.Write (trapped.Instruction p 2)) e ∙ store-names w rs2;
-      names-read = λ at word f. names v c at access.Read word f ∙ read-names _;
+      names-write = λ at word f. names v c at access.Write word f ∙ store-names (compressedOf word) ∙ ap sourceNames (compressed-field word);
+      names-else = λ at k word f h. names v c at k word f ∙ else-names k _ h;
     }
 
--- over a lent record, by its promise: the record that is left and what is given are those of such an outcome
-pub w2-lent : (v w : Vcpu) (c : HostCall) (g : Given) → Stored v c w g → (W2 v (calledOf v c) c) × (w ≡ calledOf v c .vcpu) × (g ≡ restOf (calledOf v c))
-w2-lent v w c g s = (w2 v c, s .0, s .1)
+-- over a lent record, by its promise: what is left and given are such an outcome
+pub w2-lent : (v w : Vcpu) (c : HostCall) (g : Given) → Stored v c w g → W2 v (record { vcpu = w; reply = g .reply; args = g .args }) c
+w2-lent v w c g s =
+    subst (λ (h : Given). W2 v (record { vcpu = w; reply = h .reply; args = h .args }) c) (sym (s .1))
+    (subst (λ (u : Vcpu). W2 v (record { vcpu = u; reply = calledOf v c .reply; args = calledOf v c .args }) c) (sym (s .0)) (w2 v c))
 
 -- over words, by its promise
 pub w2-words : (r s : Record) (c : CallWords) (g : ReplyWords) → Sized r → Exported r c s g

@@ -26,12 +26,12 @@ static void accesses(void) {
     STORE("sh", DEVICE + 0x20, n), check("sh: bytes", seen(GET_STORE_BYTES), 2), check("sh: data", seen(GET_STORE_DATA), 0x7788);
     STORE("sw", DEVICE + 0x20, n), check("sw: bytes", seen(GET_STORE_BYTES), 4), check("sw: data", seen(GET_STORE_DATA), 0x55667788);
     STORE("sd", DEVICE + 0x20, n), check("sd: bytes", seen(GET_STORE_BYTES), 8), check("sd: data", seen(GET_STORE_DATA), n);
+    asm volatile(LONG("sw zero, 0(%0)") ::"r"(DEVICE + 0x20) : "memory");
+    check("sw of x0: data", seen(GET_STORE_DATA), 0);
     /* with offset 0 the bits of c.swsp in which a load has its rd are 0 */
     STORE_SP("sw", "%0", "0", n), check("sw by sp: bytes", seen(GET_STORE_BYTES), 4), check("sw by sp: data", seen(GET_STORE_DATA), 0x55667788);
     STORE_SP("sd", "%0", "0", n), check("sd by sp: bytes", seen(GET_STORE_BYTES), 8), check("sd by sp: data", seen(GET_STORE_DATA), n);
     STORE_SP("sd", "zero", "0", n), check("sd of x0 by sp: data", seen(GET_STORE_DATA), 0);
-    asm volatile(LONG("sw zero, 0(%0)") ::"r"(DEVICE + 0x20) : "memory");
-    check("sw of x0: data", seen(GET_STORE_DATA), 0);
     check("faults that the guest saw", faults - before, 0);
 }
 

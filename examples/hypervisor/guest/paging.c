@@ -43,6 +43,8 @@ static void crossing(void) {
     check("its htinst", seen(GET_HTINST), 0x23503);
     knob(KNOB_HTINST_ZERO, 1), n = LOAD_LONG("ld", SMALL + 0xffc), knob(KNOB_HTINST_ZERO, 0);
     known("the same with htinst 0: a0 is kept", n, 0x77, FINGERPRINT);
+    knob(KNOB_HTINST_ZERO, 1), n = LOAD("ld", SMALL + 0xffc), knob(KNOB_HTINST_ZERO, 0);
+    known("the same, compressed where C is there: a0 is kept", n, 0x77, FINGERPRINT);
     /* The other way round the fault is at the access's own address, and the host sees that it is not all the device's. */
     check("ld from the device into memory: ones", LOAD_LONG("ld", SMALL + 0x1ffc), -1ull), check("its htinst", seen(GET_HTINST), 0x3503);
 }
