@@ -5,11 +5,14 @@
 //! funct3 or length decide. Each has two faces: `enums` takes `&mut Vcpu` and returns its enum; `words` stands behind the proved
 //! library's boundary, numbers and pointers in, words out. The text is inlined whole into each of the four, so that each is compiled
 //! for its own callers alone; their calls are not inlined into the caller, as calls into another library are not.
+//!
+//! The program plain-replay is the yardstick of replay: a reader of captures around `Straight`, inlined whole, with the digits of `hex`.
 
 pub mod enums;
 mod first;
 mod forms;
 mod handler;
+pub mod hex;
 mod straight;
 mod types;
 pub mod words;
