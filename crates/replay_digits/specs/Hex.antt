@@ -1,9 +1,8 @@
 -- What sixteen bytes are as lowercase hex digits: the digit reader's promise. 01, Replay program.
-use Prim.Native.Nat.{ℕ, _<_}
+use Prim.Native.Nat.{ℕ}
 use mathlib.Core.List.{List, foldl}
-use mathlib.Core.Path.{_≡_}
 use lib.Dec.{eqb, ltb}
-use lib.ListN.{getD, length}
+use lib.ListN.{length}
 use Rattle.isa_types.specs.Pick.{pick}
 use Rattle.replay_scope.specs.Lines.{nibbleOf, pushOf}
 use Rattle.replay_digits.specs.declared.Digits.{Digits}
@@ -17,7 +16,3 @@ digitOf digits.Bad b = digits.Bad
 -- the number of sixteen digits
 unfoldable pub hexOf : List ℕ → Digits
 hexOf l = pick (eqb (length l) 16) (foldl digitOf (digits.Number 0) l) digits.Bad
-
--- the digits of the first n bytes
-abbrev pub Found : List ℕ → List ℕ → ℕ → Type 0
-Found s each n = (k : ℕ) → k < n → getD each k 0 ≡ nibbleOf (getD s k 0)

@@ -1,3 +1,4 @@
 pub mod Hex
-pub mod Fold
+pub mod Words
+pub mod WordLaws
 pub mod Laws

@@ -1,66 +1,65 @@
 -- `replay_digits::sixteen` meets its contract.
-use borrow.Author.Needs.{needs}
-use mathlib.Core.Path.{refl}
-use Rattle.replay_digits.specs.Hex.{digitOf}
-use Rattle.replay_digits.specs.Laws.{soFar, digit-next, hex-none, hex-number, hex-bad}
+use Rattle.replay_digits.specs.WordLaws.{pack-below}
 use native.Mathlib.Omega.{arith}
-use Prim.Native.Nat.{_-_, _≤_}
-use mathlib.Core.List.{foldl}
-use mathlib.Core.Path.{_≡_, sym, _∙_}
-use lib.ListN.{length, take}
-use Rattle.replay_digits.specs.declared.Digits.the-variants as digits
+use Rattle.replay_digits.specs.Laws.{hex-first, hex-number, hex-second}
+use Rattle.replay_digits.specs.WordLaws.{pack-below}
+use borrow.Author.Needs.{needs}
 use Rattle.replay_digits.proofs.sixteen.Statement.{statement}
 use Rattle.replay_digits.proofs.sixteen.Tie as tie
 
-abbrev Inv-loop : tie.InvT-loop
-Inv-loop s each v₀ bad₀ i₀ v bad i = (i ≤ 16) × (foldl digitOf (digits.Number 0) (take i s) ≡ soFar v bad)
+eight-requires : tie.Need-eight-requires
+eight-requires c κs = search needs
 
-abbrev μ-loop : tie.MeasureT-loop
-μ-loop s each v₀ bad₀ i₀ v bad i = 16 - i
+values-requires : tie.Need-values-requires
+values-requires c κs = search needs
 
-find-requires : tie.Need-find-requires Inv-loop μ-loop
-find-requires c κs = search needs
+glyphs-requires : tie.Need-glyphs-requires
+glyphs-requires c κs = search needs
 
-loop-holds : tie.Need-loop-holds Inv-loop μ-loop
-loop-holds c = (search needs, hex-none)
+returns : tie.Need-returns
+returns c = hex-first (c .before .before .before .before .before .args .s .now) (c .before .before .before .before .before .pre) (λ k. c .before .before .before .before .shared-slice-known .given k .fits) _ _ _ (c .before .before .before .eight .ensures) (c .before .before .values .ensures) (c .before .glyphs .ensures) (c .if1 .taken)
 
-array-read-wide : tie.Need-array-read-wide Inv-loop μ-loop
-array-read-wide c = search needs
+eight-requires-2 : tie.Need-eight-requires-2
+eight-requires-2 c κs = search needs
 
-wide-requires : tie.Need-wide-requires Inv-loop μ-loop
-wide-requires c κs = search needs
+values-requires-2 : tie.Need-values-requires-2
+values-requires-2 c κs = search needs
 
-push-requires : tie.Need-push-requires Inv-loop μ-loop
-push-requires c κs = search needs
+glyphs-requires-2 : tie.Need-glyphs-requires-2
+glyphs-requires-2 c κs = search needs
 
-add-i : tie.Need-add-i Inv-loop μ-loop
-add-i c = search needs
+returns-2 : tie.Need-returns-2
+returns-2 c = hex-second (c .before .before .before .before .before .before .before .before .before .args .s .now) (c .before .before .before .before .before .before .before .before .before .pre) (λ k. c .before .before .before .before .before .before .before .before .shared-slice-known .given k .fits) _ _ _ (c .before .before .before .before .before .before .before .eight .ensures) (c .before .before .before .before .before .before .values .ensures) (c .before .before .before .before .before .glyphs .ensures) _ _ _ (c .before .before .before .eight2 .ensures) (c .before .before .values2 .ensures) (c .before .glyphs2 .ensures) (c .before .before .before .before .if1 .left) (c .if2 .taken)
 
-loop-less : tie.Need-loop-less Inv-loop μ-loop
-loop-less c = search needs
+pack-requires : tie.Need-pack-requires
+pack-requires c κs = search needs
 
-loop-again : tie.Need-loop-again Inv-loop μ-loop
-loop-again c = (search needs, digit-next (c .before .before .before .before .before .before .before .args .s .now) (c .before .before .before .loop .i) _ _ _ _ _ (omega arith) (c .before .before .before .loop .inv .1) (c .before .wide .ensures ∙ c .before .before .before .before .find .ensures (c .before .before .before .loop .i) (c .before .before .loop-test .taken)) (c .push .ensures) refl)
+mul-t8 : tie.Need-mul-t8
+mul-t8 c = omega (arith, c .pack .ensures, pack-below (c .before .before .before .before .before .before .before .values .result))
 
-returns : tie.Need-returns Inv-loop μ-loop
-returns c = hex-number _ _ _ _ (c .before .before .before .before .before .before .pre) (c .before .loop-test .left) (c .before .before .loop .inv .1) (c .if1 .taken)
+pack-requires-2 : tie.Need-pack-requires-2
+pack-requires-2 c κs = search needs
 
-returns-2 : tie.Need-returns-2 Inv-loop μ-loop
-returns-2 c = hex-bad _ _ _ _ (c .before .before .before .before .before .before .pre) (c .before .loop-test .left) (c .before .before .loop .inv .1) (c .if1 .left)
+add-t10 : tie.Need-add-t10
+add-t10 c = omega (arith, c .before .pack .ensures, c .pack2 .ensures, pack-below (c .before .before .before .before .before .before .before .before .values .result), pack-below (c .before .before .before .before .values2 .result))
+
+returns-3 : tie.Need-returns-3
+returns-3 c = rw (c .before .pack .ensures, c .pack2 .ensures) (hex-number (c .before .before .before .before .before .before .before .before .before .before .before .args .s .now) (c .before .before .before .before .before .before .before .before .before .before .before .pre) (λ k. c .before .before .before .before .before .before .before .before .before .before .shared-slice-known .given k .fits) _ _ _ (c .before .before .before .before .before .before .before .before .before .eight .ensures) (c .before .before .before .before .before .before .before .before .values .ensures) (c .before .before .before .before .before .before .before .glyphs .ensures) _ _ _ (c .before .before .before .before .before .eight2 .ensures) (c .before .before .before .before .values2 .ensures) (c .before .before .before .glyphs2 .ensures) (c .before .before .before .before .before .before .if1 .left) (c .before .before .if2 .left))
 
 pub sixteen-spec : {M : Type 1} → statement M
 sixteen-spec =
     tie.close
     (tie.spec
-    Inv-loop
-    μ-loop
-    find-requires
-    loop-holds
-    array-read-wide
-    wide-requires
-    push-requires
-    add-i
-    loop-less
-    loop-again
+    eight-requires
+    values-requires
+    glyphs-requires
     returns
-    returns-2)
+    eight-requires-2
+    values-requires-2
+    glyphs-requires-2
+    returns-2
+    pack-requires
+    mul-t8
+    pack-requires-2
+    add-t10
+    returns-3)

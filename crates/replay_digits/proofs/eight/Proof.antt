@@ -1,0 +1,27 @@
+-- `replay_digits::eight` meets its contract.
+use Rattle.replay_digits.specs.Laws.{eight-of}
+use borrow.Author.Needs.{needs}
+use Rattle.replay_digits.proofs.eight.Statement.{statement}
+use Rattle.replay_digits.proofs.eight.Tie as tie
+
+four-requires : tie.Need-four-requires
+four-requires c κs = search needs
+
+add-four : tie.Need-add-four
+add-four c = search needs
+
+four-requires-2 : tie.Need-four-requires-2
+four-requires-2 c κs = search needs
+
+mul-result : tie.Need-mul-result
+mul-result c = search needs
+
+add-result : tie.Need-add-result
+add-result c = search needs
+
+returns : tie.Need-returns
+returns c = eight-of (c .before .before .before .args .s .now) (c .before .before .before .args .at) _ _ (c .before .before .before .pre) (c .before .four .ensures .0) (c .four2 .ensures .0)
+
+pub eight-spec : {M : Type 1} → statement M
+eight-spec =
+    tie.close (tie.spec four-requires add-four four-requires-2 mul-result add-result returns)

@@ -1,0 +1,228 @@
+-- Laws of eight bytes in one number: what is done to the number is done to each byte, and no byte touches another.
+use Prim.Native.Nat.{ℕ, _+_, _-_, _*_, _/_, _%_, _^_, _≤_, _<_}
+use native.Mathlib.Nat.{add-mul, mul-div-cancel, mul-right-comm}
+use native.Mathlib.Omega.{arith}
+use mathlib.Core.List.{List, [], _∷_, map}
+use mathlib.Core.Path.{_≡_, refl, sym, ap, _∙_}
+use lib.ListN.{getD}
+use lib.Bits.{and-block, and-high, and-mask, and-le-r, and-zero-l, and-zero-r, bitAnd}
+use Rattle.replay_scope.specs.Lines.{glyph}
+use Rattle.replay_scope.specs.TableLaws.{tabled, tabled-at}
+use Rattle.replay_digits.specs.Words.{foursOf, glyphBy, glyphsOf, inEach, letterGap, letterLack, ofBytes, packOf, pairsOf, toSixteen, valueBy, valuesOf, zeroAt}
+
+-- each number of a list is a byte
+abbrev pub Bytes : List ℕ → Type 0
+Bytes [] = Unit
+Bytes (b ∷ l) = (b < 256) × Bytes l
+
+-- AND, byte by byte
+abbrev pub ands : List ℕ → List ℕ → List ℕ
+ands [] m = []
+ands (b ∷ l) [] = []
+ands (b ∷ l) (c ∷ m) = bitAnd b c ∷ ands l m
+
+pub and-bytes : (l m : List ℕ) → Bytes l → Bytes m → bitAnd (ofBytes l) (ofBytes m) ≡ ofBytes (ands l m)
+unfolding ofBytes
+and-bytes [] m h i = and-zero-l (ofBytes m)
+and-bytes (b ∷ l) [] h i = and-zero-r (ofBytes l * 256 + b)
+and-bytes (b ∷ l) (c ∷ m) h i =
+    and-block 8 (ofBytes l) (ofBytes m) b c (h .0) (i .0)
+    ∙ ap (λ (n : ℕ). n * 256 + bitAnd b c) (and-bytes l m (h .1) (i .1))
+
+-- the number whose bytes are those of a list, each by f
+abbrev pub each : (ℕ → ℕ) → List ℕ → ℕ
+each f l = ofBytes (map f l)
+
+module _ (f g : ℕ → ℕ) where
+  pub each-add : (l : List ℕ) → each f l + each g l ≡ each (λ b. f b + g b) l
+  unfolding ofBytes
+  each-add [] = refl
+  each-add (b ∷ l) = let e : each f l + each g l ≡ each (λ b. f b + g b) l = each-add l in omega arith
+
+  pub each-same : ((b : ℕ) → f b ≡ g b) → (l : List ℕ) → each f l ≡ each g l
+  unfolding ofBytes
+  each-same e [] = refl
+  each-same e (b ∷ l) = rw (e b, each-same e l)
+
+module _ (f : ℕ → ℕ) (c : ℕ) where
+  pub each-mul : (l : List ℕ) → each f l * c ≡ each (λ b. f b * c) l
+  unfolding ofBytes
+  each-mul [] = omega arith
+  each-mul (b ∷ l) = add-mul (each f l * 256) (f b) c ∙ rw (mul-right-comm (each f l) 256 c, each-mul l)
+
+  pub each-div : 0 < c → (l : List ℕ) → each (λ b. f b * c) l / c ≡ each f l
+  each-div p l = ap (λ (n : ℕ). n / c) (sym (each-mul l)) ∙ mul-div-cancel (each f l) p
+
+each-bytes : (f : ℕ → ℕ) → ((b : ℕ) → f b < 256) → (l : List ℕ) → Bytes (map f l)
+each-bytes f h [] = tt
+each-bytes f h (b ∷ l) = (h b, each-bytes f h l)
+
+each-ands : (f : ℕ → ℕ) (m : ℕ) (l : List ℕ) → ands (map f l) (map (λ b. m) l) ≡ map (λ b. bitAnd (f b) m) l
+each-ands f m [] = refl
+each-ands f m (b ∷ l) = ap (λ (r : List ℕ). bitAnd (f b) m ∷ r) (each-ands f m l)
+
+pub each-and : (f : ℕ → ℕ) (m : ℕ) → ((b : ℕ) → f b < 256) → m < 256 → (l : List ℕ)
+    → bitAnd (each f l) (each (λ b. m) l) ≡ each (λ b. bitAnd (f b) m) l
+each-and f m h i l =
+    and-bytes (map f l) (map (λ b. m) l) (each-bytes f h l) (each-bytes (λ b. m) (λ b. i) l)
+    ∙ ap ofBytes (each-ands f m l)
+
+-- a list of bytes is each of them as it is
+pub each-byte : (l : List ℕ) → Bytes l → ofBytes l ≡ each (λ b. b % 256) l
+unfolding ofBytes
+each-byte [] h = refl
+each-byte (b ∷ l) h =
+    let e : ofBytes l ≡ each (λ b. b % 256) l = each-byte l (h .1) in
+    let i : b < 256 = h .0 in
+    omega arith
+
+-- one bit of each byte, by a mask that has it alone
+each-bit : (k m : ℕ) → m ≡ 2 ^ (1 + k) - 2 ^ k → m < 256 → 0 < 2 ^ k → (f : ℕ → ℕ) → ((b : ℕ) → f b < 256) → (l : List ℕ)
+    → bitAnd (each f l) (each (λ b. m) l) / 2 ^ k ≡ each (λ b. f b / 2 ^ k % 2) l
+each-bit k m e i p f h l =
+    ap (λ (n : ℕ). n / 2 ^ k) (each-and f m h i l ∙ each-same _ _ (λ b. ap (bitAnd (f b)) e ∙ and-high (f b) 1 k) l)
+    ∙ each-div (λ b. f b / 2 ^ k % 2) (2 ^ k) p l
+
+-- the low four bits of each
+each-low : (f : ℕ → ℕ) → ((b : ℕ) → f b < 256) → (l : List ℕ) → bitAnd (each f l) (each (λ b. 15) l) ≡ each (λ b. f b % 16) l
+each-low f h l = each-and f 15 h (omega arith) l ∙ each-same _ _ (λ b. and-mask (f b) 4) l
+
+-- eight bytes
+abbrev pub eight : ℕ → ℕ → ℕ → ℕ → ℕ → ℕ → ℕ → ℕ → List ℕ
+eight a b c d e f g h = a ∷ b ∷ c ∷ d ∷ e ∷ f ∷ g ∷ h ∷ []
+
+-- eight numbers below 256
+pub eight-bytes : {a b c d e f g h : ℕ} → a < 256 → b < 256 → c < 256 → d < 256 → e < 256 → f < 256 → g < 256 → h < 256 → Bytes (eight a b c d e f g h)
+eight-bytes i j k l m n o p = (i, (j, (k, (l, (m, (n, (o, (p, tt))))))))
+
+module _ (a b c d e f g h : ℕ) where
+  abbrev all : List ℕ
+  all = eight a b c d e f g h
+
+  -- valuesOf and glyphsOf, byte by byte
+  pub values-each : Bytes all → valuesOf (ofBytes all) ≡ each valueBy all
+  unfolding valuesOf ofBytes
+  values-each i =
+      let w : ofBytes all ≡ each (λ b. b % 256) all = each-byte all i in
+      let k : ((b : ℕ) → b % 256 < 256) = λ b. omega arith in
+      let low : bitAnd (each (λ b. b % 256) all) (inEach 15) ≡ each (λ b. b % 256 % 16) all = each-low _ k all in
+      let bit : bitAnd (each (λ b. b % 256) all) (inEach 64) / 64 ≡ each (λ b. b % 256 / 64 % 2) all =
+      each-bit 6 64 refl (omega arith) (omega arith) _ k all
+      in
+      rw (w, low, bit, each-mul (λ b. b % 256 / 64 % 2) letterLack all, each-add (λ b. b % 256 % 16) (λ b. b % 256 / 64 % 2 * letterLack) all)
+
+  pub glyphs-each : (t : ℕ → ℕ) → ((b : ℕ) → t b < 256) → glyphsOf (each t all) ≡ each (λ b. glyphBy (t b)) all
+  unfolding glyphsOf ofBytes
+  glyphs-each t i =
+      let k : ((b : ℕ) → t b % 16 + toSixteen < 256) = λ b. omega arith in
+      let low : bitAnd (each t all) (inEach 15) ≡ each (λ b. t b % 16) all = each-low t i all in
+      let ten : each (λ b. t b % 16) all + inEach toSixteen ≡ each (λ b. t b % 16 + toSixteen) all = each-add (λ b. t b % 16) (λ b. toSixteen) all in
+      let zero : each (λ b. t b % 16) all + inEach zeroAt ≡ each (λ b. t b % 16 + zeroAt) all = each-add (λ b. t b % 16) (λ b. zeroAt) all in
+      let bit : bitAnd (each (λ b. t b % 16 + toSixteen) all) (inEach 16) / 16 ≡ each (λ b. (t b % 16 + toSixteen) / 16 % 2) all =
+      each-bit 4 16 refl (omega arith) (omega arith) _ k all
+      in
+      rw (
+        low,
+        ten,
+        zero,
+        bit,
+        each-mul (λ b. (t b % 16 + toSixteen) / 16 % 2) letterGap all,
+        each-add (λ b. t b % 16 + zeroAt) (λ b. (t b % 16 + toSixteen) / 16 % 2 * letterGap) all,
+      )
+
+-- eight digits in front of each other
+abbrev pub eightDigits : ℕ → ℕ → ℕ → ℕ → ℕ → ℕ → ℕ → ℕ → ℕ
+eightDigits a b c d e f g h = ((((((a * 16 + b) * 16 + c) * 16 + d) * 16 + e) * 16 + f) * 16 + g) * 16 + h
+
+module _ (a b c d e f g h : ℕ) where
+  -- the low four bits of the first byte of each pair, and of the second
+  first-lows : Bytes (eight a b c d e f g h) → bitAnd (ofBytes (eight a b c d e f g h)) 0x000f000f000f000f ≡ ofBytes (eight (a % 16) 0 (c % 16) 0 (e % 16) 0 (g % 16) 0)
+  unfolding ofBytes
+  first-lows i =
+      and-bytes (eight a b c d e f g h) (eight 15 0 15 0 15 0 15 0) i
+      (eight-bytes (omega arith) (omega arith) (omega arith) (omega arith) (omega arith) (omega arith) (omega arith) (omega arith))
+      ∙ rw (and-mask a 4, and-zero-r b, and-mask c 4, and-zero-r d, and-mask e 4, and-zero-r f, and-mask g 4, and-zero-r h)
+
+  second-lows : Bytes (eight a b c d e f g h) → bitAnd (ofBytes (eight a b c d e f g h)) 0x0f000f000f000f00 ≡ ofBytes (eight 0 (b % 16) 0 (d % 16) 0 (f % 16) 0 (h % 16))
+  unfolding ofBytes
+  second-lows i =
+      and-bytes (eight a b c d e f g h) (eight 0 15 0 15 0 15 0 15) i
+      (eight-bytes (omega arith) (omega arith) (omega arith) (omega arith) (omega arith) (omega arith) (omega arith) (omega arith))
+      ∙ rw (and-zero-r a, and-mask b 4, and-zero-r c, and-mask d 4, and-zero-r e, and-mask f 4, and-zero-r g, and-mask h 4)
+
+  -- two digits side by side, in each pair of bytes
+  pairs-of : ofBytes (eight a 0 c 0 e 0 g 0) * 16 + ofBytes (eight 0 b 0 d 0 f 0 h) / 256 ≡ ofBytes (eight (a * 16 + b) 0 (c * 16 + d) 0 (e * 16 + f) 0 (g * 16 + h) 0)
+  unfolding ofBytes
+  pairs-of = omega arith
+
+  -- two pairs side by side, in each four bytes
+  fours-of : a < 256 → c < 256 → e < 256 → g < 256
+      → foursOf (ofBytes (eight a 0 c 0 e 0 g 0)) ≡ a * 256 + c + (e * 256 + g) * 4294967296
+  unfolding ofBytes
+  fours-of i j k l =
+      let z : 0 < 256 = omega arith in
+      let m : 255 < 256 = omega arith in
+      let n : Bytes (eight a 0 c 0 e 0 g 0) = eight-bytes i z j z k z l z in
+      let u : bitAnd (ofBytes (eight a 0 c 0 e 0 g 0)) 0x000000ff000000ff ≡ ofBytes (eight (a % 256) 0 0 0 (e % 256) 0 0 0) =
+      and-bytes (eight a 0 c 0 e 0 g 0) (eight 255 0 0 0 255 0 0 0) n (eight-bytes m z z z m z z z)
+      ∙ rw (and-mask a 8, and-zero-r c, and-mask e 8, and-zero-r g)
+      in
+      let v : bitAnd (ofBytes (eight a 0 c 0 e 0 g 0)) 0x00ff000000ff0000 ≡ ofBytes (eight 0 0 (c % 256) 0 0 0 (g % 256) 0) =
+      and-bytes (eight a 0 c 0 e 0 g 0) (eight 0 0 255 0 0 0 255 0) n (eight-bytes z z m z z z m z)
+      ∙ rw (and-zero-r a, and-mask c 8, and-zero-r e, and-mask g 8)
+      in
+      rw (u, v) (omega arith)
+
+-- the number that eight values make
+fours-packed : (x y n : ℕ) → x < 65536 → y < 65536 → n ≡ x + y * 4294967296 → n % 65536 * 65536 + n / 4294967296 ≡ x * 65536 + y
+fours-packed x y n i j e =
+    let low : n % 65536 ≡ x = omega arith in
+    let high : n / 4294967296 ≡ y = omega arith in
+    rw (low, high)
+
+pub pack-eight : (a b c d e f g h : ℕ) → Bytes (eight a b c d e f g h)
+    → packOf (ofBytes (eight a b c d e f g h)) ≡ eightDigits (a % 16) (b % 16) (c % 16) (d % 16) (e % 16) (f % 16) (g % 16) (h % 16)
+unfolding packOf
+pack-eight a b c d e f g h i =
+    let p : pairsOf (ofBytes (eight a b c d e f g h))
+    ≡ ofBytes (eight (a % 16 * 16 + b % 16) 0 (c % 16 * 16 + d % 16) 0 (e % 16 * 16 + f % 16) 0 (g % 16 * 16 + h % 16) 0) =
+    rw (first-lows a b c d e f g h i, second-lows a b c d e f g h i) (pairs-of (a % 16) (b % 16) (c % 16) (d % 16) (e % 16) (f % 16) (g % 16) (h % 16))
+    in
+    rw p
+    (fours-packed ((a % 16 * 16 + b % 16) * 256 + (c % 16 * 16 + d % 16)) ((e % 16 * 16 + f % 16) * 256 + (g % 16 * 16 + h % 16)) _ (omega arith) (omega arith)
+    (fours-of (a % 16 * 16 + b % 16) 0 (c % 16 * 16 + d % 16) 0 (e % 16 * 16 + f % 16) 0 (g % 16 * 16 + h % 16) 0 (omega arith) (omega arith) (omega arith) (omega arith))
+    ∙ omega arith)
+
+-- a digit's byte
+all-glyphs : tabled (λ d. glyphBy (d % 256)) 16 ≡ tabled glyph 16
+unfolding tabled
+all-glyphs = refl
+
+glyph-by : (d : ℕ) → d < 16 → glyphBy (d % 256) ≡ glyph d
+glyph-by d h = sym (tabled-at (λ d. glyphBy (d % 256)) 16 d h) ∙ ap (λ (l : List ℕ). getD l d 0) all-glyphs ∙ tabled-at glyph 16 d h
+
+-- eight digits' values give eight digits' bytes
+pub glyphs-eight : (a b c d e f g h : ℕ) → a < 16 → b < 16 → c < 16 → d < 16 → e < 16 → f < 16 → g < 16 → h < 16
+    → glyphsOf (ofBytes (a ∷ b ∷ c ∷ d ∷ e ∷ f ∷ g ∷ h ∷ []))
+    ≡ ofBytes (glyph a ∷ glyph b ∷ glyph c ∷ glyph d ∷ glyph e ∷ glyph f ∷ glyph g ∷ glyph h ∷ [])
+glyphs-eight a b c d e f g h i j k l m n o p =
+    let w : Bytes (eight a b c d e f g h) =
+    eight-bytes (omega arith) (omega arith) (omega arith) (omega arith) (omega arith) (omega arith) (omega arith) (omega arith)
+    in
+    ap glyphsOf (each-byte (eight a b c d e f g h) w)
+    ∙ glyphs-each a b c d e f g h (λ b. b % 256) (λ b. omega arith)
+    ∙ rw (glyph-by a i, glyph-by b j, glyph-by c k, glyph-by d l, glyph-by e m, glyph-by f n, glyph-by g o, glyph-by h p)
+
+-- it is below 2^32, whatever the bytes are
+below-by : (x y n : ℕ) → x ≤ 0x000000ff000000ff → y ≤ 0x00ff000000ff0000 → n ≡ x * 256 + y / 65536 → n % 65536 * 65536 + n / 4294967296 < 0x100000000
+below-by x y n i j e =
+    let low : n % 65536 < 65536 = omega arith in
+    let high : n / 4294967296 < 65536 = omega arith in
+    omega arith
+
+pub fours-below : (v : ℕ) → foursOf (pairsOf v) % 65536 * 65536 + foursOf (pairsOf v) / 4294967296 < 0x100000000
+fours-below v = below-by _ _ (foursOf (pairsOf v)) (and-le-r (pairsOf v) 0x000000ff000000ff) (and-le-r (pairsOf v) 0x00ff000000ff0000) refl
+
+pub pack-below : (v : ℕ) → packOf v < 0x100000000
+unfolding packOf
+pack-below v = fours-below v
