@@ -1,2 +1,4 @@
 pub mod Put
 pub mod PutLaws
+pub mod Eight
+pub mod EightLaws

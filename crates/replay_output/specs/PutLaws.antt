@@ -1,14 +1,13 @@
--- Laws of writing: texts one after the other are one text, and digits may be written from the last to the first.
-use Prim.Native.Nat.{ℕ, zero, suc, _+_, _-_, _/_, _%_, _≤_, _<_}
-use native.Mathlib.Nat.{add-suc, add-zero, not-suc-le-zero}
+-- Laws of writing: texts one after the other are one text.
+use Prim.Native.Nat.{ℕ, _+_, _≤_, _<_}
+use native.Mathlib.Nat.{add-zero}
 use native.Mathlib.Numerals.{add-one}
 use native.Mathlib.Omega.{arith}
 use mathlib.Core.List.{List, [], _∷_, _++_, append-assoc}
-use mathlib.Core.Path.{_≡_, refl, sym, ap, _∙_, subst}
-use lib.ListN.{drop, getD, length, length-append, length-drop, length-set, set, take, take-append-drop}
-use lib.Seq.{append-snoc, drop-at, drop-cons, drop-drop, drop-set-lt, getD-set-same, length-take-le, lt-length-set, set-split, take-all, take-at, take-suc}
-use Rattle.replay_scope.specs.Lines.{glyph, lastDigits, lineText, sixteen}
-use Rattle.replay_scope.specs.TableLaws.{tabled, tabled-at, tabled-length}
+use mathlib.Core.Path.{_≡_, refl, sym, ap, _∙_}
+use lib.ListN.{drop, getD, length, length-append, length-drop, set, take, take-append-drop}
+use lib.Seq.{drop-at, drop-drop, length-take-le, set-split, take-all, take-at, take-suc}
+use Rattle.replay_scope.specs.Lines.{lineText, sixteen}
 use Rattle.replay_output.specs.Put.{Put, PutLine, putAt}
 
 module _ (out : List ℕ) (at : ℕ) (t : List ℕ) (fits : at + length t ≤ length out) where
@@ -77,58 +76,15 @@ put-next out at t i now h l e =
 pub put-all : (out : List ℕ) (at : ℕ) (t : List ℕ) (i : ℕ) (now : List ℕ) → length t ≤ i → now ≡ putAt out at (take i t) → now ≡ putAt out at t
 put-all out at t i now h e = e ∙ ap (putAt out at) (take-all i t h)
 
--- a store, seen from its place on
-drop-set : (l : List ℕ) (i a : ℕ) → i < length l → drop i (set l i a) ≡ a ∷ drop (suc i) l
-drop-set l i a h =
-    let n : i < suc i = omega arith in
-    drop-cons (set l i a) i 0 (lt-length-set l i a h) ∙ rw (getD-set-same l i a 0 h, drop-set-lt (suc i) l i a n)
-
--- one digit more in front of those written
-digit-set : (at j rest : ℕ) (out : List ℕ) → at + j < length out
-    → lastDigits j (rest / 16) ++ drop (at + j) (set out (at + j) (glyph (rest % 16))) ≡ lastDigits (suc j) rest ++ drop (at + suc j) out
-digit-set at j rest out h =
-    ap (λ (l : List ℕ). lastDigits j (rest / 16) ++ l) (drop-set out (at + j) (glyph (rest % 16)) h)
-    ∙ sym (append-snoc (lastDigits j (rest / 16)) (glyph (rest % 16)) (drop (suc (at + j)) out))
-    ∙ ap (λ (n : ℕ). lastDigits (suc j) rest ++ drop n out) (sym (add-suc at j))
-
--- a turn of the loop that writes digits from the last on
-pub digit-put : (at i rest g : ℕ) (out r : List ℕ) → 0 < i → at + i ≤ length out → g ≡ glyph (rest % 16) → lastDigits i rest ++ drop (at + i) out ≡ r
-    → lastDigits (i - 1) (rest / 16) ++ drop (at + (i - 1)) (set out (at + (i - 1)) g) ≡ r
-digit-put at i rest g out r p h e q =
-    let s : suc (i - 1) ≡ i = omega arith in
-    let b : at + (i - 1) < length out = omega arith in
-    rw e (digit-set at (i - 1) rest out b ∙ subst (λ (n : ℕ). lastDigits n rest ++ drop (at + n) out ≡ r) (sym s) q)
-
--- n digits are n bytes
-pub digits-length : (n v : ℕ) → length (lastDigits n v) ≡ n
-digits-length zero v = refl
-digits-length (suc n) v = length-append (lastDigits n (v / 16)) (glyph (v % 16) ∷ []) ∙ rw (digits-length n (v / 16), add-one)
-
--- sixteen digits are the last sixteen
-pub sixteen-digits : (v : ℕ) → sixteen v ≡ lastDigits 16 v
-unfolding sixteen
-sixteen-digits v = refl
-
--- they are sixteen bytes
+-- sixteen digits are sixteen bytes
 pub sixteen-length : (v : ℕ) → length (sixteen v) ≡ 16
-sixteen-length v = ap length (sixteen-digits v) ∙ digits-length 16 v
+unfolding sixteen
+sixteen-length v = refl
 
 -- a line is its key and 17 bytes
 pub line-length : (key : List ℕ) (v : ℕ) → length (lineText key v) ≡ length key + 17
 unfolding lineText
 line-length key v = simp (length-append, sixteen-length) (omega arith)
-
--- the loop that writes digits ends with all sixteen
-pub digits-put : (at i rest v : ℕ) (out out₀ : List ℕ) → i ≤ 0 → take at out ≡ take at out₀ → lastDigits i rest ++ drop (at + i) out ≡ lastDigits 16 v ++ drop (at + 16) out₀ → out ≡ putAt out₀ at (sixteen v)
-unfolding putAt
-digits-put at zero rest v out out₀ z e q =
-    sym (take-append-drop at out)
-    ∙ ap (λ (l : List ℕ). l ++ drop at out) e
-    ∙ ap (λ (n : ℕ). take at out₀ ++ drop n out) (sym (add-zero at))
-    ∙ ap (λ (l : List ℕ). take at out₀ ++ l) q
-    ∙ ap (λ (l : List ℕ). take at out₀ ++ (l ++ drop (at + 16) out₀)) (sym (sixteen-digits v))
-    ∙ ap (λ (n : ℕ). take at out₀ ++ (sixteen v ++ drop (at + n) out₀)) (sym (sixteen-length v))
-digits-put at (suc i) rest v out out₀ z e q = absurd (not-suc-le-zero z)
 
 -- writing leaves the buffer's length
 pub put-same : {out later : List ℕ} {at r : ℕ} {t : List ℕ} → at + length t ≤ length out → Put out at t r later → length later ≡ length out
@@ -171,11 +127,3 @@ no-room out at key v h = record { room = λ k. absurd (omega arith); none = λ k
 -- a line with room is
 pub has-room : (out : List ℕ) (at : ℕ) (key : List ℕ) (v r : ℕ) (later : List ℕ) → at + length key + 17 ≤ length out → Put out at (lineText key v) r later → PutLine out at key v r later
 has-room out at key v r later h p = record { room = λ k. p; none = λ k. absurd (omega arith) }
-
--- a byte of the table of digits
-pub glyph-at : (table : List ℕ) (d : ℕ) → (d < 16) × (table ≡ tabled glyph 16) → getD table d 0 ≡ glyph d
-glyph-at table d h = ap (λ (l : List ℕ). getD l d 0) (h .1) ∙ tabled-at glyph 16 d (h .0)
-
--- it has one for each digit
-pub glyph-in : (table : List ℕ) (d : ℕ) → (d < 16) × (table ≡ tabled glyph 16) → d < length table
-glyph-in table d h = let n : length table ≡ 16 = ap length (h .1) ∙ tabled-length glyph 16 in omega (arith, h .0)

@@ -1,9 +1,9 @@
 // A line of a replay's output written: a key, sixteen lowercase hex digits, LF (01, Replay program).
 ghost use mathlib.Core.Path.{_≡_};
-ghost use Prim.Native.Nat.{_+_, _≤_, _<_};
+ghost use Prim.Native.Nat.{_+_, _≤_};
 ghost use lib.ListN.{length};
-ghost use Rattle.replay_scope.specs.Lines.{glyph as glyphOf, lineText, sixteen};
-ghost use Rattle.replay_scope.specs.TableLaws.{tabled};
+ghost use Rattle.replay_scope.specs.Lines.{lastDigits, lineText, sixteen};
+ghost use Rattle.replay_output.specs.Eight.{bytesOf, spreadOf};
 ghost use Rattle.replay_output.specs.Put.{Put, PutLine, putAt};
 
 // Writes a line's text at a place of the buffer, and says where it ends. The other bytes stay. Where the line has no
@@ -50,34 +50,55 @@ fn put_key(key: &[u8], out: &mut [u8], at: usize)
     }
 }
 
-// The sixteen digits of a number.
+// The sixteen digits of a number, eight at a time.
 fn put_digits(v: u64, out: &mut [u8], at: usize)
     requires { ⌜ at + 16 ≤ length (now out) ⌝ }
     ensures { λ _. ⌜ now (out .exit) ≡ putAt (now (out .entry)) at (sixteen v) ⌝ }
 {
-    put_by(b"0123456789abcdef", v, out, at)
+    put_eight(v / 0x100000000, out, at);
+    let b = at + 8;
+    put_eight(v, out, b);
 }
 
-// The same by a table that has each digit's byte, from the last digit to the first.
-fn put_by(table: &[u8], v: u64, out: &mut [u8], at: usize)
-    requires { ⌜ (at + 16 ≤ length (now out)) × (now table ≡ tabled glyphOf 16) ⌝ }
-    ensures { λ _. ⌜ now (out .exit) ≡ putAt (now (out .entry)) at (sixteen v) ⌝ }
+// Its last eight digits, by one number that has a byte for each.
+fn put_eight(v: u64, out: &mut [u8], at: usize)
+    requires { ⌜ at + 8 ≤ length (now out) ⌝ }
+    ensures { λ _. ⌜ now (out .exit) ≡ putAt (now (out .entry)) at (lastDigits 8 v) ⌝ }
 {
-    let mut i: usize = 16;
-    let mut rest = v;
-    while 0 < i {
-        i -= 1;
-        let j = at + i;
-        out[j] = look_up(table, rest % 16);
-        rest = rest / 16;
-    }
+    put_bytes(replay_digits::glyphs(spread(v)), out, at);
 }
 
-// The byte of a digit in that table.
-fn look_up(table: &[u8], d: u64) -> u8
-    requires { ⌜ (d < 16) × (now table ≡ tabled glyphOf 16) ⌝ }
-    ensures { λ r. ⌜ r ≡ glyphOf d ⌝ }
+// The values of a number's last eight digits, a byte each, the first of them the lowest: fours of digits are moved apart,
+// then pairs, then each from its neighbour. A step has one mask, behind its OR: with one for each part of the OR the compiler
+// takes vectors on Arm, which are slower there.
+fn spread(v: u64) -> u64
+    ensures { λ r. ⌜ r ≡ spreadOf v ⌝ }
 {
-    let i = d as usize;
-    table[i]
+    let fours = v / 65536 % 65536 + v % 65536 * 0x100000000;
+    let pairs = (fours / 256 | fours * 65536) & 0x00ff00ff00ff00ff;
+    (pairs / 16 | pairs * 256) & 0x0f0f0f0f0f0f0f0f
+}
+
+// The eight bytes of a number, the lowest first. The compiler makes one store of these; of a loop it makes vectors on Arm.
+fn put_bytes(w: u64, out: &mut [u8], at: usize)
+    requires { ⌜ at + 8 ≤ length (now out) ⌝ }
+    ensures { λ _. ⌜ now (out .exit) ≡ putAt (now (out .entry)) at (bytesOf 8 w) ⌝ }
+{
+    put_four(w, out, at);
+    let b = at + 4;
+    put_four(w / 0x100000000, out, b);
+}
+
+// The lowest four.
+fn put_four(w: u64, out: &mut [u8], at: usize)
+    requires { ⌜ at + 4 ≤ length (now out) ⌝ }
+    ensures { λ _. ⌜ now (out .exit) ≡ putAt (now (out .entry)) at (bytesOf 4 w) ⌝ }
+{
+    let i = at + 1;
+    let j = at + 2;
+    let k = at + 3;
+    out[at] = (w % 256) as u8;
+    out[i] = (w / 0x100 % 256) as u8;
+    out[j] = (w / 0x10000 % 256) as u8;
+    out[k] = (w / 0x1000000 % 256) as u8;
 }

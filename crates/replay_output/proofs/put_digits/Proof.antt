@@ -1,22 +1,24 @@
 -- `replay_output::put_digits` meets its contract.
-use mathlib.Core.Path.{refl}
-use Rattle.replay_scope.specs.TableLaws.{tabled}
+use Rattle.replay_output.specs.EightLaws.{digits-put}
 use borrow.Author.Needs.{needs}
 use Rattle.replay_output.proofs.put_digits.Statement.{statement}
 use Rattle.replay_output.proofs.put_digits.Tie as tie
 
-slice-aggregate-put-by : tie.Need-slice-aggregate-put-by
-slice-aggregate-put-by c = search needs
+put-eight-requires : tie.Need-put-eight-requires
+put-eight-requires c κs = search needs
 
-put-by-requires : tie.Need-put-by-requires
-unfolding tabled
-put-by-requires c κs = (c .before .before .before .pre, refl)
+add-b : tie.Need-add-b
+add-b c = search needs
+
+put-eight-requires-2 : tie.Need-put-eight-requires-2
+put-eight-requires-2 c κs = search needs
 
 same-length : tie.Need-same-length
 same-length c = search needs
 
 returns : tie.Need-returns
-returns c = search needs
+returns c = digits-put (c .before .before .before .before .before .before .before .before .before .args .out .now) _ _ (c .before .before .before .before .before .before .before .before .before .args .at) (c .before .before .before .before .before .before .before .before .before .args .v) (c .before .before .before .before .before .before .before .before .before .pre) (c .before .before .before .before .before .before .put-eight .ensures) (c .before .before .put-eight2 .ensures)
 
 pub put-digits-spec : {M : Type 1} → statement M
-put-digits-spec = tie.close (tie.spec slice-aggregate-put-by put-by-requires same-length returns)
+put-digits-spec =
+    tie.close (tie.spec put-eight-requires add-b put-eight-requires-2 same-length returns)
