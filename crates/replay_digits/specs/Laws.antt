@@ -171,15 +171,14 @@ four-at s at h =
     ))
 
 -- four bytes as a number, and eight
-pub four-of : (s : List ℕ) (at a b c d : ℕ) → at + 4 ≤ length s → a ≡ getD s at 0 → b ≡ getD s (at + 1) 0 → c ≡ getD s (at + 2) 0 → d ≡ getD s (at + 3) 0
-    → a + b * 0x100 + c * 0x10000 + d * 0x1000000 ≡ ofBytes (take 4 (drop at s))
+pub four-of : (s : List ℕ) (at : ℕ) → at + 4 ≤ length s
+    → ofBytes (take 4 (drop at s)) ≡ getD s at 0 + getD s (at + 1) 0 * 0x100 + getD s (at + 2) 0 * 0x10000 + getD s (at + 3) 0 * 0x1000000
 unfolding ofBytes
-four-of s at a b c d h i j k l = rw (four-at s at h) (omega arith)
+four-of s at h = rw (four-at s at h) (omega arith)
 
-pub eight-of : (s : List ℕ) (at x y : ℕ) → at + 8 ≤ length s → x ≡ ofBytes (take 4 (drop at s)) → y ≡ ofBytes (take 4 (drop (at + 4) s))
-    → x + y * 0x100000000 ≡ ofBytes (take 8 (drop at s))
+pub eight-of : (s : List ℕ) (at : ℕ) → at + 8 ≤ length s → ofBytes (take 8 (drop at s)) ≡ ofBytes (take 4 (drop at s)) + ofBytes (take 4 (drop (at + 4) s)) * 0x100000000
 unfolding ofBytes
-eight-of s at x y h e f = rw (e, f, eight-at s at h, four-at s at (omega arith), four-at s (at + 4) (omega arith)) (omega arith)
+eight-of s at h = rw (eight-at s at h, four-at s at (omega arith), four-at s (at + 4) (omega arith)) (omega arith)
 
 -- sixteen bytes, first the one eight of them, then the other
 module _ (s : List ℕ) (n : length s ≡ 16) (w : (k : ℕ) → getD s k 0 < 256) where

@@ -1,5 +1,6 @@
 -- `replay_digits::eight` meets its contract.
 use Rattle.replay_digits.specs.Laws.{eight-of}
+use native.Mathlib.Omega.{arith}
 use borrow.Author.Needs.{needs}
 use Rattle.replay_digits.proofs.eight.Statement.{statement}
 use Rattle.replay_digits.proofs.eight.Tie as tie
@@ -20,7 +21,7 @@ add-result : tie.Need-add-result
 add-result c = search needs
 
 returns : tie.Need-returns
-returns c = eight-of (c .before .before .before .args .s .now) (c .before .before .before .args .at) _ _ (c .before .before .before .pre) (c .before .four .ensures .0) (c .four2 .ensures .0)
+returns c = omega (arith, eight-of (c .before .before .before .args .s .now) (c .before .before .before .args .at) (c .before .before .before .pre), c .before .four .ensures .0, c .four2 .ensures .0)
 
 pub eight-spec : {M : Type 1} → statement M
 eight-spec =
