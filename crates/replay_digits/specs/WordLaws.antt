@@ -134,64 +134,83 @@ module _ (a b c d e f g h : ℕ) where
 abbrev pub eightDigits : ℕ → ℕ → ℕ → ℕ → ℕ → ℕ → ℕ → ℕ → ℕ
 eightDigits a b c d e f g h = ((((((a * 16 + b) * 16 + c) * 16 + d) * 16 + e) * 16 + f) * 16 + g) * 16 + h
 
-module _ (a b c d e f g h : ℕ) where
-  -- the low four bits of the first byte of each pair, and of the second
-  first-lows : Bytes (eight a b c d e f g h) → bitAnd (ofBytes (eight a b c d e f g h)) 0x000f000f000f000f ≡ ofBytes (eight (a % 16) 0 (c % 16) 0 (e % 16) 0 (g % 16) 0)
-  unfolding ofBytes
-  first-lows i =
-      and-bytes (eight a b c d e f g h) (eight 15 0 15 0 15 0 15 0) i
-      (eight-bytes (omega arith) (omega arith) (omega arith) (omega arith) (omega arith) (omega arith) (omega arith) (omega arith))
-      ∙ rw (and-mask a 4, and-zero-r b, and-mask c 4, and-zero-r d, and-mask e 4, and-zero-r f, and-mask g 4, and-zero-r h)
+-- the low four bits of eight bytes
+lows-of : (a b c d e f g h : ℕ) → Bytes (eight a b c d e f g h)
+    → bitAnd (ofBytes (eight a b c d e f g h)) (inEach 15) ≡ ofBytes (eight (a % 16) (b % 16) (c % 16) (d % 16) (e % 16) (f % 16) (g % 16) (h % 16))
+unfolding ofBytes
+lows-of a b c d e f g h i =
+    let q : 15 < 256 = omega arith in
+    and-bytes (eight a b c d e f g h) (eight 15 15 15 15 15 15 15 15) i (eight-bytes q q q q q q q q)
+    ∙ rw (and-mask a 4, and-mask b 4, and-mask c 4, and-mask d 4, and-mask e 4, and-mask f 4, and-mask g 4, and-mask h 4)
 
-  second-lows : Bytes (eight a b c d e f g h) → bitAnd (ofBytes (eight a b c d e f g h)) 0x0f000f000f000f00 ≡ ofBytes (eight 0 (b % 16) 0 (d % 16) 0 (f % 16) 0 (h % 16))
-  unfolding ofBytes
-  second-lows i =
-      and-bytes (eight a b c d e f g h) (eight 0 15 0 15 0 15 0 15) i
-      (eight-bytes (omega arith) (omega arith) (omega arith) (omega arith) (omega arith) (omega arith) (omega arith) (omega arith))
-      ∙ rw (and-zero-r a, and-mask b 4, and-zero-r c, and-mask d 4, and-zero-r e, and-mask f 4, and-zero-r g, and-mask h 4)
+-- a mask that leaves a byte
+and-byte : (b : ℕ) → b < 256 → bitAnd b 255 ≡ b
+and-byte b h = and-mask b 8 ∙ omega arith
 
-  -- two digits side by side, in each pair of bytes
-  pairs-of : ofBytes (eight a 0 c 0 e 0 g 0) * 16 + ofBytes (eight 0 b 0 d 0 f 0 h) / 256 ≡ ofBytes (eight (a * 16 + b) 0 (c * 16 + d) 0 (e * 16 + f) 0 (g * 16 + h) 0)
-  unfolding ofBytes
-  pairs-of = omega arith
+-- two digits side by side, in each pair of bytes
+pairs-of : (a b c d e f g h : ℕ) → a < 16 → b < 16 → c < 16 → d < 16 → e < 16 → f < 16 → g < 16 → h < 16
+    → bitAnd (ofBytes (eight a b c d e f g h) * 16 + ofBytes (eight a b c d e f g h) / 256) 0x00ff00ff00ff00ff
+    ≡ ofBytes (eight (a * 16 + b) 0 (c * 16 + d) 0 (e * 16 + f) 0 (g * 16 + h) 0)
+unfolding ofBytes
+pairs-of a b c d e f g h i j k l m n o p =
+    let s : ofBytes (eight a b c d e f g h) * 16 + ofBytes (eight a b c d e f g h) / 256
+    ≡ ofBytes (eight (a * 16 + b) (b * 16 + c) (c * 16 + d) (d * 16 + e) (e * 16 + f) (f * 16 + g) (g * 16 + h) (h * 16)) =
+    omega arith
+    in
+    let z : 0 < 256 = omega arith in
+    let q : 255 < 256 = omega arith in
+    rw s
+    (and-bytes (eight (a * 16 + b) (b * 16 + c) (c * 16 + d) (d * 16 + e) (e * 16 + f) (f * 16 + g) (g * 16 + h) (h * 16)) (eight 255 0 255 0 255 0 255 0)
+    (eight-bytes (omega arith) (omega arith) (omega arith) (omega arith) (omega arith) (omega arith) (omega arith) (omega arith))
+    (eight-bytes q z q z q z q z)
+    ∙ rw (
+      and-byte (a * 16 + b) (omega arith),
+      and-zero-r (b * 16 + c),
+      and-byte (c * 16 + d) (omega arith),
+      and-zero-r (d * 16 + e),
+      and-byte (e * 16 + f) (omega arith),
+      and-zero-r (f * 16 + g),
+      and-byte (g * 16 + h) (omega arith),
+      and-zero-r (h * 16),
+    ))
 
-  -- two pairs side by side, in each four bytes
-  fours-of : a < 256 → c < 256 → e < 256 → g < 256
-      → foursOf (ofBytes (eight a 0 c 0 e 0 g 0)) ≡ a * 256 + c + (e * 256 + g) * 4294967296
-  unfolding ofBytes
-  fours-of i j k l =
-      let z : 0 < 256 = omega arith in
-      let m : 255 < 256 = omega arith in
-      let n : Bytes (eight a 0 c 0 e 0 g 0) = eight-bytes i z j z k z l z in
-      let u : bitAnd (ofBytes (eight a 0 c 0 e 0 g 0)) 0x000000ff000000ff ≡ ofBytes (eight (a % 256) 0 0 0 (e % 256) 0 0 0) =
-      and-bytes (eight a 0 c 0 e 0 g 0) (eight 255 0 0 0 255 0 0 0) n (eight-bytes m z z z m z z z)
-      ∙ rw (and-mask a 8, and-zero-r c, and-mask e 8, and-zero-r g)
-      in
-      let v : bitAnd (ofBytes (eight a 0 c 0 e 0 g 0)) 0x00ff000000ff0000 ≡ ofBytes (eight 0 0 (c % 256) 0 0 0 (g % 256) 0) =
-      and-bytes (eight a 0 c 0 e 0 g 0) (eight 0 0 255 0 0 0 255 0) n (eight-bytes z z m z z z m z)
-      ∙ rw (and-zero-r a, and-mask c 8, and-zero-r e, and-mask g 8)
-      in
-      rw (u, v) (omega arith)
+-- two pairs side by side, in each four bytes
+fours-of : (a c e g : ℕ) → a < 256 → c < 256 → e < 256 → g < 256 → foursOf (ofBytes (eight a 0 c 0 e 0 g 0)) ≡ a * 256 + c + (e * 256 + g) * 0x100000000
+unfolding ofBytes
+fours-of a c e g i j k l =
+    let s : ofBytes (eight a 0 c 0 e 0 g 0) * 256 + ofBytes (eight a 0 c 0 e 0 g 0) / 65536 ≡ ofBytes (eight c a e c g e 0 g) = omega arith in
+    let z : 0 < 256 = omega arith in
+    let q : 255 < 256 = omega arith in
+    rw s
+    (and-bytes (eight c a e c g e 0 g) (eight 255 255 0 0 255 255 0 0) (eight-bytes j i k j l k z l) (eight-bytes q q z z q q z z)
+    ∙ rw (and-byte c j, and-byte a i, and-zero-r e, and-zero-r c, and-byte g l, and-byte e k, and-zero-r g) (omega arith))
+
+-- both fours
+fours-packed : (x y n : ℕ) → x < 65536 → y < 65536 → n ≡ x + y * 0x100000000 → (n * 65536 + n / 0x100000000) % 0x100000000 ≡ x * 65536 + y
+fours-packed x y n i j e =
+    let high : n / 0x100000000 ≡ y = omega arith in
+    rw high (omega arith)
 
 -- the number that eight values make
-fours-packed : (x y n : ℕ) → x < 65536 → y < 65536 → n ≡ x + y * 4294967296 → n % 65536 * 65536 + n / 4294967296 ≡ x * 65536 + y
-fours-packed x y n i j e =
-    let low : n % 65536 ≡ x = omega arith in
-    let high : n / 4294967296 ≡ y = omega arith in
-    rw (low, high)
-
 pub pack-eight : (a b c d e f g h : ℕ) → Bytes (eight a b c d e f g h)
     → packOf (ofBytes (eight a b c d e f g h)) ≡ eightDigits (a % 16) (b % 16) (c % 16) (d % 16) (e % 16) (f % 16) (g % 16) (h % 16)
 unfolding packOf
 pack-eight a b c d e f g h i =
+    let m : ((x : ℕ) → x % 16 < 16) = λ x. omega arith in
     let p : pairsOf (ofBytes (eight a b c d e f g h))
     ≡ ofBytes (eight (a % 16 * 16 + b % 16) 0 (c % 16 * 16 + d % 16) 0 (e % 16 * 16 + f % 16) 0 (g % 16 * 16 + h % 16) 0) =
-    rw (first-lows a b c d e f g h i, second-lows a b c d e f g h i) (pairs-of (a % 16) (b % 16) (c % 16) (d % 16) (e % 16) (f % 16) (g % 16) (h % 16))
+    rw (lows-of a b c d e f g h i)
+    (pairs-of (a % 16) (b % 16) (c % 16) (d % 16) (e % 16) (f % 16) (g % 16) (h % 16) (m a) (m b) (m c) (m d) (m e) (m f) (m g) (m h))
     in
     rw p
     (fours-packed ((a % 16 * 16 + b % 16) * 256 + (c % 16 * 16 + d % 16)) ((e % 16 * 16 + f % 16) * 256 + (g % 16 * 16 + h % 16)) _ (omega arith) (omega arith)
-    (fours-of (a % 16 * 16 + b % 16) 0 (c % 16 * 16 + d % 16) 0 (e % 16 * 16 + f % 16) 0 (g % 16 * 16 + h % 16) 0 (omega arith) (omega arith) (omega arith) (omega arith))
+    (fours-of (a % 16 * 16 + b % 16) (c % 16 * 16 + d % 16) (e % 16 * 16 + f % 16) (g % 16 * 16 + h % 16) (omega arith) (omega arith) (omega arith) (omega arith))
     ∙ omega arith)
+
+-- it is below 2^32, whatever the bytes are
+pub pack-below : (v : ℕ) → packOf v < 0x100000000
+unfolding packOf
+pack-below v = omega arith
 
 -- a digit's byte
 all-glyphs : tabled (λ d. glyphBy (d % 256)) 16 ≡ tabled glyph 16
@@ -212,17 +231,3 @@ glyphs-eight a b c d e f g h i j k l m n o p =
     ap glyphsOf (each-byte (eight a b c d e f g h) w)
     ∙ glyphs-each a b c d e f g h (λ b. b % 256) (λ b. omega arith)
     ∙ rw (glyph-by a i, glyph-by b j, glyph-by c k, glyph-by d l, glyph-by e m, glyph-by f n, glyph-by g o, glyph-by h p)
-
--- it is below 2^32, whatever the bytes are
-below-by : (x y n : ℕ) → x ≤ 0x000000ff000000ff → y ≤ 0x00ff000000ff0000 → n ≡ x * 256 + y / 65536 → n % 65536 * 65536 + n / 4294967296 < 0x100000000
-below-by x y n i j e =
-    let low : n % 65536 < 65536 = omega arith in
-    let high : n / 4294967296 < 65536 = omega arith in
-    omega arith
-
-pub fours-below : (v : ℕ) → foursOf (pairsOf v) % 65536 * 65536 + foursOf (pairsOf v) / 4294967296 < 0x100000000
-fours-below v = below-by _ _ (foursOf (pairsOf v)) (and-le-r (pairsOf v) 0x000000ff000000ff) (and-le-r (pairsOf v) 0x00ff000000ff0000) refl
-
-pub pack-below : (v : ℕ) → packOf v < 0x100000000
-unfolding packOf
-pack-below v = fours-below v

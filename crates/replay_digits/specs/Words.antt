@@ -46,10 +46,10 @@ glyphBy v = v % 16 + zeroAt + (v % 16 + toSixteen) / 16 % 2 * letterGap
 
 -- eight digits' values, of each its low four bits, side by side: two in each pair of bytes, four in each four bytes, all eight
 abbrev pub pairsOf : ℕ → ℕ
-pairsOf v = bitAnd v 0x000f000f000f000f * 16 + bitAnd v 0x0f000f000f000f00 / 256
+pairsOf v = bitAnd (bitAnd v (inEach 15) * 16 + bitAnd v (inEach 15) / 256) 0x00ff00ff00ff00ff
 
 abbrev pub foursOf : ℕ → ℕ
-foursOf p = bitAnd p 0x000000ff000000ff * 256 + bitAnd p 0x00ff000000ff0000 / 65536
+foursOf p = bitAnd (p * 256 + p / 65536) 0x0000ffff0000ffff
 
 unfoldable pub packOf : ℕ → ℕ
-packOf v = foursOf (pairsOf v) % 65536 * 65536 + foursOf (pairsOf v) / 4294967296
+packOf v = (foursOf (pairsOf v) * 65536 + foursOf (pairsOf v) / 0x100000000) % 0x100000000

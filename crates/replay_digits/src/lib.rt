@@ -90,9 +90,10 @@ pub fn glyphs(v: u64) -> u64
 fn pack(v: u64) -> u64
     ensures { λ r. ⌜ r ≡ packOf v ⌝ }
 {
-    let pairs = (v & 0x000f000f000f000f) * 16 + (v & 0x0f000f000f000f00) / 256;
-    let fours = (pairs & 0x000000ff000000ff) * 256 + (pairs & 0x00ff000000ff0000) / 65536;
-    fours % 65536 * 65536 + fours / 0x100000000
+    let d = v & 0x0f0f0f0f0f0f0f0f;
+    let pairs = (d * 16 + d / 256) & 0x00ff00ff00ff00ff;
+    let fours = (pairs * 256 + pairs / 65536) & 0x0000ffff0000ffff;
+    (fours * 65536 + fours / 0x100000000) % 0x100000000
 }
 
 // A byte as a lowercase hex digit; 16 if it is none.

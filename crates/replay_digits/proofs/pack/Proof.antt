@@ -1,36 +1,36 @@
 -- `replay_digits::pack` meets its contract.
 use mathlib.Core.Path.{refl}
-use Rattle.replay_digits.specs.Words.{packOf, pairsOf}
-use Rattle.replay_digits.specs.WordLaws.{fours-below}
+use Rattle.replay_digits.specs.Words.{packOf, inEach, pairsOf}
+use Prim.Native.Nat.{_+_, _*_, _/_}
 use native.Mathlib.Omega.{arith}
-use lib.Bits.{and-le-r}
-use Rattle.replay_digits.specs.Words.{pairsOf}
-use borrow.Author.Needs.{needs}
+use lib.Bits.{and-le-r, bitAnd}
+use Rattle.replay_digits.specs.Words.{inEach, pairsOf}
 use Rattle.replay_digits.proofs.pack.Statement.{statement}
 use Rattle.replay_digits.proofs.pack.Tie as tie
 
 mul-pairs : tie.Need-mul-pairs
 unfolding packOf
-mul-pairs c = omega (arith, and-le-r (c .args .v) 0x000f000f000f000f)
+mul-pairs c = omega (arith, and-le-r (c .args .v) (inEach 15))
 
 add-pairs : tie.Need-add-pairs
 unfolding packOf
-add-pairs c = omega (arith, and-le-r (c .args .v) 0x000f000f000f000f, and-le-r (c .args .v) 0x0f000f000f000f00)
+add-pairs c = omega (arith, and-le-r (c .args .v) (inEach 15))
 
 mul-fours : tie.Need-mul-fours
 unfolding packOf
-mul-fours c = omega (arith, and-le-r (pairsOf (c .args .v)) 0x000000ff000000ff)
+mul-fours c = omega (arith, and-le-r (bitAnd (c .args .v) (inEach 15) * 16 + bitAnd (c .args .v) (inEach 15) / 256) 0x00ff00ff00ff00ff)
 
 add-fours : tie.Need-add-fours
 unfolding packOf
-add-fours c = omega (arith, and-le-r (pairsOf (c .args .v)) 0x000000ff000000ff, and-le-r (pairsOf (c .args .v)) 0x00ff000000ff0000)
+add-fours c = omega (arith, and-le-r (bitAnd (c .args .v) (inEach 15) * 16 + bitAnd (c .args .v) (inEach 15) / 256) 0x00ff00ff00ff00ff)
 
 mul-result : tie.Need-mul-result
-mul-result c = search needs
+unfolding packOf
+mul-result c = omega (arith, and-le-r (pairsOf (c .args .v) * 256 + pairsOf (c .args .v) / 65536) 0x0000ffff0000ffff)
 
 add-result : tie.Need-add-result
 unfolding packOf
-add-result c = omega (arith, fours-below (c .args .v))
+add-result c = omega (arith, and-le-r (pairsOf (c .args .v) * 256 + pairsOf (c .args .v) / 65536) 0x0000ffff0000ffff)
 
 returns : tie.Need-returns
 unfolding packOf

@@ -35,7 +35,7 @@ pack-requires : tie.Need-pack-requires
 pack-requires c κs = search needs
 
 mul-t8 : tie.Need-mul-t8
-mul-t8 c = omega (arith, c .pack .ensures, pack-below (c .before .before .before .before .before .before .before .values .result))
+mul-t8 c = omega (arith, c .pack .ensures, pack-below (c .before .before .before .before .before .before .before .values .result), pack-below (c .before .before .before .values2 .result))
 
 pack-requires-2 : tie.Need-pack-requires-2
 pack-requires-2 c κs = search needs
