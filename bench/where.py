@@ -111,7 +111,7 @@ def recorded(program, capture, data):
             outside["the kernel" if int(address, 16) >> 63 else f"{os.path.basename(whose)}: {symbol}"] += 1
     total = inside.total() + outside.total()
     apart = "" if outside["the kernel"] else "; perf does not see the kernel here, whose time is left out"
-    return inside, outside, f"shares of TIME in a hundred, by {total:,} samples of perf (cpu-clock) in {runs} runs{apart}"
+    return inside, outside, f"shares of TIME in a hundred, by {total:,} samples of perf (cpu-clock) in {runs} runs of {total / RATE / runs * 1000:.0f} ms{apart}"
 
 
 def counted(program, capture, data):

@@ -5,7 +5,7 @@ use native.Mathlib.Omega.{arith}
 use mathlib.Core.Bool.{Bool, true, false}
 use mathlib.Core.List.{List, [], _∷_, _++_, foldl, foldl-append}
 use mathlib.Core.Path.{_≡_, refl, sym, ap, _∙_, subst}
-use lib.Dec.{eqb, ltb}
+use lib.Dec.{eqb}
 use lib.Seq.{drop-cons, take-all}
 use lib.ListN.{drop, getD, length, length-drop, length-take, take, take-append-drop}
 use borrow.Author.Tests.{eq-eqb, eqb-false, eqb-true, lt-ltb, ne-eqb}
@@ -43,7 +43,7 @@ bad-digits [] = refl
 bad-digits (b ∷ l) = bad-digits l
 
 -- a byte's digit behind a number
-abbrev pub pushBy : ℕ → ℕ → ℕ
+abbrev pushBy : ℕ → ℕ → ℕ
 pushBy v b = pushOf v (valueBy b % 16)
 
 one-digit : (v b : ℕ) → nibbleOf b ≡ valueBy b % 16 → digitOf (digits.Number v) b ≡ digits.Number (pushBy v b)
@@ -62,7 +62,7 @@ glyph-byte : (v : ℕ) → glyphBy v < 256
 glyph-byte v = omega arith
 
 -- what eight bytes must be: each the digit of its value
-abbrev pub again : List ℕ → ℕ
+abbrev again : List ℕ → ℕ
 again l = each (λ b. glyphBy (valueBy b)) l
 
 -- every byte is
@@ -142,11 +142,11 @@ module _ (a b c d e f g h : ℕ) (w : Bytes (eight a b c d e f g h)) where
   eight-bad v n = fold-bad all v w (λ e. n (again-is ∙ e))
 
 -- the eight bytes at a place of a slice
-abbrev pub eightAt : List ℕ → ℕ → List ℕ
+abbrev eightAt : List ℕ → ℕ → List ℕ
 eightAt s at =
     eight (getD s at 0) (getD s (at + 1) 0) (getD s (at + 2) 0) (getD s (at + 3) 0) (getD s (at + 4) 0) (getD s (at + 4 + 1) 0) (getD s (at + 4 + 2) 0) (getD s (at + 4 + 3) 0)
 
-pub eight-at : (s : List ℕ) (at : ℕ) → at + 8 ≤ length s → take 8 (drop at s) ≡ eightAt s at
+eight-at : (s : List ℕ) (at : ℕ) → at + 8 ≤ length s → take 8 (drop at s) ≡ eightAt s at
 eight-at s at h =
     simp unary-clauses
     (rw (

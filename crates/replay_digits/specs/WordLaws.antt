@@ -1,11 +1,11 @@
 -- Laws of eight bytes in one number: what is done to the number is done to each byte, and no byte touches another.
-use Prim.Native.Nat.{ℕ, _+_, _-_, _*_, _/_, _%_, _^_, _≤_, _<_}
+use Prim.Native.Nat.{ℕ, _+_, _-_, _*_, _/_, _%_, _^_, _<_}
 use native.Mathlib.Nat.{add-mul, mul-div-cancel, mul-right-comm}
 use native.Mathlib.Omega.{arith}
 use mathlib.Core.List.{List, [], _∷_, map}
 use mathlib.Core.Path.{_≡_, refl, sym, ap, _∙_}
 use lib.ListN.{getD}
-use lib.Bits.{and-block, and-high, and-mask, and-le-r, and-zero-l, and-zero-r, bitAnd}
+use lib.Bits.{and-block, and-high, and-mask, and-zero-l, and-zero-r, bitAnd}
 use Rattle.replay_scope.specs.Lines.{glyph}
 use Rattle.replay_scope.specs.TableLaws.{tabled, tabled-at}
 use Rattle.replay_digits.specs.Words.{foursOf, glyphBy, glyphsOf, inEach, letterGap, letterLack, ofBytes, packOf, pairsOf, toSixteen, valueBy, valuesOf, zeroAt}
@@ -34,23 +34,23 @@ abbrev pub each : (ℕ → ℕ) → List ℕ → ℕ
 each f l = ofBytes (map f l)
 
 module _ (f g : ℕ → ℕ) where
-  pub each-add : (l : List ℕ) → each f l + each g l ≡ each (λ b. f b + g b) l
+  each-add : (l : List ℕ) → each f l + each g l ≡ each (λ b. f b + g b) l
   unfolding ofBytes
   each-add [] = refl
   each-add (b ∷ l) = let e : each f l + each g l ≡ each (λ b. f b + g b) l = each-add l in omega arith
 
-  pub each-same : ((b : ℕ) → f b ≡ g b) → (l : List ℕ) → each f l ≡ each g l
+  each-same : ((b : ℕ) → f b ≡ g b) → (l : List ℕ) → each f l ≡ each g l
   unfolding ofBytes
   each-same e [] = refl
   each-same e (b ∷ l) = rw (e b, each-same e l)
 
 module _ (f : ℕ → ℕ) (c : ℕ) where
-  pub each-mul : (l : List ℕ) → each f l * c ≡ each (λ b. f b * c) l
+  each-mul : (l : List ℕ) → each f l * c ≡ each (λ b. f b * c) l
   unfolding ofBytes
   each-mul [] = omega arith
   each-mul (b ∷ l) = add-mul (each f l * 256) (f b) c ∙ rw (mul-right-comm (each f l) 256 c, each-mul l)
 
-  pub each-div : 0 < c → (l : List ℕ) → each (λ b. f b * c) l / c ≡ each f l
+  each-div : 0 < c → (l : List ℕ) → each (λ b. f b * c) l / c ≡ each f l
   each-div p l = ap (λ (n : ℕ). n / c) (sym (each-mul l)) ∙ mul-div-cancel (each f l) p
 
 each-bytes : (f : ℕ → ℕ) → ((b : ℕ) → f b < 256) → (l : List ℕ) → Bytes (map f l)
@@ -61,14 +61,14 @@ each-ands : (f : ℕ → ℕ) (m : ℕ) (l : List ℕ) → ands (map f l) (map (
 each-ands f m [] = refl
 each-ands f m (b ∷ l) = ap (λ (r : List ℕ). bitAnd (f b) m ∷ r) (each-ands f m l)
 
-pub each-and : (f : ℕ → ℕ) (m : ℕ) → ((b : ℕ) → f b < 256) → m < 256 → (l : List ℕ)
+each-and : (f : ℕ → ℕ) (m : ℕ) → ((b : ℕ) → f b < 256) → m < 256 → (l : List ℕ)
     → bitAnd (each f l) (each (λ b. m) l) ≡ each (λ b. bitAnd (f b) m) l
 each-and f m h i l =
     and-bytes (map f l) (map (λ b. m) l) (each-bytes f h l) (each-bytes (λ b. m) (λ b. i) l)
     ∙ ap ofBytes (each-ands f m l)
 
 -- a list of bytes is each of them as it is
-pub each-byte : (l : List ℕ) → Bytes l → ofBytes l ≡ each (λ b. b % 256) l
+each-byte : (l : List ℕ) → Bytes l → ofBytes l ≡ each (λ b. b % 256) l
 unfolding ofBytes
 each-byte [] h = refl
 each-byte (b ∷ l) h =
@@ -130,7 +130,7 @@ module _ (a b c d e f g h : ℕ) where
         each-add (λ b. t b % 16 + zeroAt) (λ b. (t b % 16 + toSixteen) / 16 % 2 * letterGap) all,
       )
 
--- eight digits in front of each other
+-- the number whose eight digits these are
 abbrev pub eightDigits : ℕ → ℕ → ℕ → ℕ → ℕ → ℕ → ℕ → ℕ → ℕ
 eightDigits a b c d e f g h = ((((((a * 16 + b) * 16 + c) * 16 + d) * 16 + e) * 16 + f) * 16 + g) * 16 + h
 
@@ -207,7 +207,7 @@ pack-eight a b c d e f g h i =
     (fours-of (a % 16 * 16 + b % 16) (c % 16 * 16 + d % 16) (e % 16 * 16 + f % 16) (g % 16 * 16 + h % 16) (omega arith) (omega arith) (omega arith) (omega arith))
     ∙ omega arith)
 
--- it is below 2^32, whatever the bytes are
+-- packOf is below 2^32, whatever the bytes are
 pub pack-below : (v : ℕ) → packOf v < 0x100000000
 unfolding packOf
 pack-below v = omega arith

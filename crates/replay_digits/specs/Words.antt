@@ -1,5 +1,6 @@
 -- Eight bytes as one number, and what is done to all of them at once: the inside of the digit reader, and of what writes
--- digits. 02, W3. Beside each stands what it does to one byte; WordLaws proves that, and that no byte touches another.
+-- digits. 02, W3. What valuesOf and glyphsOf do to one byte stands below them; WordLaws proves that they do it to each, and
+-- that no byte touches another.
 use Prim.Native.Nat.{ℕ, _+_, _*_, _/_, _%_}
 use mathlib.Core.List.{List, [], _∷_}
 use lib.Bits.{bitAnd}
@@ -31,6 +32,7 @@ toSixteen = 6
 unfoldable pub valuesOf : ℕ → ℕ
 valuesOf w = bitAnd w (inEach 15) + bitAnd w (inEach 64) / 64 * letterLack
 
+-- the same of one byte; of a number above 255, of its low byte, so that laws need no bound
 abbrev pub valueBy : ℕ → ℕ
 valueBy b = b % 256 % 16 + b % 256 / 64 % 2 * letterLack
 
@@ -41,6 +43,7 @@ glyphsOf v =
     + inEach zeroAt
     + bitAnd (bitAnd v (inEach 15) + inEach toSixteen) (inEach 16) / 16 * letterGap
 
+-- the same of one byte
 abbrev pub glyphBy : ℕ → ℕ
 glyphBy v = v % 16 + zeroAt + (v % 16 + toSixteen) / 16 % 2 * letterGap
 

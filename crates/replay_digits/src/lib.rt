@@ -1,5 +1,5 @@
 // Lowercase hex digits read (01, Replay program; 02, W3). Sixteen of them are read here and nowhere else: `read` promises
-// what they are, and nothing above knows how it finds that out.
+// what they are, and who calls it knows nothing of how it finds that out.
 ghost use mathlib.Core.Path.{_≡_};
 ghost use Prim.Native.Nat.{_+_, _≤_, _<_};
 ghost use lib.ListN.{drop, length, take};
@@ -78,7 +78,7 @@ fn values(w: u64) -> u64
     (w & 0x0f0f0f0f0f0f0f0f) + (w & 0x4040404040404040) / 64 * 9
 }
 
-// The digits of eight values, each of its low four bits.
+// The digits of eight values, each of its low four bits. What writes digits (replay_output) calls it too.
 pub fn glyphs(v: u64) -> u64
     ensures { λ r. ⌜ r ≡ glyphsOf v ⌝ }
 {

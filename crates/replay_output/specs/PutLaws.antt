@@ -109,10 +109,6 @@ line-put out mid late at v key h e f =
 pub line-fits : (out key : List ℕ) (at v : ℕ) → at + length key + 17 ≤ length out → at + length (lineText key v) ≤ length out
 line-fits out key at v h = let n : length (lineText key v) ≡ length key + 17 = line-length key v in omega arith
 
--- where a line ends
-pub line-end : (key : List ℕ) (v : ℕ) (out : List ℕ) (at r : ℕ) (later : List ℕ) → Put out at (lineText key v) r later → r ≡ at + (length key + 17)
-line-end key v out at r later p = p .ends ∙ rw (line-length key v)
-
 -- the front of the buffer after writing behind it
 pub put-front : (out : List ℕ) (at : ℕ) (t : List ℕ) (r : ℕ) (later : List ℕ) → at + length t ≤ length out → Put out at t r later → take r later ≡ take at out ++ t
 unfolding putAt

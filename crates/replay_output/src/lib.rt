@@ -69,8 +69,8 @@ fn put_eight(v: u64, out: &mut [u8], at: usize)
 }
 
 // The values of a number's last eight digits, a byte each, the first of them the lowest: fours of digits are moved apart,
-// then pairs, then each from its neighbour. A step has one mask, behind its OR: with one for each part of the OR the compiler
-// takes vectors on Arm, which are slower there.
+// then pairs, then each from its neighbour. An OR has one mask behind it: with one for each of its parts the compiler takes
+// vectors on Arm, which are slower there.
 fn spread(v: u64) -> u64
     ensures { λ r. ⌜ r ≡ spreadOf v ⌝ }
 {

@@ -4,7 +4,6 @@ use Rattle.replay_digits.specs.Words.{glyphsOf, inEach, toSixteen}
 use Prim.Native.Nat.{_+_}
 use native.Mathlib.Omega.{arith}
 use lib.Bits.{and-le-r, bitAnd}
-use Rattle.replay_digits.specs.Words.{inEach, toSixteen}
 use Rattle.replay_digits.proofs.glyphs.Statement.{statement}
 use Rattle.replay_digits.proofs.glyphs.Tie as tie
 

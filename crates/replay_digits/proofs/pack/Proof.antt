@@ -4,7 +4,6 @@ use Rattle.replay_digits.specs.Words.{packOf, inEach, pairsOf}
 use Prim.Native.Nat.{_+_, _*_, _/_}
 use native.Mathlib.Omega.{arith}
 use lib.Bits.{and-le-r, bitAnd}
-use Rattle.replay_digits.specs.Words.{inEach, pairsOf}
 use Rattle.replay_digits.proofs.pack.Statement.{statement}
 use Rattle.replay_digits.proofs.pack.Tie as tie
 

@@ -2,7 +2,6 @@
 use Rattle.replay_digits.specs.WordLaws.{pack-below}
 use native.Mathlib.Omega.{arith}
 use Rattle.replay_digits.specs.Laws.{hex-first, hex-number, hex-second}
-use Rattle.replay_digits.specs.WordLaws.{pack-below}
 use borrow.Author.Needs.{needs}
 use Rattle.replay_digits.proofs.sixteen.Statement.{statement}
 use Rattle.replay_digits.proofs.sixteen.Tie as tie

@@ -3,7 +3,6 @@ use mathlib.Core.Path.{refl}
 use Rattle.replay_digits.specs.Words.{valuesOf, inEach}
 use native.Mathlib.Omega.{arith}
 use lib.Bits.{and-le-r}
-use Rattle.replay_digits.specs.Words.{inEach}
 use Rattle.replay_digits.proofs.values.Statement.{statement}
 use Rattle.replay_digits.proofs.values.Tie as tie
 
