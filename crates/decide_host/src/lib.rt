@@ -1,6 +1,6 @@
 // What the host's own calls do to a record: setup, entry, registers, page table, interrupts, IPI results.
 ghost use mathlib.Core.Path.{_≡_};
-ghost use Rattle.scope.specs.Host.{entryCsrs, ipiWrites, pagingBy, pagingEffect, pendingEffect, setupCsrs, tableCsrs, writeEffect};
+ghost use Rattle.scope.specs.Host.{entryCsrs, ipiWrites, lineOf, pagingBy, pagingEffect, pendingEffect, setupCsrs, tableCsrs, writeEffect};
 ghost use lib.Dec.{eqb};
 ghost use Rattle.isa_types.specs.Pick.{pick};
 ghost use Rattle.isa_consts.specs.Csr.{vseip, vssip, vstip};
@@ -74,7 +74,14 @@ pub fn paging_effect(c: Csrs, w: Waiting, levels: u64, mode: u64, root: u64) -> 
 pub fn pending_effect(c: Csrs, w: Waiting, vector: u64, on: bool) -> Effect
     ensures { λ r. ⌜ r ≡ pendingEffect c w vector on ⌝ }
 {
-    pending_by(c, w, vector, isa_consts::is_supervisor_external(vector), on)
+    pending_by(c, w, line_of(vector), on)
+}
+
+// The bit of hvip that a vector stands for, or 0.
+pub fn line_of(vector: u64) -> u64
+    ensures { λ r. ⌜ r ≡ lineOf vector ⌝ }
+{
+    line_by(vector, isa_consts::is_supervisor_external(vector))
 }
 
 // The registers that an IPI result goes to.
@@ -108,20 +115,27 @@ fn table_csrs(c: Csrs, mode: u64, root: u64) -> Csrs
     n
 }
 
-fn pending_by(c: Csrs, w: Waiting, vector: u64, external: bool, on: bool) -> Effect
-    ensures { λ r. ⌜ r ≡ pick (eqb vector supervisorSoft) (doneOf (pended c (withBits (c .hs .hvip) vssip on)) writes.Keep w) (pick (eqb vector supervisorTimer) (doneOf (pended c (withBits (c .hs .hvip) vstip on)) writes.Keep w) (pick external (doneOf (pended c (withBits (c .hs .hvip) vseip on)) writes.Keep w) (refusedOf c w error.InvalidInput))) ⌝ }
+fn pending_by(c: Csrs, w: Waiting, line: u64, on: bool) -> Effect
+    ensures { λ r. ⌜ r ≡ pick (eqb line 0) (refusedOf c w error.InvalidInput) (doneOf (pended c (withBits (c .hs .hvip) line on)) writes.Keep w) ⌝ }
+{
+    if line == 0 {
+        return decide_effects::refused(c, w, Error::InvalidInput);
+    }
+    let hvip = isa_registers::with_bits(c.hs.hvip, line, on);
+    decide_effects::done(decide_record::with_hvip(c, hvip), Writes::Keep, w)
+}
+
+fn line_by(vector: u64, external: bool) -> u64
+    ensures { λ r. ⌜ r ≡ pick (eqb vector supervisorSoft) vssip (pick (eqb vector supervisorTimer) vstip (pick external vseip 0)) ⌝ }
 {
     if vector == isa_consts::S_SOFT {
-        let hvip = isa_registers::with_bits(c.hs.hvip, isa_consts::VSSIP, on);
-        return decide_effects::done(decide_record::with_hvip(c, hvip), Writes::Keep, w);
+        return isa_consts::VSSIP;
     }
     if vector == isa_consts::S_TIMER {
-        let hvip = isa_registers::with_bits(c.hs.hvip, isa_consts::VSTIP, on);
-        return decide_effects::done(decide_record::with_hvip(c, hvip), Writes::Keep, w);
+        return isa_consts::VSTIP;
     }
     if external {
-        let hvip = isa_registers::with_bits(c.hs.hvip, isa_consts::VSEIP, on);
-        return decide_effects::done(decide_record::with_hvip(c, hvip), Writes::Keep, w);
+        return isa_consts::VSEIP;
     }
-    decide_effects::refused(c, w, Error::InvalidInput)
+    0
 }

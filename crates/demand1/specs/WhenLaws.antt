@@ -22,6 +22,7 @@ use Rattle.isa_types.specs.declared.GuestPhysAddr.{GuestPhysAddr}
 use Rattle.scope.specs.declared.traps.Reply.the-variants as reply
 use Rattle.scope.specs.declared.traps.Trap.{Trap}
 use Rattle.isa_consts.specs.Csr.{systemOpcode, stimecmp}
+use Rattle.isa_consts.specs.Csr.{vseip, vssip, vstip}
 use Rattle.isa_consts.specs.Traps.{supervisorSoft, supervisorTimer, supervisorExternal}
 use Rattle.isa_decoder.specs.declared.Decoded.the-variants as decoded
 use Rattle.isa_decoder.specs.declared.Trapped.{Trapped}
@@ -43,7 +44,7 @@ use Rattle.scope.specs.declared.decided.Stimecmp.{Stimecmp}
 use Rattle.scope.specs.declared.decided.Stimecmp.the-variants as csr
 use Rattle.scope.specs.GuestPageFault.{faultEffect, faultOf, loadUnder, storeUnder, completedOf, mmioOf, pageFaultOf}
 use Rattle.scope.specs.declared.decided.Answered.the-variants as answered
-use Rattle.scope.specs.Host.{pagingBy, pagingEffect, pendingEffect, writeEffect}
+use Rattle.scope.specs.Host.{lineOf, pagingBy, pagingEffect, pendingEffect, writeEffect}
 use Rattle.scope.specs.Classes.{startEffect, classOf, classEffect}
 use Rattle.scope.specs.Answers.{answerEffect, fetchEffect, fittingEffect, numbersEffect, valuesEffect, wordEffect}
 use Rattle.scope.specs.Calls.{calledOf, effectOf, gprReply}
@@ -275,14 +276,14 @@ paging-by e false m8 true true false c d w n = refl
 paging-by e false m8 true false r c d w n = refl
 paging-by e false m8 false m9 r c d w n = refl
 
-pending-by : (e : Error) (s t x : Bool) (c d f g : Csrs) (w : Writes) (n : Waiting)
-    → givesIn e (pick s (doneOf d w n) (pick t (doneOf f w n) (pick x (doneOf g w n) (refusedOf c n error.InvalidInput))))
-    ≡ and (not (or s (or t x))) (is e error.InvalidInput)
+-- a vector that stands for no bit is one that is not allowed
+pending-by : (e : Error) (s t x : Bool) (c d : Csrs) (w : Writes) (n : Waiting)
+    → givesIn e (pick (eqb (pick s vssip (pick t vstip (pick x vseip 0))) 0) (refusedOf c n error.InvalidInput) (doneOf d w n)) ≡ and (not (or s (or t x))) (is e error.InvalidInput)
 unfolding doneOf refusedOf leavesOf gives
-pending-by e true t x c d f g w n = refl
-pending-by e false true x c d f g w n = refl
-pending-by e false false true c d f g w n = refl
-pending-by e false false false c d f g w n = refl
+pending-by e true t x c d w n = refl
+pending-by e false true x c d w n = refl
+pending-by e false false true c d w n = refl
+pending-by e false false false c d w n = refl
 
 -- a register read: 1 for an index above 31, and never 2
 read-index : (e : Error) (b : Bool) (n : ℕ) → gives e (pick b (reply.Value n) (reply.Error error.InvalidInput)) ≡ and (not b) (is e error.InvalidInput)
@@ -292,7 +293,7 @@ read-index e false n = refl
 
 -- every call
 pub call-when : (e : Error) (v : Vcpu) (c : HostCall) → gives e (calledOf v c .reply) ≡ callWhen v c e
-unfolding calledOf effectOf applied leavesOf gives gprReply writeEffect pagingEffect pagingBy pendingEffect indexAllowed pagingAllowed vectorAllowed callWhen
+unfolding calledOf effectOf applied leavesOf gives gprReply writeEffect pagingEffect pagingBy pendingEffect lineOf indexAllowed pagingAllowed vectorAllowed callWhen
 call-when e v hostCall.Setup = changing-gives e v _ true (done-gives e _ _ _)
 call-when e v (hostCall.SetEntry at) = changing-gives e v _ true (done-gives e _ _ _)
 call-when e v (hostCall.GetGpr i) = read-index e (ltb i 32) _
@@ -304,7 +305,7 @@ call-when e v (hostCall.SetNestedPageTable levels mode root) =
     (paging-by e (eqb levels 3) (eqb mode 8) (eqb levels 4) (eqb mode 9) (eqb (root % 2 ^ 14) 0) (v .csrs) _ _ (v .waiting))
 call-when e v (hostCall.SetPending k on) =
     changing-gives e v _ (or (eqb k supervisorSoft) (or (eqb k supervisorTimer) (supervisorExternal k)))
-    (pending-by e (eqb k supervisorSoft) (eqb k supervisorTimer) (supervisorExternal k) (v .csrs) _ _ _ _ (v .waiting))
+    (pending-by e (eqb k supervisorSoft) (eqb k supervisorTimer) (supervisorExternal k) (v .csrs) _ _ (v .waiting))
 call-when e v (hostCall.LatchHvip n) = changing-gives e v _ true (done-gives e _ _ _)
 call-when e v (hostCall.CompleteIpi a k) = changing-gives e v _ true (done-gives e _ _ _)
 call-when e v (hostCall.Start t) = start-gives e v t

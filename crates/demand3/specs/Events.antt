@@ -19,7 +19,6 @@ use Rattle.isa_types.specs.declared.GuestPhysAddr.{GuestPhysAddr}
 use Rattle.scope.specs.declared.traps.Trap.{Trap}
 use Rattle.isa_consts.specs.Csr.{consoleRoom, systemOpcode, stimecmp}
 use Rattle.isa_consts.specs.Sbi.{legacySetTimer, legacyPutchar, legacyGetchar, legacyClearIpi, legacySendIpi, legacyFenceI, legacySfenceVma, legacySfenceVmaAsid, legacyShutdown, eidTime, eidSpi, eidHsm, eidHvc, eidSrst, eidDbcn, eidRfnc}
-use Rattle.isa_consts.specs.Traps.{supervisorSoft, supervisorTimer, supervisorExternal}
 use Rattle.isa_decoder.specs.declared.Trapped.{Trapped}
 use Rattle.isa_fields.specs.Fields.{opcodeField, rdField, funct3Field, rs1Field, csrField}
 use Rattle.scope.specs.declared.machine.Csrs.{Csrs}
@@ -38,7 +37,7 @@ use Rattle.scope.specs.declared.decided.Stimecmp.the-variants as csr
 use Rattle.scope.specs.declared.decided.Fault.{Fault}
 use Rattle.scope.specs.declared.decided.Fault.the-variants as fault
 use Rattle.scope.specs.GuestPageFault.{faultEffect, completedOf, mmioOf, pageFaultOf}
-use Rattle.scope.specs.Host.{writeEffect, pagingBy, pagingEffect, pendingEffect}
+use Rattle.scope.specs.Host.{lineOf, writeEffect, pagingBy, pagingEffect, pendingEffect}
 use Rattle.scope.specs.Classes.{argumentsOf, startEffect, classOf, classEffect}
 use Rattle.demand3_table.specs.Table.{a6, a7}
 use Rattle.demand3.specs.Kinds.{fenceKind, ecallKind, csrFunct3, onStimecmp, wordKind, stvalKind, waitingKind, fetchKind, answerKind, callKind, classKind}
@@ -242,9 +241,7 @@ module _ (c : Csrs) where
   pending-event : (w : Waiting) (vector : ℕ) (on : Bool) → counts (pendingEffect c w vector on) ≡ 0
   unfolding pendingEffect doneOf refusedOf leavesOf eventNumber
   pending-event w vector on =
-      both (eqb vector supervisorSoft) counts refl
-      (both (eqb vector supervisorTimer) counts refl
-      (both (supervisorExternal vector) counts refl refl))
+      both (eqb (lineOf vector) 0) counts refl refl
 
   write-event : (w : Waiting) (index value : ℕ) → counts (writeEffect c w index value) ≡ 0
   unfolding writeEffect doneOf refusedOf leavesOf eventNumber

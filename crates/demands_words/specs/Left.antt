@@ -8,7 +8,6 @@ use lib.Dec.{eqb, ltb}
 use lib.ListN.{length, take}
 use lib.Seq.{sets}
 use Rattle.isa_types.specs.Pick.{pick}
-use Rattle.isa_consts.specs.Traps.{supervisorSoft, supervisorTimer, supervisorExternal}
 use Rattle.scope.specs.Calls.{baseOf, calledOf, effectOf}
 use Rattle.scope.specs.declared.hosts.HostCall.the-variants as hostCall
 use Rattle.scope.specs.declared.hosts.HostCall.{HostCall}
@@ -23,7 +22,7 @@ use Rattle.scope.specs.declared.machine.Waiting.{Waiting}
 use Rattle.scope.specs.declared.machine.Writes.{Writes}
 use Rattle.scope.specs.declared.traps.Error.the-variants as error
 use Rattle.scope.specs.declared.traps.Error.{Error}
-use Rattle.scope.specs.Host.{pagingBy, pagingEffect, pendingEffect, writeEffect}
+use Rattle.scope.specs.Host.{lineOf, pagingBy, pagingEffect, pendingEffect, writeEffect}
 use Rattle.scope.specs.Record.{applied, waitingAsk}
 use Rattle.scope.specs.Refusals.{doneOf, leavesOf, refusedOf, refuses, unlessAsking}
 use Rattle.scope.specs.Words.{askedWordCount, askedWords, csrsOf, csrsWords, kindWord, laidWith, leftBy, leftOf, trapLeft, unpackOf, waitingBy, waitingCount, waitingLeft, waitingOf, waitingWords}
@@ -106,9 +105,7 @@ paging-stays c n levels mode root =
 pending-stays : (c : Csrs) (n : Waiting) (vector : ℕ) (on : Bool) → Stays n (pendingEffect c n vector on)
 unfolding pendingEffect
 pending-stays c n vector on =
-    either-stays (eqb vector supervisorSoft) (done-stays _ _ n)
-    (either-stays (eqb vector supervisorTimer) (done-stays _ _ n)
-    (either-stays (supervisorExternal vector) (done-stays _ _ n) (refused-stays c n _)))
+    either-stays (eqb (lineOf vector) 0) (refused-stays c n _) (done-stays _ _ n)
 
 -- the words of what waits, by a trap's reply
 trap-waits : (r : Record) (c : HostCall) → length (r .waiting) ≡ 4 → (b : Bool) → refuses (calledOf (unpackOf r) c .reply) ≡ b
