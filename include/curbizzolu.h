@@ -1,7 +1,8 @@
 /* The proved exit handler of a RISC-V hypervisor, for a host in C. Link libin_place.a: tools/archive in_place makes it.
  *
  * Every function answers on every pattern of words, and touches only the words that it is lent. The pointers must be to words
- * that do not overlap. A refusal (1, 2, 7) changes nothing; a trap that ends in an error (3 to 6) changed no register and no CSR. */
+ * that do not overlap. A refusal (1, 2, 7) changes nothing (of a row of posts: the refused post does); a trap that ends in an error (3 to 6) changed no
+ * register and no CSR. */
 #ifndef CURBIZZOLU_H
 #define CURBIZZOLU_H
 
@@ -30,6 +31,16 @@ struct vcpu_trap {
 /* An answer: its ask's number, and two numbers, see VCPU_ASK_. */
 struct vcpu_answer_words {
     uint64_t ask, first, second;
+};
+
+/* One of a row of posts: a vector, and its level: 0 clears, any other sets. */
+struct vcpu_post {
+    uint64_t vector, level;
+};
+
+/* What a row of posts gives: how many were applied, and the refusal that stopped it, VCPU_INVALID_INPUT or VCPU_BAD_STATE, or 0. */
+struct vcpu_posted {
+    uint64_t applied, refusal;
 };
 
 /* The numbers that a reply carries, in order. Words that it does not carry are 0, whatever they held: a call sets all eight. Where a
@@ -144,6 +155,10 @@ uint64_t vcpu_set_return_value(struct vcpu *v, uint64_t value);
 uint64_t vcpu_set_nested_page_table(struct vcpu *v, uint64_t levels, uint64_t mode, uint64_t root);
 /* 2^63 + 1, 2^63 + 5, 9 or 2^63 + 9; level 0 clears, any other sets. */
 uint64_t vcpu_set_pending(struct vcpu *v, uint64_t vector, uint64_t level);
+/* The same for a row, in order, in one call. The first post that is refused stops it, changes nothing, and is number `applied`, counted
+ * from 0; those before it stay applied, those behind it are not looked at. While an ask waits the row is refused before its first
+ * post, an empty one too. With a count of 0 the pointer is not looked at. */
+struct vcpu_posted vcpu_post_row(struct vcpu *v, const struct vcpu_post *posts, size_t count);
 /* hvip |= bits. */
 uint64_t vcpu_latch_hvip(struct vcpu *v, uint64_t bits);
 /* The result of VCPU_EXIT_SEND_IPI: VCPU_IPI_SUCCESS, VCPU_IPI_INVALID_PARAMETER; any other number is VCPU_IPI_FAILED. abi 0 is
@@ -171,8 +186,8 @@ enum {
     VCPU_HIDELEG = 0x444   /* the guest's software, timer and external interrupt */
 };
 
-/* Interrupt vectors: of VCPU_EXIT_EXTERNAL_INTERRUPT, where they are the host's own interrupts, and of vcpu_set_pending, where they
- * are the guest's. vcpu_set_pending takes 9 for the external one too. */
+/* Interrupt vectors: of VCPU_EXIT_EXTERNAL_INTERRUPT, where they are the host's own interrupts, and of vcpu_set_pending and a post,
+ * where they are the guest's. Both take 9 for the external one too. */
 #define VCPU_VECTOR_SOFT (UINT64_C(1) << 63 | 1)
 #define VCPU_VECTOR_TIMER (UINT64_C(1) << 63 | 5)
 #define VCPU_VECTOR_EXTERNAL (UINT64_C(1) << 63 | 9)

@@ -298,6 +298,11 @@ use {SPECS}{home(mods, 'leftBy')}.{{callBy, leftBy}}
 use {SPECS}{home(mods, 'exportedOf')}.{{exportedOf}}
 use {SPECS}{home(mods, 'calledOf', 'Vcpu → HostCall')}.{{calledOf, printable}}
 use {SPECS}{home(mods, 'startCall')}.{{answerCall, startCall}}
+use {SPECS}declared.AfterRow.{{AfterRow}}
+use {SPECS}declared.Post.{{Post}}
+use {SPECS}declared.Posted.{{Posted}}
+use {SPECS}{home(mods, 'postedOf')}.{{leftPosted, postedOf}}
+use {SPECS}{home(mods, 'exportedRow')}.{{exportedRow}}
 use lib.ListN.{{drop, getD, replicate, set}}
 ''' + HEAD + '''
 -- the 58 words of a record
@@ -357,10 +362,44 @@ answered k c r = shown r (answerCall c)
 
 abbrev printed : ℕ → List ℕ → List ℕ → List ℕ
 printed k c r = wanted 0x41 (set (replicate 8 0) 0 (printable (viewOf r .waiting) (getD c 0 0))) r
+
+-- a row of posts, a vector and a level each
+abbrev posts : List ℕ → List Post
+posts [] = []
+posts (v ∷ []) = []
+posts (v ∷ l ∷ c) = record { vector = v; level = l } ∷ posts c
+
+-- what it gives and leaves: the refusal in the word returned, how many were applied in the first word given
+abbrev rowed : Posted → Record → List ℕ
+rowed g r = wanted (choose (eqb (g .refusal) 0) 0x40 (0x100 + g .refusal)) (set (replicate 8 0) 0 (g .applied)) (words r)
+
+abbrev posted : ℕ → List ℕ → List ℕ → List ℕ
+posted k c r = rowed (postedOf (viewOf r) (posts c) .posted) (leftPosted (recordOf r) (posts c))
+
+-- the same through the exported entry
+abbrev rowOut : AfterRow → List ℕ
+rowOut a = rowed (a .posted) (a .rec)
+
+abbrev postedOut : ℕ → List ℕ → List ℕ → List ℕ
+postedOut k c r = rowOut (exportedRow (recordOf r) (posts c))
 '''
 
 
-MADE = {10: 'started', 11: 'answered', 13: 'printed'}
+MADE = {10: 'started', 11: 'answered', 13: 'printed', 15: 'posted'}
+VECTORS = [1 << 63 | 1, 1 << 63 | 5, 9, 1 << 63 | 9, 5, 1 << 63 | 2, 0, (1 << 64) - 1]
+
+
+def numbers_of(call):
+    """A call's five numbers; of a row of posts, the vector and the level of each (docs/CALLS.md)."""
+    if call[0] != 15:
+        return call[1:]
+    bits = [call[2 + i // 16] >> 4 * (i % 16) & 15 for i in range(min(call[1], 64))]
+    return [n for b in bits for n in (VECTORS[b & 7], b >> 3 << 63)]
+
+
+def also(call):
+    """The call through the exported entry, and how what a line says is told there."""
+    return ('postedOut', 'wanted') if call[0] == 15 else ('exported', 'told')
 
 
 def seeded():
@@ -372,9 +411,10 @@ def listed(mods):
     text, rows = listed_head(mods), []
     for before, call, code, out, after in traced():
         made = MADE.get(call[0], 'called')
-        row = f'equal ({made} {call[0]} ({numerals(call[1:])}) ({numerals(before)})) (wanted {code} ({numerals(out)}) ({numerals(after)}))'
+        row = f'equal ({made} {call[0]} ({numerals(numbers_of(call))}) ({numerals(before)})) (wanted {code} ({numerals(out)}) ({numerals(after)}))'
         if len(rows) >= seeded():
-            more = f'equal (exported {call[0]} ({numerals(call[1:])}) ({numerals(before)})) (told {code} ({numerals(out)}) ({numerals(after)}))'
+            entry, told = also(call)
+            more = f'equal ({entry} {call[0]} ({numerals(numbers_of(call))}) ({numerals(before)})) ({told} {code} ({numerals(out)}) ({numerals(after)}))'
             row = f'both ({row}) ({more})'
         rows.append(row)
     return together(text, rows[:seeded()], 25), together(text, rows[seeded():], 25)
@@ -564,15 +604,19 @@ abbrev calls : (ℕ → List ℕ → List ℕ → List ℕ) → ℕ → List ℕ
 calls call kind numbers before code out after =
     both (gives (call kind numbers) before code out after)
     (equal (exported kind numbers (put spread before)) (told code (put (replicate 8 0) out) (put (put spread before) after)))
+
+abbrev rows : (ℕ → List ℕ → List ℕ → List ℕ) → ℕ → List ℕ → List ℕ → ℕ → List ℕ → List ℕ → Bool
+rows call kind numbers before code out after =
+    both (gives (call kind numbers) before code out after) (gives (postedOut kind numbers) before code out after)
 """
 
     def places(old, new):
         return '(' + numerals(w for i, (x, y) in enumerate(zip(old, new)) if x != y for w in (i, hex(y) if y > 9 else y)) + ')'
     rows = []
     for before, call, code, out, after in calls:
-        numbers = [hex(w) if w > 9 else w for w in call[1:]]
+        numbers = [hex(w) if w > 9 else w for w in numbers_of(call)]
         made = f'{MADE.get(call[0], "called")} {call[0]} ({numerals(numbers)})'
-        rows.append(f'calls {made} {places(base, before)} {hex(code)} {places([0] * 8, out)} {places(before, after)}')
+        rows.append(f'{"rows" if call[0] == 15 else "calls"} {made} {places(base, before)} {hex(code)} {places([0] * 8, out)} {places(before, after)}')
     return together(text, rows, len(rows))
 
 

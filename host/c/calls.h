@@ -195,6 +195,40 @@ static struct call start(word *record) {
     return c;
 }
 
+/* A row of posts: how many, and sixteen in each of four words. */
+static struct call row(void) {
+    struct call c = {15, {0}};
+    switch (below(4)) {
+    case 0: c.n[0] = below(3); break;
+    case 1: c.n[0] = edgy(); break;
+    default: c.n[0] = below(65);
+    }
+    for (int i = 1; i < 5; i++) {
+        c.n[i] = number();
+        if (below(4) != 0)
+            c.n[i] &= 0xbbbbbbbbbbbbbbbbu;
+    }
+    return c;
+}
+
+/* The posts that it stands for, 64 at most, four bits a post: docs/CALLS.md. */
+static size_t row_of(const struct call *c, struct vcpu_post posts[64]) {
+    static const word vectors[8] = {VCPU_VECTOR_SOFT, VCPU_VECTOR_TIMER, 9, VCPU_VECTOR_EXTERNAL, 5, (word)1 << 63 | 2, 0, UINT64_MAX};
+    size_t count = c->n[0] < 64 ? c->n[0] : 64;
+    for (size_t i = 0; i < count; i++) {
+        word bits = c->n[1 + i / 16] >> (4 * (i % 16)) & 15;
+        posts[i].vector = vectors[bits & 7];
+        posts[i].level = bits >> 3 << 63;
+    }
+    return count;
+}
+
+/* What a row gives, as a reply: the refusal in the returned number, how many were applied in the first word. */
+static struct reply rowed(struct vcpu_posted given) {
+    struct reply r = {given.refusal == 0 ? VCPU_DONE : VCPU_ERROR + given.refusal, {given.applied}};
+    return r;
+}
+
 static struct call next_call(word *record) {
     static const word asks[13] = {0, 0, 1, 1, 2, 3, 4, 5, 6, 7, 7, 8, 9};
     switch (below(16)) {
@@ -261,6 +295,7 @@ static struct call next_call(word *record) {
     case 15: return made(12, 1);
     case 16: case 17: c.kind = 13; c.n[0] = length(record[55]); return c;
     case 18: return made(14, 2);
+    case 19: return row();
     default: return start(record);
     }
 }
@@ -276,7 +311,10 @@ static struct reply make(word *record, const struct call *c) {
             out.word[i] = 99;
     struct vcpu_trap trap = {c->n[0], c->n[1], c->n[2], c->n[3], c->n[4]};
     struct vcpu_answer_words given = {c->n[0], c->n[1], c->n[2]};
+    struct vcpu_post posts[64];
     struct reply r;
+    if (c->kind == 15)
+        return rowed(vcpu_post_row(v, posts, row_of(c, posts)));
     switch (c->kind) {
     case 1: r.code = vcpu_setup(v); break;
     case 2: r.code = vcpu_set_entry(v, c->n[0]); break;

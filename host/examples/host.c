@@ -78,6 +78,10 @@ int main(void) {
     given = handle(&v, ecall, &out);
     printf("TIME while a tick is pending: exit %" PRIu64 ", vstimecmp %#" PRIx64 ", hvip %#" PRIx64 "\n", given, v.vstimecmp, v.hvip);
 
+    struct vcpu_post row[] = {{VCPU_VECTOR_EXTERNAL, 1}, {VCPU_VECTOR_SOFT, 1}, {7, 1}, {VCPU_VECTOR_EXTERNAL, 0}};
+    struct vcpu_posted posted = vcpu_post_row(&v, row, sizeof row / sizeof *row);
+    printf("a row of 4 posts: %" PRIu64 " applied, refusal %" PRIu64 ", hvip %#" PRIx64 "\n", posted.applied, posted.refusal, v.hvip);
+
     load(&v, "a fetch that faults", 0, 0);
     printf("out of turn: %#" PRIx64 "\n", vcpu_complete_load(&v, 0));
     return 0;

@@ -96,6 +96,10 @@ fn main() -> Result<(), Error> {
     handle(&mut vcpu, "A deadline, by TIME, while the last tick is pending:", ecall, 0)?;
     println!("  its next tick is due at {:#x}, and the last is dropped: hvip is {:#x}", vcpu.vstimecmp, vcpu.hvip);
 
+    println!("After the slice, four line changes in one call, the third with a vector that is none:");
+    let given = vcpu.post(&[Post::set(S_EXT), Post::set(S_SOFT), Post::set(7), Post::clear(S_EXT)]);
+    println!("  {} were applied, hvip is {:#x}; {}", given.applied, vcpu.hvip, given.whole().unwrap_err());
+
     handle(&mut vcpu, "A load with no instruction in htinst:", load(0), 0)?;
     println!("  the guest takes fault {} at {:#x} itself", vcpu.vscause, vcpu.vstval);
     println!("A load completed with none waiting is refused: {}", vcpu.complete_load(0).unwrap_err());

@@ -1,4 +1,6 @@
-//! The static library's functions. Numbers and pointers alone cross this boundary.
+//! The static library's functions. Numbers and pointers alone cross this boundary, and one result of two numbers.
+
+use crate::Post;
 
 /// The record: x0 to x31, 13 CSRs, 9 event counts, 4 words for what waits.
 pub const RECORD: usize = 58;
@@ -19,6 +21,13 @@ pub type Words = [u64; 8];
 #[repr(C, align(16))]
 pub struct Out(pub Words);
 
+/// What a row of posts gives: how many were applied, and the number of the refusal that stopped it, or 0.
+#[repr(C)]
+pub struct PostedWords {
+    pub applied: u64,
+    pub refusal: u64,
+}
+
 extern "C" {
     pub fn vcpu_new(record: *mut Record, hart_id: u64, dtb_addr: u64) -> u64;
     pub fn vcpu_setup(record: *mut Record) -> u64;
@@ -28,6 +37,7 @@ extern "C" {
     pub fn vcpu_set_return_value(record: *mut Record, value: u64) -> u64;
     pub fn vcpu_set_nested_page_table(record: *mut Record, levels: u64, mode: u64, root: u64) -> u64;
     pub fn vcpu_set_pending(record: *mut Record, vector: u64, level: u64) -> u64;
+    pub fn vcpu_post_row(record: *mut Record, posts: *const Post, count: usize) -> PostedWords;
     pub fn vcpu_latch_hvip(record: *mut Record, bits: u64) -> u64;
     pub fn vcpu_complete_ipi(record: *mut Record, abi: u64, completion: u64) -> u64;
     pub fn vcpu_start(record: *mut Record, trap: *const [u64; 5], out: *mut Out) -> u64;

@@ -3,7 +3,7 @@
 //! [`Exit`] and [`Ask`] lie in memory as a reply does: a number, then the words that it carries. So a reply is taken as it lies. To
 //! make each case by hand takes a jump by the number, and the caller's own match is then a second one.
 
-use crate::library::{Words, ASK, DONE, ERROR};
+use crate::library::{PostedWords, Words, ASK, DONE, ERROR};
 use crate::types::*;
 use core::mem::transmute;
 
@@ -85,6 +85,16 @@ pub fn done(code: u64) -> Result<(), Refusal> {
         DONE => Ok(()),
         _ => Err(refusal(code)),
     }
+}
+
+/// What a row of posts gave.
+#[inline]
+pub fn posted(words: PostedWords) -> Posted {
+    let refusal = match words.refusal {
+        0 => None,
+        number => Some(refusal(number.wrapping_add(ERROR))),
+    };
+    Posted { applied: words.applied as usize, refusal }
 }
 
 #[inline]

@@ -464,6 +464,64 @@ pub enum Step {
     Ask(Ask),
 }
 
+/// One of a row of posts: an interrupt of the guest, and its level. [`Vcpu::post`](crate::Vcpu::post) takes a row of them.
+///
+/// ```
+/// use curbizzolu::{Post, S_TIMER};
+/// assert_eq!(Post::set(S_TIMER), Post { vector: S_TIMER, level: 1 });
+/// assert_eq!(Post::clear(S_TIMER), Post { vector: S_TIMER, level: 0 });
+/// ```
+#[repr(C)]
+#[derive(Clone, Copy, Debug, Eq, Hash, PartialEq)]
+pub struct Post {
+    /// The vector: 2^63 + 1 software, 2^63 + 5 timer, 9 or 2^63 + 9 external.
+    pub vector: u64,
+    /// 0 clears, any other sets.
+    pub level: u64,
+}
+
+impl Post {
+    /// Sets the interrupt pending.
+    pub const fn set(vector: u64) -> Post {
+        Post { vector, level: 1 }
+    }
+
+    /// Clears it.
+    pub const fn clear(vector: u64) -> Post {
+        Post { vector, level: 0 }
+    }
+}
+
+/// What a row of posts gave: how many were applied, and the refusal that stopped it, if one did. Where one did, the refused post is
+/// number `applied`, counted from 0; it changed nothing.
+///
+/// ```
+/// use curbizzolu::{Post, Posted, Refusal, Vcpu, S_SOFT, S_TIMER};
+/// let mut vcpu = Vcpu::new(0, 0);
+/// let given = vcpu.post(&[Post::set(S_TIMER), Post::set(5), Post::set(S_SOFT)]);
+/// assert_eq!(given, Posted { applied: 1, refusal: Some(Refusal::InvalidInput) });
+/// assert_eq!(given.whole(), Err(Refusal::InvalidInput));
+/// assert_eq!(vcpu.hvip, 1 << 6); // the first is kept, and the third was not looked at
+/// ```
+#[must_use]
+#[derive(Clone, Copy, Debug, Eq, Hash, PartialEq)]
+pub struct Posted {
+    /// How many posts were applied, from the row's first on.
+    pub applied: usize,
+    /// What stopped the row; `None` where all were applied.
+    pub refusal: Option<Refusal>,
+}
+
+impl Posted {
+    /// How many were applied, where nothing stopped the row: its length.
+    pub const fn whole(self) -> Result<usize, Refusal> {
+        match self.refusal {
+            None => Ok(self.applied),
+            Some(refusal) => Err(refusal),
+        }
+    }
+}
+
 /// Why a call was refused. It changed nothing.
 ///
 /// ```

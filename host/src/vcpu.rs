@@ -1,7 +1,7 @@
 //! The record and every call on it.
 
 use crate::library::{self, Out, Record, RECORD, VALUE};
-use crate::reply::{answer_words, done, refusal, step};
+use crate::reply::{answer_words, done, posted, refusal, step};
 use crate::types::*;
 use core::mem::MaybeUninit;
 
@@ -207,6 +207,28 @@ impl Vcpu {
     #[inline]
     pub fn set_virtual_interrupt_pending(&mut self, vector: u64, pending: bool) -> Result<(), Refusal> {
         done(unsafe { library::vcpu_set_pending(self.words(), vector, pending as u64) })
+    }
+
+    /// Sets and clears pending interrupts of the guest in order, in one call: a row of posts comes to the same as
+    /// [`set_virtual_interrupt_pending`](Vcpu::set_virtual_interrupt_pending) for each in turn, up to the first that is refused. That
+    /// one changes nothing, those before it stay applied, and those behind it are not looked at. While an ask waits the row is refused
+    /// before its first post, an empty row too.
+    ///
+    /// ```
+    /// # use curbizzolu::{Post, Posted, Refusal, Trap, Vcpu, S_EXT, S_TIMER};
+    /// let mut vcpu = Vcpu::new(0, 0);
+    /// let given = vcpu.post(&[Post::set(S_EXT), Post::set(S_TIMER), Post::clear(S_EXT)]);
+    /// assert_eq!(given, Posted { applied: 3, refusal: None });
+    /// assert_eq!(vcpu.hvip, 1 << 6);
+    ///
+    /// // a trap that asks for its instruction
+    /// let _ = vcpu.start(&Trap { scause: 21, ..Trap::default() });
+    /// assert_eq!(vcpu.post(&[]), Posted { applied: 0, refusal: Some(Refusal::BadState) });
+    /// ```
+    #[inline]
+    pub fn post(&mut self, posts: &[Post]) -> Posted {
+        // SAFETY: the record and the row are lent for the call and do not overlap; the library looks at no post past the count.
+        posted(unsafe { library::vcpu_post_row(self.words(), posts.as_ptr(), posts.len()) })
     }
 
     /// Sets a pending interrupt of the guest.

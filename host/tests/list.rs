@@ -14,7 +14,7 @@ const LIST: &str = concat!(env!("CARGO_MANIFEST_DIR"), "/../crates/test_call_lis
 const WRONG: &str = concat!(env!("CARGO_MANIFEST_DIR"), "/../crates/test_call_list/data/wrong");
 const CALLS: u64 = 700;
 /// Of the first 3,000 seeds the one whose calls reach everything and the most different outcomes (`search` finds it).
-const SEED: u64 = 1166;
+const SEED: u64 = 952;
 
 /// Each row of document 01's lists once, whatever the seed finds, and what the requests of document 02 changed in them: words of the
 /// record, and a call. tools/definitions.py says which wrong definitions no line notices; the rows are what those needed, and their
@@ -205,6 +205,37 @@ fn rows() -> Vec<(Vec<(usize, u64)>, Call)> {
             }
         }
     }
+    // W4, rows of posts. Four bits a post: the vector's place in `VECTORS`, and 8 where it is set. All rows of none and one; of two, but
+    // for the level of a second that is not allowed; and of 64 with the bad one at each place and none. hvip is all zeros where the
+    // first post sets, and all ones where it clears.
+    let bad = 4;
+    let post = |count: u64, posts: u64| [15, count, posts, 0, 0, 0];
+    for hvip in [0, u64::MAX] {
+        row(&[(42, hvip)], &post(0, 0));
+        for first in 0..16 {
+            row(&[(42, hvip)], &post(1, first));
+        }
+    }
+    for first in 0..16 {
+        for second in [0, 1, 2, 3, bad, 8, 9, 10, 11] {
+            row(&[(42, if first < 8 { u64::MAX } else { 0 })], &post(2, first | second << 4));
+        }
+    }
+    for place in 0..=64 {
+        let mut posts = [0x0123_89ab_1a2b_3018, 0x9b3a_0812_8ba9_1032, 0x3210_ba98_8102_93ab, 0xb0a1_9283_0a1b_2839_u64];
+        if place < 64 {
+            let at = 4 * (place % 16);
+            posts[place / 16] = posts[place / 16] & !(15 << at) | (bad + place as u64 % 4 | place as u64 / 4 % 2 * 8) << at;
+        }
+        row(&[(42, 0)], &[15, 64, posts[0], posts[1], posts[2], posts[3]]);
+    }
+    // What waits: an ask of each kind refuses the row before its first post, an empty row too; a load, and a kind that is none, do not.
+    for kind in 0..14 {
+        let waits = [(54, kind), (55, 5), (56, 4), (57, 1)];
+        row(&waits, &post(0, 0));
+        row(&waits, &post(1, 9));
+        row(&waits, &post(2, bad));
+    }
     rows
 }
 
@@ -262,7 +293,7 @@ fn list_of(seed: u64, rows: &[(Vec<(usize, u64)>, Call)]) -> (String, BTreeSet<(
 fn missing(reached: &BTreeSet<(u64, u64, u64, u64)>) -> (Vec<u64>, Vec<u64>) {
     let codes = (0..=10).chain(0x21..=0x29).chain([0x40, 0x41]).chain(0x101..=0x107);
     let codes = codes.filter(|code| !reached.iter().any(|(_, _, _, given)| given == code));
-    let kinds = (1..=14).filter(|kind| !reached.iter().any(|(made, _, _, _)| made == kind));
+    let kinds = (1..=15).filter(|kind| !reached.iter().any(|(made, _, _, _)| made == kind));
     (codes.collect(), kinds.collect())
 }
 

@@ -42,8 +42,8 @@ fn random_calls_give_what_document_01_says() {
             assert_eq!(vcpu.to_words(), after, "call {i} of the interface, {call:x?}");
             alike += 1;
         }
-        // A refusal and a read change no word.
-        if [0x41, 0x101, 0x102, 0x107].contains(&reply.code) {
+        // A refusal and a read change no word, nor does a row whose first post is refused.
+        if [0x41, 0x101, 0x102, 0x107].contains(&reply.code) && (call[0] != 15 || reply.out[0] == 0) {
             assert_eq!(record, before, "call {i}, {call:x?}");
         }
         sum = sum_call(sum, &record, &reply);
@@ -60,7 +60,7 @@ fn random_calls_give_what_document_01_says() {
         let all = (0..=10).chain(0x21..=0x29).chain([0x40, 0x41]).chain(0x101..=0x107);
         let missing: Vec<u64> = all.filter(|code| !gives(*code)).collect();
         assert!(missing.is_empty(), "not reached: {missing:x?}");
-        let kinds: Vec<u64> = (1..=14).filter(|kind| !reached.keys().any(|(made, _)| made == kind)).collect();
+        let kinds: Vec<u64> = (1..=15).filter(|kind| !reached.keys().any(|(made, _)| made == kind)).collect();
         assert!(kinds.is_empty(), "calls not made: {kinds:?}");
     }
 }

@@ -7,3 +7,4 @@ pub mod When
 pub mod WhenLaws
 pub mod Demand1
 pub mod Numbering
+pub mod RowLaws

@@ -1,7 +1,8 @@
 -- When each number of 01's table 'Refusals and errors by number' is given, from that table and 01's Classes.
 -- For each call: whether it gives error e, for every e. So a number is given exactly where its name stands here.
-use Prim.Native.Nat.{ℕ, _%_, _^_}
+use Prim.Native.Nat.{ℕ, _+_, _%_, _^_}
 use mathlib.Core.Bool.{Bool, true, false}
+use mathlib.Core.List.{List, [], _∷_}
 use lib.Dec.{eqb, ltb}
 use Rattle.isa_types.specs.Pick.{pick, or, and, not}
 use Rattle.scope.specs.OneTrap.{answerNumber}
@@ -26,6 +27,7 @@ use Rattle.scope.specs.Record.{isIdle, waitingAsk}
 use Rattle.demand3.specs.Kinds.{onStimecmp}
 use Rattle.scope.specs.declared.decided.Class.{Class}
 use Rattle.scope.specs.declared.hosts.HostCall.{HostCall}
+use Rattle.scope.specs.declared.hosts.Post.{Post}
 use Rattle.scope.specs.declared.decided.Class.the-variants as class
 use Rattle.scope.specs.Classes.{classOf}
 use Rattle.scope.specs.declared.hosts.HostCall.the-variants as hostCall
@@ -147,3 +149,21 @@ callWhen v (hostCall.CompleteLoad n) e = loadWhen v e
 -- neither has a row in 01's table
 callWhen v (hostCall.ToPrint n) e = false
 callWhen v (hostCall.New hart tree) e = false
+
+-- a row of posts: every vector is allowed
+unfoldable pub rowAllowed : List Post → Bool
+rowAllowed [] = true
+rowAllowed (p ∷ ps) = and (vectorAllowed (p .vector)) (rowAllowed ps)
+
+-- whether a row gives error e: 2 while an ask waits, for an empty row too; then 1 for a vector not allowed. 02, W4
+unfoldable pub rowWhen : Vcpu → List Post → Error → Bool
+rowWhen v ps e = changingWhen v (rowAllowed ps) e
+
+-- how many posts stand before the first whose vector is not allowed
+unfoldable pub leading : List Post → ℕ
+leading [] = 0
+leading (p ∷ ps) = pick (vectorAllowed (p .vector)) (1 + leading ps) 0
+
+-- how many are applied: none while an ask waits
+unfoldable pub rowApplies : Vcpu → List Post → ℕ
+rowApplies v ps = pick (eqb (waitingAsk (v .waiting)) 0) (leading ps) 0

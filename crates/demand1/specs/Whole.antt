@@ -3,6 +3,7 @@ use Prim.Native.Nat.{ℕ}
 use mathlib.Core.Bool.{Bool, true, false}
 use mathlib.Core.List.{List, [], _∷_}
 use mathlib.Core.Path.{_≡_}
+use lib.Dec.{eqb}
 use Rattle.scope.specs.declared.hosts.HostCall.the-variants as hostCall
 use Rattle.scope.specs.declared.traps.Answer.{Answer}
 use Rattle.scope.specs.declared.traps.Error.{Error}
@@ -13,31 +14,43 @@ use Rattle.scope.specs.declared.machine.Event.the-variants as event
 use Rattle.scope.specs.declared.machine.Outcome.{Outcome}
 use Rattle.scope.specs.declared.machine.Vcpu.{Vcpu}
 use Rattle.scope.specs.declared.machine.Waiting.the-variants as waiting
-use Rattle.scope.specs.Record.{counted}
+use Rattle.scope.specs.declared.hosts.Post.{Post}
+use Rattle.scope.specs.Posts.{postedOf}
+use Rattle.scope.specs.Record.{counted, waitingAsk}
+use Rattle.demand3_table.specs.Runs.{stepOf}
+use Rattle.demand3_table.specs.Turns.{Turn, call, post, print}
 use Rattle.scope.specs.Calls.{calledOf}
 use Rattle.scope.specs.Refusals.{refusal, refuses}
 use Rattle.isa_types.specs.Pick.{not}
 use Rattle.scope.specs.declared.hosts.HostCall.{HostCall}
 
--- calls made one after the other
-unfoldable pub carried : Outcome → List HostCall → Outcome
-carried o [] = o
-carried o (c ∷ l) = carried (calledOf (o .vcpu) c) l
+-- turns made one after the other; the trap's reply stays where a turn has none of its own
+unfoldable pub afterTurn : Outcome → Turn → Outcome
+afterTurn o (call c) = calledOf (o .vcpu) c
+afterTurn o (print buffer) = o
+afterTurn o (post ps) = record { vcpu = postedOf (o .vcpu) ps .vcpu; reply = o .reply; args = o .args }
 
--- a start and the calls after it
-unfoldable pub wholeOf : Vcpu → Trap → List HostCall → Outcome
+unfoldable pub carried : Outcome → List Turn → Outcome
+carried o [] = o
+carried o (c ∷ l) = carried (afterTurn o c) l
+
+-- a start and the turns after it
+unfoldable pub wholeOf : Vcpu → Trap → List Turn → Outcome
 wholeOf v t l = carried (calledOf v (hostCall.Start t)) l
 
--- a call in the middle of a trap: an answer, in turn or not; any call that is refused; a read
-pub data Middle (u : Vcpu) : HostCall → Type 0 where
-  answer : (a : Answer) → Middle u (hostCall.Answer a)
-  refused : {c : HostCall} → refuses (calledOf u c .reply) ≡ true → Middle u c
-  read : (i : ℕ) → Middle u (hostCall.GetGpr i)
-  print : (n : ℕ) → Middle u (hostCall.ToPrint n)
+-- a turn in the middle of a trap: an answer, in turn or not; any call that is refused, and a row of posts while an ask waits; a read;
+-- printing
+pub data Middle (u : Vcpu) : Turn → Type 0 where
+  answer : (a : Answer) → Middle u (call (hostCall.Answer a))
+  refused : {c : HostCall} → refuses (calledOf u c .reply) ≡ true → Middle u (call c)
+  row : (ps : List Post) → eqb (waitingAsk (u .waiting)) 0 ≡ false → Middle u (post ps)
+  read : (i : ℕ) → Middle u (call (hostCall.GetGpr i))
+  count : (n : ℕ) → Middle u (call (hostCall.ToPrint n))
+  bytes : (buffer : List ℕ) → Middle u (print buffer)
 
-unfoldable pub Middles : Vcpu → List HostCall → Type 0
+unfoldable pub Middles : Vcpu → List Turn → Type 0
 Middles u [] = Unit {0}
-Middles u (c ∷ l) = (Middle u c) × (Middles (calledOf u c .vcpu) l)
+Middles u (c ∷ l) = (Middle u c) × (Middles (stepOf u c) l)
 
 -- errors 3 to 6 end a trap; 1, 2 and 7 are refusals
 unfoldable pub endsTrap : Error → Bool

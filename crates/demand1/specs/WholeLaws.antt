@@ -32,6 +32,12 @@ use Rattle.scope.specs.declared.machine.Vcpu.{Vcpu}
 use Rattle.scope.specs.declared.machine.Waiting.{Waiting}
 use Rattle.scope.specs.declared.machine.Waiting.the-variants as waiting
 use Rattle.scope.specs.declared.machine.Writes.the-variants as writes
+use Rattle.scope.specs.declared.hosts.Post.{Post}
+use Rattle.scope.specs.declared.machine.RowOutcome.{RowOutcome}
+use Rattle.scope.specs.Posts.{postedOf, rowOf}
+use Rattle.scope.specs.PostsLaws.{row-refused}
+use Rattle.demand3_table.specs.Runs.{stepOf}
+use Rattle.demand3_table.specs.Turns.{Turn, call, post, print}
 use Rattle.scope.specs.Record.{counted, bumped, eventNumber, isIdle, stored, valueOf, waitingAsk, applied, ecallAskNumber}
 use Rattle.scope.specs.Refusals.{askingOf, failedOf, finishedOf, refusal, refusedOf, refuses, leavesOf}
 use Rattle.scope.specs.declared.decided.SbiCall.{SbiCall}
@@ -55,7 +61,7 @@ use Rattle.demand1.specs.Leaves as leaves
 use Rattle.demand1.specs.Sound.{start-sound, answer-sound}
 use Rattle.demand1.specs.Demand1.{refusal-keeps-the-record}
 use Rattle.demand1.specs.Whole as whole
-use Rattle.demand1.specs.Whole.{Middle, Middles, carried, wholeOf, endsTrap, inError, Tallied, Over, same, illegal}
+use Rattle.demand1.specs.Whole.{Middle, Middles, afterTurn, carried, wholeOf, endsTrap, inError, Tallied, Over, same, illegal}
 use Rattle.scope.specs.declared.decided.Class.{Class}
 use Rattle.scope.specs.declared.machine.EcallAsk.the-variants as asked
 use Rattle.scope.specs.declared.decided.Class.the-variants as class
@@ -424,27 +430,47 @@ module _ (v u : Vcpu) (k : Carries v u) where
   idle-carries : (c : HostCall) → Idles u c → Carries v (calledOf u c .vcpu)
   idle-carries c i = subst (λ (w : Vcpu). Carries v w) (sym (i .same)) k
 
-  middle-over : (c : HostCall) → Middle u c → inError (calledOf u c .reply) ≡ true → Over v (calledOf u c .vcpu)
-  middle-over c (whole.answer a) h = answer-over v u a k h
-  middle-over c (whole.refused r) h = idle-over c (refused-idles u c r) h
-  middle-over c (whole.read i) h = idle-over c (read-idles u i) h
-  middle-over c (whole.print n) h = idle-over c (print-idles u n) h
+-- a row of posts while an ask waits leaves the record
+row-idles : (u : Vcpu) (ps : List Post) → eqb (waitingAsk (u .waiting)) 0 ≡ false → postedOf u ps .vcpu ≡ u
+unfolding rowOf
+row-idles u ps h = ap (λ (o : RowOutcome). o .vcpu) (row-refused u ps h)
 
-  middle-carries : (c : HostCall) → Middle u c → Carries v (calledOf u c .vcpu)
-  middle-carries c (whole.answer a) = answer-carries v u a k
-  middle-carries c (whole.refused r) = idle-carries c (refused-idles u c r)
-  middle-carries c (whole.read i) = idle-carries c (read-idles u i)
-  middle-carries c (whole.print n) = idle-carries c (print-idles u n)
+-- a turn in the middle of a trap that has changed nothing so far
+module _ (v : Vcpu) (o : Outcome) (f : inError (o .reply) ≡ true → Over v (o .vcpu)) (k : Carries v (o .vcpu)) where
+  middle-over : {c : Turn} → Middle (o .vcpu) c → inError (afterTurn o c .reply) ≡ true → Over v (afterTurn o c .vcpu)
+  unfolding afterTurn
+  middle-over (whole.answer a) h = answer-over v (o .vcpu) a k h
+  middle-over (whole.refused {c} r) h = idle-over v (o .vcpu) k c (refused-idles (o .vcpu) c r) h
+  middle-over (whole.row ps w) h = subst (λ (u : Vcpu). Over v u) (sym (row-idles (o .vcpu) ps w)) (f h)
+  middle-over (whole.read i) h = idle-over v (o .vcpu) k _ (read-idles (o .vcpu) i) h
+  middle-over (whole.count n) h = idle-over v (o .vcpu) k _ (print-idles (o .vcpu) n) h
+  middle-over (whole.bytes buffer) h = f h
+
+  middle-carries : {c : Turn} → Middle (o .vcpu) c → Carries v (afterTurn o c .vcpu)
+  unfolding afterTurn
+  middle-carries (whole.answer a) = answer-carries v (o .vcpu) a k
+  middle-carries (whole.refused {c} r) = idle-carries v (o .vcpu) k c (refused-idles (o .vcpu) c r)
+  middle-carries (whole.row ps w) = subst (λ (u : Vcpu). Carries v u) (sym (row-idles (o .vcpu) ps w)) k
+  middle-carries (whole.read i) = idle-carries v (o .vcpu) k _ (read-idles (o .vcpu) i)
+  middle-carries (whole.count n) = idle-carries v (o .vcpu) k _ (print-idles (o .vcpu) n)
+  middle-carries (whole.bytes buffer) = k
+
+-- the record after a turn is the one that the turn steps to
+pub after-steps : (o : Outcome) (c : Turn) → afterTurn o c .vcpu ≡ stepOf (o .vcpu) c
+unfolding afterTurn stepOf
+after-steps o (call c) = refl
+after-steps o (print buffer) = refl
+after-steps o (post ps) = refl
 
 carried-over : (v : Vcpu) (o : Outcome) → (inError (o .reply) ≡ true → Over v (o .vcpu)) → Carries v (o .vcpu)
-    → (l : List HostCall) → Middles (o .vcpu) l → inError (carried o l .reply) ≡ true → Over v (carried o l .vcpu)
+    → (l : List Turn) → Middles (o .vcpu) l → inError (carried o l .reply) ≡ true → Over v (carried o l .vcpu)
 unfolding carried Middles
 carried-over v o f k [] m h = f h
 carried-over v o f k (c ∷ l) m h =
-    carried-over v (calledOf (o .vcpu) c) (middle-over v (o .vcpu) k c (m .0)) (middle-carries v (o .vcpu) k c (m .0)) l (m .1) h
+    carried-over v (afterTurn o c) (middle-over v o f k (m .0)) (middle-carries v o f k (m .0)) l (subst (λ (u : Vcpu). Middles u l) (sym (after-steps o c)) (m .1)) h
 
 -- a trap that ends in an error changes no register and no CSR, counts at most event 2, and nothing waits after it
-pub error-changes-nothing : (v : Vcpu) (t : Trap) (l : List HostCall) → Middles (calledOf v (hostCall.Start t) .vcpu) l
+pub error-changes-nothing : (v : Vcpu) (t : Trap) (l : List Turn) → Middles (calledOf v (hostCall.Start t) .vcpu) l
     → inError (wholeOf v t l .reply) ≡ true
     → Over v (wholeOf v t l .vcpu)
 unfolding wholeOf

@@ -9,9 +9,10 @@ use lib.ListN.{getD, set, length, length-set}
 use lib.Seq.{getD-set-same, getD-set-other}
 use lib.Dec.{eqb, ltb}
 use borrow.Author.Tests.{eqb-true, eqb-false, ne-eqb, lt-ltb}
-use Rattle.demand3_table.specs.Turns.{Turn, call, print}
+use Rattle.demand3_table.specs.Turns.{Turn, call, print, post}
 use Rattle.isa_types.specs.Pick.{pick, wrapped}
 use Rattle.scope.specs.declared.machine.Vcpu.{Vcpu}
+use Rattle.scope.specs.PostsLaws.{row-counts}
 use Rattle.scope.specs.Record.{bumped, counted, applied}
 use Rattle.demand3_table.specs.Runs.{Lasting, runOf, stepOf, turnRenews}
 use Rattle.demand3_table.specs.Bases.{base-kept}
@@ -68,6 +69,7 @@ unfolding stepOf turnRenews kindOf calledOf applied counted bumped
 next-counts v (call c) h =
     ap (bumped (baseOf v c .counts)) (event-kind v c) ∙ ap (λ (u : Vcpu). bumped (u .counts) (callKind v c)) (base-kept v c h)
 next-counts v (print buffer) h = refl
+next-counts v (post ps) h = row-counts v ps
 
 folded : (a b n : ℕ) → (wrapped (a + b) + n) % 2 ^ 64 ≡ wrapped (a + (b + n))
 folded a b n = mod-add-mod (a + b) (2 ^ 64) n ∙ ap wrapped (add-assoc a b n)

@@ -4,7 +4,7 @@ use mathlib.Core.Bool.{Bool}
 use mathlib.Core.List.{List, [], _∷_}
 use lib.ListN.{getD}
 use lib.Dec.{eqb, ltb}
-use Rattle.demand3_table.specs.Turns.{Turn, call, print}
+use Rattle.demand3_table.specs.Turns.{Turn, call, print, post}
 use Rattle.isa_types.specs.Pick.{pick, or, and}
 use Rattle.scope.specs.OneTrap.{answerNumber}
 use Rattle.scope.specs.declared.traps.Answer.{Answer}
@@ -115,6 +115,7 @@ callKind v (hostCall.New hart tree) = 0
 unfoldable pub kindOf : Vcpu → Turn → ℕ
 kindOf v (call c) = callKind v c
 kindOf v (print buffer) = 0
+kindOf v (post ps) = 0
 
 -- how many traps of a kind a sequence has
 unfoldable pub traps : ℕ → Vcpu → List Turn → ℕ

@@ -4,16 +4,20 @@ use mathlib.Core.Bool.{Bool, true, false}
 use mathlib.Core.List.{List, [], _∷_, _++_}
 use mathlib.Core.Path.{_≡_, refl, ap, ap₂, sym, _∙_, subst}
 use lib.ListN.{getD}
-use Rattle.demand3_table.specs.Turns.{Turn, call, print}
+use Rattle.demand3_table.specs.Turns.{Turn, call, print, post}
 use Rattle.isa_types.specs.Pick.{or}
 use Rattle.scope.specs.declared.hosts.HostCall.{HostCall}
 use Rattle.scope.specs.declared.machine.Effect.{Effect}
 use Rattle.scope.specs.declared.machine.Vcpu.{Vcpu}
-use Rattle.scope.specs.Record.{counted, applied}
+use Rattle.scope.specs.declared.hosts.Post.{Post}
+use Rattle.scope.specs.declared.traps.Reply.the-variants as reply
+use Rattle.scope.specs.Posts.{postedOf}
+use Rattle.scope.specs.PostsLaws.{row-counts, row-waiting, row-x, same-row}
+use Rattle.scope.specs.Record.{counted, applied, listed, noArgs}
 use Rattle.scope.specs.Calls.{baseOf, printedOf, calledOf, effectOf}
 use Rattle.demand3_table.specs.Table.{callNames, callReads, namesOf, readsOf}
 use Rattle.demand3_table.specs.Runs.{sightOf, stepOf, runOf, seenOf, Apart, Untouched, renews, wrote, wroteBy, written}
-use Rattle.demand3_table.specs.Alike.{Alike}
+use Rattle.demand3_table.specs.Alike.{Alike, Files}
 use Rattle.demand3_table.specs.Agree.{effect-alike}
 use Rattle.demand3_table.specs.Bases.{base-alike, base-kept, base-new}
 use Rattle.demand3_table.specs.Stored.{neither, same-files, stored-files, stored-kept, stored-joined}
@@ -47,6 +51,16 @@ module _ (r : ℕ) (v w : Vcpu) (a : Alike r v w) where
       = rw (same-files (a .files) e, a .csrs, a .counts, a .waiting)
       in fields
 
+-- a row of posts reads no register and writes none
+row-alike : (r : ℕ) (v w : Vcpu) → Alike r v w → (ps : List Post) → Alike r (postedOf v ps .vcpu) (postedOf w ps .vcpu)
+row-alike r v w a ps =
+    record {
+      files = subst (λ (x : List ℕ). Files r x (postedOf w ps .vcpu .x)) (sym (row-x v ps)) (subst (λ (y : List ℕ). Files r (v .x) y) (sym (row-x w ps)) (a .files));
+      csrs = same-row v w ps (a .csrs) (a .waiting) .csrs;
+      counts = row-counts v ps ∙ a .counts ∙ sym (row-counts w ps);
+      waiting = row-waiting v ps ∙ a .waiting ∙ sym (row-waiting w ps);
+    }
+
 -- one turn
 module _ (r : ℕ) (v w : Vcpu) (a : Alike r v w) where
   pub next-alike : (c : Turn) → Apart r (namesOf v c) → Apart r (readsOf c) → Alike r (stepOf v c) (stepOf w c)
@@ -55,16 +69,19 @@ module _ (r : ℕ) (v w : Vcpu) (a : Alike r v w) where
       subst (λ (e : Effect). Alike r (applied (baseOf v c) (effectOf v c) .vcpu) (applied (baseOf w c) e .vcpu)) (effect-alike r v w c a named read)
       (applied-alike r (baseOf v c) (baseOf w c) (base-alike r v w c a) (effectOf v c))
   next-alike (print buffer) named read = a
+  next-alike (post ps) named read = row-alike r v w a ps
 
   pub sight-alike : (c : Turn) → Apart r (namesOf v c) → Apart r (readsOf c) → sightOf v c ≡ sightOf w c
   unfolding sightOf namesOf readsOf calledOf applied printedOf
   sight-alike (call c) named read = rw (effect-alike r v w c a named read)
   sight-alike (print buffer) named read = rw (a .waiting)
+  sight-alike (post ps) named read = λ i. record { reply = reply.Done; args = listed noArgs; bytes = []; posted = same-row v w ps (a .csrs) (a .waiting) .given i }
 
   pub wrote-alike : (c : Turn) → Apart r (namesOf v c) → Apart r (readsOf c) → wroteBy r v c ≡ wroteBy r w c
   unfolding wroteBy namesOf readsOf
   wrote-alike (call c) named read = ap (λ (e : Effect). or (renews c) (wrote r (e .writes))) (effect-alike r v w c a named read)
   wrote-alike (print buffer) named read = refl
+  wrote-alike (post ps) named read = refl
 
   -- a call that writes r leaves it the same on both
   stepped-joined : (c : HostCall) → Apart r (callNames v c) → Apart r (callReads c) → wrote r (effectOf v c .writes) ≡ true → getD (calledOf v c .vcpu .x) r 0 ≡ getD (calledOf w c .vcpu .x) r 0
@@ -87,6 +104,7 @@ module _ (r : ℕ) (v w : Vcpu) (a : Alike r v w) where
   unfolding stepOf wroteBy namesOf readsOf
   next-joined (call c) named read t = called-joined c named read (renews c) refl t (next-alike (call c) named read)
   next-joined (print buffer) named read t = cc
+  next-joined (post ps) named read t = cc
 
 next-kept : (r : ℕ) (v : Vcpu) (c : Turn) → wroteBy r v c ≡ false → getD (stepOf v c .x) r 0 ≡ getD (v .x) r 0
 unfolding stepOf wroteBy calledOf applied
@@ -94,6 +112,7 @@ next-kept r v (call c) t =
     let n = neither (renews c) (wrote r (effectOf v c .writes)) t in
     stored-kept r (baseOf v c .x) (effectOf v c .writes) (n .1) ∙ ap (λ (u : Vcpu). getD (u .x) r 0) (base-kept v c (n .0))
 next-kept r v (print buffer) t = refl
+next-kept r v (post ps) t = ap (λ (x : List ℕ). getD x r 0) (row-x v ps)
 
 -- a sequence of turns
 

@@ -1,5 +1,5 @@
 -- What the closed examples show, and the records that they start from.
-use Prim.Native.Nat.{ℕ}
+use Prim.Native.Nat.{ℕ, _+_}
 use mathlib.Core.Bool.{Bool, true, false}
 use mathlib.Core.List.{List, [], _∷_, _++_}
 use mathlib.Core.Path.{_≡_}
@@ -47,6 +47,12 @@ other r n v = record { x = set (v .x) r n; csrs = v .csrs; counts = v .counts; w
 abbrev pub replies : List Sight → List Reply
 replies [] = []
 replies (s ∷ ss) = s .reply ∷ replies ss
+
+-- of each row of posts that was stopped or applied anything: how many were applied, and the refusal
+unfoldable pub rowsGiven : List Sight → List ℕ
+rowsGiven [] = []
+rowsGiven (s ∷ ss) =
+    pick (eqb (s .posted .applied + s .posted .refusal) 0) (rowsGiven ss) (s .posted .applied ∷ s .posted .refusal ∷ rowsGiven ss)
 
 -- the premises of demand 3 hold of a record, its other one with n in r, and a sequence that gives these replies; r differs
 -- before and after
@@ -104,7 +110,7 @@ replyNumbers (reply.Error e) = errorNumber e ∷ []
 
 unfoldable pub sightNumbers : List Sight → List ℕ
 sightNumbers [] = []
-sightNumbers (s ∷ ss) = replyNumbers (s .reply) ++ (s .args ++ sightNumbers ss)
+sightNumbers (s ∷ ss) = replyNumbers (s .reply) ++ (s .args ++ (s .posted .applied ∷ s .posted .refusal ∷ sightNumbers ss))
 
 -- what tells two runs apart: the timer, then all that the host saw
 unfoldable pub toldOf : Vcpu → List Turn → List ℕ

@@ -4,7 +4,7 @@ use mathlib.Core.List.{List, [], _∷_}
 use mathlib.Core.Path.{_≡_, refl, ap, subst, _∙_}
 use lib.ListN.{getD}
 use lib.Dec.{eqb, leb}
-use Rattle.demand3_table.specs.Turns.{Turn, call, print}
+use Rattle.demand3_table.specs.Turns.{Turn, call, print, post}
 use Rattle.scope.specs.declared.traps.Trap.{Trap}
 use Rattle.isa_consts.specs.Sbi.{legacySetTimer, legacyPutchar, legacySendIpi, legacyShutdown, eidTime, eidSpi, eidHsm, eidHvc, eidSrst, eidDbcn, eidRfnc, eidPmu}
 use Rattle.scope.specs.declared.machine.Vcpu.{Vcpu}
@@ -83,6 +83,7 @@ names-alike : (r : ℕ) (v w : Vcpu) (c : Turn) → Alike r v w → Apart r (nam
 unfolding namesOf
 names-alike r v w (call c) a h = call-names r v w c a h
 names-alike r v w (print buffer) a h = refl
+names-alike r v w (post ps) a h = refl
 
 -- a sequence that leaves r untouched on the one record does so on the other
 pub untouched-alike : (r : ℕ) (v w : Vcpu) (cs : List Turn) → Alike r v w → Untouched r v cs → Untouched r w cs

@@ -12,7 +12,8 @@ use Rattle.demand3_table.specs.Alike.{Alike}
 use Rattle.demand3.specs.Sequences as sequences
 
 pub record Third (r : ℕ) (v w : Vcpu) (cs : List Turn) : Type 0 where
-  -- all exits, host requests and refusals agree, with the hypercall array and the bytes printed
+  -- all exits, host requests and refusals agree, with the hypercall array, the bytes printed and what a row of posts
+  -- gives
   pub sights : seenOf v cs ≡ seenOf w cs
   -- counts, CSRs, the waiting part and the other registers agree
   pub alike : Alike r (runOf v cs) (runOf w cs)

@@ -8,10 +8,15 @@ use mathlib.Core.List.{List, [], _∷_}
 use mathlib.Core.Path.{_≡_, refl, sym, _∙_}
 use lib.ListN.{set, length, replicate, length-set}
 use lib.Seq.{getD-set-other}
-use Rattle.demand3_table.specs.Turns.{Turn, call, print}
+use Rattle.scope.specs.Host.{pendingEffect, lineOf}
+use Rattle.isa_consts.specs.Traps.{supervisorExternal}
+use Rattle.scope.specs.Words.{tested}
+use Rattle.scope.specs.Posts.{postCall, oneByOne, rowOf, postedOf}
+use Rattle.scope.specs.ReplyWords.{replyNumber}
+use Rattle.demand3_table.specs.Turns.{Turn, call, post, print}
 use Rattle.scope.specs.Ecalls.{ecallEffect, timeEffect, spiEffect, hsmEffect, srstEffect, spanEffect, consoleEffect, dbcnEffect, rfncEffect, forwardEffect, notSupportedEffect, standardRequest, lesserOf, returnsOf, movesOf, staysOf, asksOf, setTimerOf, hypercallOf, consoleReadEffect, copiedEffect, copiedOutEffect, ecallAnswer, givesOf}
-use Rattle.scope.specs.OneTrap.{answerNumber, answerValues, exitNumber, askNumber}
-use Rattle.scope.specs.Refusals.{errorNumber, finishedOf, askingOf, failedOf, refusedOf, doneOf, leavesOf, unlessAsking}
+use Rattle.scope.specs.OneTrap.{answerNumber, answerValues, exitNumber, askNumber, flagOf}
+use Rattle.scope.specs.Refusals.{errorNumber, finishedOf, askingOf, failedOf, refusedOf, doneOf, leavesOf, unlessAsking, refuses, refusal}
 use Rattle.scope.specs.declared.traps.Access.the-variants as access
 use Rattle.scope.specs.declared.traps.Answer.the-variants as answers
 use Rattle.scope.specs.declared.traps.Ask.the-variants as ask
@@ -34,7 +39,7 @@ use Rattle.scope.specs.Calls.{printCount, baseOf, fitted, printable, printedOf,
 use Rattle.demand3_table.specs.Table.{a0, a1, a2, a3, a4, a5, a7, sourceNames, forwardNames, timeNames, srstNames, spiNames, hsmNames, consoleNames, byteNames, dbcnNames, eidNames, ecallNames, funct3Names, stimecmpNames, storeNames, accessNames, wordNames, fetchNames, answerNames, namesOf, readsOf, callNames, callReads, classNames}
 use Rattle.demand3_table.specs.Runs.{sightOf, stepOf, runOf, seenOf, Apart, Untouched, renews, wroteBy, written, wrote}
 use Rattle.demand3_table.specs.Alike.{Alike}
-use Rattle.demand3.specs.Shown.{exampleRecord, other, Met, exitNumbers, askNumbers, replyNumbers, sightNumbers, toldOf, sameList, Row, named, matters, allMatter, Joined, waits}
+use Rattle.demand3.specs.Shown.{exampleRecord, other, Met, rowsGiven, exitNumbers, askNumbers, replyNumbers, sightNumbers, toldOf, sameList, Row, named, matters, allMatter, Joined, waits}
 use Rattle.scope.specs.Answers.{answerEffect, fetchEffect, fittingEffect, numbersEffect, valuesEffect, wordEffect}
 use Rattle.scope.specs.declared.hosts.HostCall.the-variants as hostCall
 use Rattle.scope.specs.declared.machine.EcallAsk.the-variants as asked
@@ -52,7 +57,7 @@ other-alike r n v h =
 
 -- one name that opens what a call goes through; the decoder stays shut
 opened : ℕ
-unfolding answerNumber exitNumber askNumber errorNumber spvpOf sieOf withBits guestPageFaultAddr standardRequest valueOf stored moved timed pended eventNumber bumped counted waitingAsk isIdle listed applied noArgs finishedOf askingOf failedOf refusedOf doneOf lesserOf returnsOf movesOf staysOf asksOf setTimerOf hypercallOf askFetchOf missedOf trapStatusOf injectedOf missedEffect setBits clearBits stimecmpBy stimecmpWord stimecmpStval calledOf baseOf effectOf stimecmpEffect loadUnder storeUnder faultOf faultEffect copiedEffect ecallAnswer ecallAskNumber completedOf argumentsOf ecallEffect virtualEffect mmioOf pageFaultOf classOf classEffect startEffect wordEffect fetchEffect numbersEffect valuesEffect answerValues fittingEffect answerEffect printCount fitted printable printedOf sourceNames forwardNames timeNames srstNames spiNames hsmNames consoleNames byteNames dbcnNames eidNames ecallNames funct3Names stimecmpNames storeNames classNames accessNames wordNames fetchNames answerNames namesOf readsOf sightOf stepOf runOf seenOf Untouched exitNumbers askNumbers replyNumbers sightNumbers toldOf sameList named matters allMatter timeEffect spiEffect hsmEffect srstEffect spanEffect consoleEffect dbcnEffect rfncEffect forwardEffect notSupportedEffect leavesOf unlessAsking callNames callReads askedCount givesOf consoleReadEffect copiedOutEffect gprReply written renews wroteBy wrote
+unfolding answerNumber exitNumber askNumber errorNumber spvpOf sieOf withBits guestPageFaultAddr standardRequest valueOf stored moved timed pended eventNumber bumped counted waitingAsk isIdle listed applied noArgs finishedOf askingOf failedOf refusedOf doneOf lesserOf returnsOf movesOf staysOf asksOf setTimerOf hypercallOf askFetchOf missedOf trapStatusOf injectedOf missedEffect setBits clearBits stimecmpBy stimecmpWord stimecmpStval calledOf baseOf effectOf stimecmpEffect loadUnder storeUnder faultOf faultEffect copiedEffect ecallAnswer ecallAskNumber completedOf argumentsOf ecallEffect virtualEffect mmioOf pageFaultOf classOf classEffect startEffect wordEffect fetchEffect numbersEffect valuesEffect answerValues fittingEffect answerEffect printCount fitted printable printedOf sourceNames forwardNames timeNames srstNames spiNames hsmNames consoleNames byteNames dbcnNames eidNames ecallNames funct3Names stimecmpNames storeNames classNames accessNames wordNames fetchNames answerNames namesOf readsOf sightOf stepOf runOf seenOf Untouched exitNumbers askNumbers replyNumbers sightNumbers toldOf sameList named matters allMatter timeEffect spiEffect hsmEffect srstEffect spanEffect consoleEffect dbcnEffect rfncEffect forwardEffect notSupportedEffect leavesOf unlessAsking callNames callReads askedCount givesOf consoleReadEffect copiedOutEffect gprReply written renews wroteBy wrote pendingEffect lineOf supervisorExternal tested flagOf postCall oneByOne rowOf postedOf replyNumber refuses refusal rowsGiven
 opened = 0
 
 abbrev zeros : List ℕ
@@ -68,7 +73,7 @@ ecall = trapped 10 0 0
 apart : {r : ℕ} → Apart r []
 apart = record { free = refl }
 
--- DBCN write with both asks; x5 is 1 and 2
+-- DBCN write with both asks, and a row of posts in the middle, which is refused, and behind it, which is not; x5 is 1 and 2
 
 abbrev dbcn : Vcpu
 dbcn = exampleRecord (set (set (set (set zeros 17 eidDbcn) 10 3) 11 0x8000) 5 1)
@@ -77,20 +82,27 @@ abbrev dbcnCalls : List Turn
 dbcnCalls =
     call (hostCall.Start ecall)
     ∷ call (hostCall.Answer (answers.CopiedIn 3))
+    ∷ post (record { vector = 9; level = 1 } ∷ [])
     ∷ print (65 ∷ 66 ∷ 67 ∷ 68 ∷ [])
     ∷ call (hostCall.Answer (answers.Printed 0 3))
+    ∷ post (record { vector = 9; level = 1 } ∷ record { vector = 8; level = 1 } ∷ [])
     ∷ []
 
-pub dbcn-met : Met 5 2 dbcn dbcnCalls (reply.Ask (ask.CopyIn (record { 0 = 0x8000 }) 3) ∷ reply.Ask (ask.Print 3) ∷ reply.Done ∷ reply.Exit exit.Nothing ∷ [])
+pub dbcn-met : Met 5 2 dbcn dbcnCalls (reply.Ask (ask.CopyIn (record { 0 = 0x8000 }) 3) ∷ reply.Ask (ask.Print 3) ∷ reply.Done ∷ reply.Done ∷ reply.Exit exit.Nothing ∷ reply.Done ∷ [])
 unfolding opened
 dbcn-met =
     record {
       alike = other-alike 5 2 dbcn refl;
-      untouched = (record { free = refl }, apart, (apart, apart, (apart, apart, (apart, apart, tt))));
+      untouched = (record { free = refl }, apart, (apart, apart, (apart, apart, (apart, apart, (apart, apart, (apart, apart, tt))))));
       seen = refl;
       before = refl;
       after = refl;
     }
+
+-- the rows gave refusal 2 with none applied, and one applied before refusal 1
+pub dbcn-posted : rowsGiven (seenOf dbcn dbcnCalls) ≡ 0 ∷ 2 ∷ 1 ∷ 1 ∷ []
+unfolding opened
+dbcn-posted = refl
 
 -- a load with its completion, which writes x7
 

@@ -6,7 +6,7 @@ use mathlib.Core.Path.{_≡_, refl, sym}
 use lib.ListN.{getD}
 use lib.Dec.{eqb, leb, ltb}
 use borrow.Author.Tests.{eqb-false, ne-eqb}
-use Rattle.demand3_table.specs.Turns.{Turn, call, print}
+use Rattle.demand3_table.specs.Turns.{Turn, call, print, post}
 use Rattle.isa_types.specs.Pick.{pick}
 use Rattle.scope.specs.declared.traps.Access.{Access}
 use Rattle.scope.specs.declared.traps.Access.the-variants as access
@@ -197,11 +197,13 @@ zero-named : (v : Vcpu) (c : Turn) → Apart 0 (namesOf v c)
 unfolding namesOf
 zero-named v (call c) = zero-call-names v c
 zero-named v (print buffer) = none
+zero-named v (post ps) = none
 
 zero-read : (c : Turn) → Apart 0 (readsOf c)
 unfolding readsOf
 zero-read (call c) = zero-call-reads c
 zero-read (print buffer) = none
+zero-read (post ps) = none
 
 pub zero-untouched : (v : Vcpu) (cs : List Turn) → Untouched 0 v cs
 unfolding Untouched
@@ -223,6 +225,7 @@ zero-turn : (v : Vcpu) (c : Turn) → turnRenews c ≡ false → wroteBy 0 v c �
 unfolding wroteBy turnRenews
 zero-turn v (call c) h = rw (h, zero-wrote (effectOf v c .writes))
 zero-turn v (print buffer) h = refl
+zero-turn v (post ps) h = refl
 
 -- but where a new record is made
 pub zero-unwritten : (v : Vcpu) (cs : List Turn) → Lasting cs → written 0 v cs ≡ false

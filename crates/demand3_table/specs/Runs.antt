@@ -4,34 +4,44 @@ use mathlib.Core.Bool.{Bool, true, false}
 use mathlib.Core.List.{List, [], _∷_}
 use mathlib.Core.Path.{_≡_}
 use lib.Dec.{eqb, ltb}
-use Rattle.demand3_table.specs.Turns.{Turn, call, print}
+use Rattle.demand3_table.specs.Turns.{Turn, call, print, post}
 use Rattle.isa_types.specs.Pick.{pick, or}
 use Rattle.scope.specs.declared.hosts.HostCall.the-variants as hostCall
 use Rattle.scope.specs.declared.hosts.HostCall.{HostCall}
+use Rattle.scope.specs.declared.hosts.Posted.{Posted}
 use Rattle.scope.specs.declared.traps.Reply.{Reply}
 use Rattle.scope.specs.declared.traps.Reply.the-variants as reply
 use Rattle.scope.specs.declared.machine.Vcpu.{Vcpu}
 use Rattle.scope.specs.declared.machine.Writes.{Writes}
 use Rattle.scope.specs.declared.machine.Writes.the-variants as writes
+use Rattle.scope.specs.Posts.{postedOf}
 use Rattle.scope.specs.Record.{listed, noArgs}
 use Rattle.scope.specs.Calls.{printedOf, calledOf, effectOf}
 use Rattle.demand3_table.specs.Table.{namesOf, readsOf}
 
--- what a host sees of a turn: the exit, ask, refusal or register; the hypercall array; the bytes printed
+-- what a host sees of a turn: the exit, ask, refusal or register; the hypercall array; the bytes printed; how many posts of a row
+-- were applied, and the refusal that stopped it
 pub record Sight : Type 0 where
   pub reply : Reply
   pub args : List ℕ
   pub bytes : List ℕ
+  pub posted : Posted
 
--- a call by the one definition that its promise cites; printing gives bytes and leaves the record
+-- of a turn that is no row
+abbrev pub noPosts : Posted
+noPosts = record { applied = 0; refusal = 0 }
+
+-- a call and a row by the one definition that their promises cite; printing gives bytes and leaves the record
 unfoldable pub sightOf : Vcpu → Turn → Sight
-sightOf v (call c) = record { reply = calledOf v c .reply; args = calledOf v c .args; bytes = [] }
-sightOf v (print buffer) = record { reply = reply.Done; args = listed noArgs; bytes = printedOf v buffer }
+sightOf v (call c) = record { reply = calledOf v c .reply; args = calledOf v c .args; bytes = []; posted = noPosts }
+sightOf v (print buffer) = record { reply = reply.Done; args = listed noArgs; bytes = printedOf v buffer; posted = noPosts }
+sightOf v (post ps) = record { reply = reply.Done; args = listed noArgs; bytes = []; posted = postedOf v ps .posted }
 
 -- the record after a turn
 unfoldable pub stepOf : Vcpu → Turn → Vcpu
 stepOf v (call c) = calledOf v c .vcpu
 stepOf v (print buffer) = v
+stepOf v (post ps) = postedOf v ps .vcpu
 
 -- the record after a sequence
 unfoldable pub runOf : Vcpu → List Turn → Vcpu
@@ -84,6 +94,7 @@ wrote r (writes.Pair e v) = or (eqb r 10) (eqb r 11)
 unfoldable pub wroteBy : ℕ → Vcpu → Turn → Bool
 wroteBy r v (call c) = or (renews c) (wrote r (effectOf v c .writes))
 wroteBy r v (print buffer) = false
+wroteBy r v (post ps) = false
 
 -- some turn of the sequence writes r
 unfoldable pub written : ℕ → Vcpu → List Turn → Bool
@@ -94,6 +105,7 @@ written r v (c ∷ cs) = or (wroteBy r v c) (written r (stepOf v c) cs)
 unfoldable pub turnRenews : Turn → Bool
 turnRenews (call c) = renews c
 turnRenews (print buffer) = false
+turnRenews (post ps) = false
 
 unfoldable pub Lasting : List Turn → Type 0
 Lasting [] = Unit {0}

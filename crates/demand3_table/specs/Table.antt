@@ -5,7 +5,7 @@ use Prim.Native.Nat.{ℕ, _%_, _^_}
 use mathlib.Core.List.{List, [], _∷_}
 use lib.ListN.{getD}
 use lib.Dec.{eqb, leb}
-use Rattle.demand3_table.specs.Turns.{Turn, call, print}
+use Rattle.demand3_table.specs.Turns.{Turn, call, print, post}
 use Rattle.isa_types.specs.Pick.{pick}
 use Rattle.scope.specs.declared.traps.Access.{Access}
 use Rattle.scope.specs.declared.traps.Access.the-variants as access
@@ -203,6 +203,7 @@ callNames v (hostCall.New hart tree) = []
 unfoldable pub namesOf : Vcpu → Turn → List ℕ
 namesOf v (call c) = callNames v c
 namesOf v (print buffer) = []
+namesOf v (post ps) = []
 
 -- the registers that a call reads out to the host; x0 reads 0, whatever its slot holds
 unfoldable pub callReads : HostCall → List ℕ
@@ -224,3 +225,4 @@ callReads (hostCall.New hart tree) = []
 unfoldable pub readsOf : Turn → List ℕ
 readsOf (call c) = callReads c
 readsOf (print buffer) = []
+readsOf (post ps) = []

@@ -10,6 +10,8 @@ use Rattle.isa_types.specs.Pick.{and, or, wrapped}
 use Rattle.scope.specs.Calls.{calledOf}
 use Rattle.scope.specs.declared.hosts.HostCall.the-variants as hostCall
 use Rattle.scope.specs.declared.hosts.HostCall.{HostCall}
+use Rattle.scope.specs.declared.hosts.Post.{Post}
+use Rattle.scope.specs.declared.hosts.Posted.{Posted}
 use Rattle.scope.specs.declared.machine.Record.{Record}
 use Rattle.scope.specs.declared.machine.Vcpu.{Vcpu}
 use Rattle.scope.specs.declared.traps.Ask.the-variants as ask
@@ -23,55 +25,58 @@ use Rattle.scope.specs.declared.traps.Reply.{Reply}
 use Rattle.scope.specs.declared.traps.Trap.{Trap}
 use Rattle.scope.specs.OneTrap.{askNumber, exitNumber}
 use Rattle.scope.specs.Refusals.{errorNumber, refusal, refuses}
+use Rattle.scope.specs.Posts.{leftPosted}
 use Rattle.scope.specs.ReplyWords.{outOf, replyKind, replyNumber, replyValues, replyWord}
 use Rattle.scope.specs.Words.{leftOf, unpackOf}
 use Rattle.words_call.specs.declared.CallWords.{CallWords}
 use Rattle.words_call.specs.declared.ReplyWords.{ReplyWords}
 use Rattle.words_call.specs.Words.{callOf, replyWordsOf}
 use Rattle.words_entry.specs.Words.{Exported, exportedOf}
+use Rattle.words_entry_posts.specs.Words.{ExportedRow, exportedRow}
 use Rattle.in_place_record.specs.Told.{told}
-use Rattle.in_place_record.specs.View.{Done, Made, recordOf, viewOf}
+use Rattle.in_place_record.specs.View.{Done, Made, MadeRow, recordOf, viewOf}
 use Rattle.demand1.specs.Demand1.{Pending, ask-waits, exit-leaves}
 use Rattle.demand1.specs.Leaves.{ExitLeaves}
-use Rattle.demand1.specs.When.{callWhen}
+use Rattle.demand1.specs.RowLaws.{row-applies, row-when}
+use Rattle.demand1.specs.When.{callWhen, rowApplies, rowWhen}
 use Rattle.demand1.specs.Whole.{Middles, inError, wholeOf}
 use Rattle.demand3.specs.Counting as counting
 use Rattle.demand3.specs.Counting.{Counted}
 use Rattle.demand3.specs.Kinds.{traps}
 use Rattle.demand3_table.specs.Runs.{Lasting, Sight, Untouched, runOf, seenOf, sightOf, stepOf, written}
-use Rattle.demands_lent.specs.Entries.{turnsOf}
-use Rattle.demands_words.specs.Left.{Sized, left-shows, left-sized, leftAfter}
-use Rattle.demands_words.specs.First.{OverWords, error-leaves-the-words, number-when, print-leaves-the-words, read-leaves-the-words, refusal-leaves-the-words, word-when}
+use Rattle.demand3_table.specs.Turns.{call, post}
+use Rattle.demands_words.specs.Left.{Sized, left-shows, left-sized, leftAfter, row-shows, turn-sized, turnLeft}
+use Rattle.demands_words.specs.First.{OverWords, error-leaves-the-words, number-when, print-leaves-the-words, read-leaves-the-words, refusal-leaves-the-words, row-leaves-the-words, word-when}
 use Rattle.demands_words.specs.Places as places
-use Rattle.demands_words.specs.Places.{Entered, Leads, Places, Shown, Step, Use, callsIn, callsOf, leads, one-place, record-sized, showsOf, useCall}
+use Rattle.demands_words.specs.Places.{Answered, Entered, Leads, Places, Shown, Spoken, Step, Use, leads, one-place, record-sized, showsOf, spokenTurn, turnsIn, turnsOf, useTurn}
 use Rattle.demands_words.specs.Third.{AlikeWords, WordsThird, after-run, words-third}
 
 -- a sequence in place leaves the words of that sequence, and shows what a host sees of it
 
 pub record Ran (r : List ℕ) (cs : List Use) (u : List ℕ) : Type 0 where
   pub sized : length u ≡ 58
-  pub left : recordOf u ≡ leftAfter (recordOf r) (callsOf cs)
+  pub left : recordOf u ≡ leftAfter (recordOf r) (turnsOf cs)
 
 ran : {r u : List ℕ} {cs : List Use} {ws : List Shown} → length r ≡ 58 → Places r cs ws u → Ran r cs u
-unfolding callsOf leftAfter
+unfolding turnsOf leftAfter
 ran e places.none = record { sized = e; left = refl }
 ran {r} e (places.next {s = s} {c = c} {cs = cs} k p) =
     let one = leads e k in
     let rest = ran (one .sized) p in
-    record { sized = rest .sized; left = rest .left ∙ ap (λ (z : Record). leftAfter z (callsOf cs)) (one .left) }
+    record { sized = rest .sized; left = rest .left ∙ ap (λ (z : Record). leftAfter z (turnsOf cs)) (one .left) }
 
 -- what is shown, of what a host sees
 unfoldable pub shownFor : List Use → List Sight → List Shown
 shownFor [] ss = []
 shownFor (c ∷ cs) [] = []
-shownFor (c ∷ cs) (s ∷ ss) = showsOf c (s .reply) (s .args) ∷ shownFor cs ss
+shownFor (c ∷ cs) (s ∷ ss) = showsOf c s ∷ shownFor cs ss
 
-told-by : {r u : List ℕ} {cs : List Use} {ws : List Shown} → length r ≡ 58 → Places r cs ws u → ws ≡ shownFor cs (seenOf (viewOf r) (turnsOf (callsOf cs)))
-unfolding callsOf turnsOf seenOf shownFor sightOf stepOf
+told-by : {r u : List ℕ} {cs : List Use} {ws : List Shown} → length r ≡ 58 → Places r cs ws u → ws ≡ shownFor cs (seenOf (viewOf r) (turnsOf cs))
+unfolding turnsOf seenOf shownFor
 told-by e places.none = refl
 told-by {r} e (places.next {c = c} {cs = cs} k p) =
     let one = leads e k in
-    ap₂ _∷_ (one .says) (told-by (one .sized) p ∙ ap (λ (v : Vcpu). shownFor cs (seenOf v (turnsOf (callsOf cs)))) (one .shows))
+    ap₂ _∷_ (one .says) (told-by (one .sized) p ∙ ap (λ (v : Vcpu). shownFor cs (seenOf v (turnsOf cs))) (one .shows))
 
 -- demand 1: a refusal leaves all 58 words as they were, and zeros for its reply
 
@@ -134,7 +139,7 @@ refused-place r s c w e f left says h =
     one-place s r f e (left ∙ refusal-leaves-the-words (recordOf r) c (record-sized r e) (sym (refusal-word (calledOf (viewOf r) c .reply)) ∙ ap refusalWord (sym says) ∙ h))
 
 pub place-refusal-keeps-the-record : (r s p : List ℕ) (c : HostCall) (w : ℕ) → length r ≡ 58 → Made r c s p w → refusalWord w ≡ true → (s ≡ r) × (p ≡ replicate 8 0)
-unfolding useCall
+unfolding useTurn turnLeft
 place-refusal-keeps-the-record r s p c w e m h =
     let one = leads e (places.gives m) in (
       refused-place r s c w e (one .sized) (one .left) (m .says) h,
@@ -142,13 +147,13 @@ place-refusal-keeps-the-record r s p c w e m h =
     )
 
 pub host-refusal-keeps-the-record : (r s : List ℕ) (c : HostCall) (w : ℕ) → length r ≡ 58 → Done r c s w → refusalWord w ≡ true → s ≡ r
-unfolding useCall
+unfolding useTurn turnLeft
 host-refusal-keeps-the-record r s c w e d h =
     let one = leads e (places.does d) in refused-place r s c w e (one .sized) (one .left) (d .says) h
 
 -- a register read leaves all 58
 pub place-read-keeps-the-record : (r s p : List ℕ) (index w : ℕ) → length r ≡ 58 → Made r (hostCall.GetGpr index) s p w → s ≡ r
-unfolding useCall
+unfolding useTurn turnLeft
 place-read-keeps-the-record r s p index w e m =
     let one = leads e (places.gives m) in
     one-place s r (one .sized) e (one .left ∙ read-leaves-the-words (recordOf r) index (record-sized r e))
@@ -165,8 +170,8 @@ pub place-ask-waits : (r s p : List ℕ) (c : HostCall) (w : ℕ) → Made r c s
 place-ask-waits r s p c w m a e =
     subst (λ (v : Vcpu). Pending (viewOf r) a v) (sym (m .shows)) (ask-waits (viewOf r) c a e)
 
-start-first : (r : Record) (t : Trap) (cs : List Use) → leftAfter r (callsOf (places.given (hostCall.Start t) ∷ cs)) ≡ leftAfter r (hostCall.Start t ∷ callsOf cs)
-unfolding callsOf useCall
+start-first : (r : Record) (t : Trap) (cs : List Use) → leftAfter r (turnsOf (places.given (hostCall.Start t) ∷ cs)) ≡ leftAfter r (call (hostCall.Start t) ∷ turnsOf cs)
+unfolding turnsOf useTurn
 start-first r t cs = refl
 
 -- nothing waits after an exit, but a load after MmioRead
@@ -176,62 +181,87 @@ place-exit-leaves r s p c w m y e =
 
 -- a trap that ends in an error, from its start through its last answer, with refused calls and reads between
 pub place-error-changes-nothing : (r u : List ℕ) (t : Trap) (cs : List Use) (ws : List Shown) → length r ≡ 58 → Places r (places.given (hostCall.Start t) ∷ cs) ws u
-    → Middles (calledOf (viewOf r) (hostCall.Start t) .vcpu) (callsOf cs) → inError (wholeOf (viewOf r) t (callsOf cs) .reply) ≡ true → OverWords (recordOf r) (recordOf u)
+    → Middles (calledOf (viewOf r) (hostCall.Start t) .vcpu) (turnsOf cs) → inError (wholeOf (viewOf r) t (turnsOf cs) .reply) ≡ true → OverWords (recordOf r) (recordOf u)
 unfolding viewOf
 place-error-changes-nothing r u t cs ws e p m h =
-    subst (λ (z : Record). OverWords (recordOf r) z) (sym (ran e p .left ∙ start-first (recordOf r) t cs)) (error-leaves-the-words (recordOf r) t (callsOf cs) (record-sized r e) m h)
+    subst (λ (z : Record). OverWords (recordOf r) z) (sym (ran e p .left ∙ start-first (recordOf r) t cs)) (error-leaves-the-words (recordOf r) t (turnsOf cs) (record-sized r e) m h)
 
 -- demand 3, in all 58 words: two that are alike but in register k, and the same calls on both, the same words lent and lengths to
 -- print, none of which names k or reads it out
 pub record PlaceThird (k : ℕ) (r q u t : List ℕ) (cs : List Use) (ws xs : List Shown) : Type 0 where
   pub shown : ws ≡ xs
   pub alike : AlikeWords k (recordOf u) (recordOf t)
-  pub keeps : written k (viewOf r) (turnsOf (callsOf cs)) ≡ false
+  pub keeps : written k (viewOf r) (turnsOf cs) ≡ false
       → (getD (recordOf u .x) k 0 ≡ getD (recordOf r .x) k 0) × (getD (recordOf t .x) k 0 ≡ getD (recordOf q .x) k 0)
-  pub joins : written k (viewOf r) (turnsOf (callsOf cs)) ≡ true → u ≡ t
+  pub joins : written k (viewOf r) (turnsOf cs) ≡ true → u ≡ t
 
 pub place-third : (k : ℕ) {r q u t : List ℕ} {cs : List Use} {ws xs : List Shown} → length r ≡ 58 → length q ≡ 58 → AlikeWords k (recordOf r) (recordOf q)
-    → Untouched k (viewOf r) (turnsOf (callsOf cs)) → Places r cs ws u → Places q cs xs t → PlaceThird k r q u t cs ws xs
+    → Untouched k (viewOf r) (turnsOf cs) → Places r cs ws u → Places q cs xs t → PlaceThird k r q u t cs ws xs
 unfolding viewOf
 place-third k {r} {q} {u} {t} {cs} {ws} {xs} e f a n p o =
-    let both : WordsThird k (recordOf r) (recordOf q) (callsOf cs) = words-third k (recordOf r) (recordOf q) (callsOf cs) (record-sized r e) (record-sized q f) a n in
+    let both : WordsThird k (recordOf r) (recordOf q) (turnsOf cs) = words-third k (recordOf r) (recordOf q) (turnsOf cs) (record-sized r e) (record-sized q f) a n in
     let here = ran e p in
     let there = ran f o in
     record {
       shown = told-by e p ∙ ap (shownFor cs) (both .sights) ∙ sym (told-by f o);
-      alike = subst (λ (z : Record). AlikeWords k z (recordOf t)) (sym (here .left)) (subst (λ (z : Record). AlikeWords k (leftAfter (recordOf r) (callsOf cs)) z) (sym (there .left)) (both .alike));
+      alike = subst (λ (z : Record). AlikeWords k z (recordOf t)) (sym (here .left)) (subst (λ (z : Record). AlikeWords k (leftAfter (recordOf r) (turnsOf cs)) z) (sym (there .left)) (both .alike));
       keeps = λ h.
           (ap (λ (z : Record). getD (z .x) k 0) (here .left) ∙ both .keeps h .0, ap (λ (z : Record). getD (z .x) k 0) (there .left) ∙ both .keeps h .1);
       joins = λ h. one-place u t (here .sized) (there .sized) (here .left ∙ both .joins h ∙ sym (there .left));
     }
 
 -- the counts, where no new record is made
-pub place-counts : {r u : List ℕ} {cs : List Use} {ws : List Shown} → length r ≡ 58 → Places r cs ws u → (i : ℕ) → Lasting (turnsOf (callsOf cs)) → Counted (viewOf r .counts) → i < 9
-    → getD (viewOf u .counts) i 0 ≡ wrapped (getD (viewOf r .counts) i 0 + traps (suc i) (viewOf r) (turnsOf (callsOf cs)))
+pub place-counts : {r u : List ℕ} {cs : List Use} {ws : List Shown} → length r ≡ 58 → Places r cs ws u → (i : ℕ) → Lasting (turnsOf cs) → Counted (viewOf r .counts) → i < 9
+    → getD (viewOf u .counts) i 0 ≡ wrapped (getD (viewOf r .counts) i 0 + traps (suc i) (viewOf r) (turnsOf cs))
 unfolding viewOf
 place-counts {r} {u} {cs} e p i l k h =
     ap (λ (z : Record). getD (unpackOf z .counts) i 0) (ran e p .left)
-    ∙ ap (λ (v : Vcpu). getD (v .counts) i 0) (after-run (recordOf r) (callsOf cs) (record-sized r e))
-    ∙ counting.counts (unpackOf (recordOf r)) (turnsOf (callsOf cs)) i l k h
+    ∙ ap (λ (v : Vcpu). getD (v .counts) i 0) (after-run (recordOf r) (turnsOf cs) (record-sized r e))
+    ∙ counting.counts (unpackOf (recordOf r)) (turnsOf cs) i l k h
 
--- the same of the entry over words
+-- a row of posts that applies nothing leaves all 58; and it gives each number exactly where the table has it, with as many applied
+pub place-row-keeps-the-record : (r s : List ℕ) (ps : List Post) (g : Posted) → length r ≡ 58 → MadeRow r ps s g → g .applied ≡ 0 → s ≡ r
+unfolding useTurn turnLeft viewOf
+place-row-keeps-the-record r s ps g e m h =
+    let one = leads e (places.posts m) in
+    one-place s r (one .sized) e (one .left ∙ row-leaves-the-words (recordOf r) ps (record-sized r e) (ap (λ (k : Posted). k .applied) (sym (m .says)) ∙ h))
 
-entered-left : {r u : Record} {cs : List CallWords} {gs : List ReplyWords} → Entered r cs gs u → u ≡ leftAfter r (callsIn cs)
-unfolding callsIn leftAfter exportedOf
+pub place-row-when : (y : Error) (r s : List ℕ) (ps : List Post) (g : Posted) → MadeRow r ps s g → (eqb (errorNumber y) (g .refusal) ≡ rowWhen (viewOf r) ps y) × (g .applied ≡ rowApplies (viewOf r) ps)
+place-row-when y r s ps g m =
+    (ap (λ (k : Posted). eqb (errorNumber y) (k .refusal)) (m .says) ∙ row-when y (viewOf r) ps, ap (λ (k : Posted). k .applied) (m .says) ∙ row-applies (viewOf r) ps)
+
+-- the same of the entries over words
+
+entered-left : {r u : Record} {cs : List Spoken} {gs : List Answered} → Entered r cs gs u → u ≡ leftAfter r (turnsIn cs)
+unfolding turnsIn spokenTurn leftAfter turnLeft exportedOf exportedRow
 entered-left places.none = refl
-entered-left (places.next {cs = cs} x p) = entered-left p ∙ ap (λ (z : Record). leftAfter z (callsIn cs)) (x .0)
+entered-left (places.next {cs = cs} x p) = entered-left p ∙ ap (λ (z : Record). leftAfter z (turnsIn cs)) (x .0)
+entered-left (places.post {cs = cs} x p) = entered-left p ∙ ap (λ (z : Record). leftAfter z (turnsIn cs)) (x .0)
 
-unfoldable pub givenIn : List Sight → List ReplyWords
-givenIn [] = []
-givenIn (s ∷ ss) = record { kind = replyKind (s .reply); number = replyNumber (s .reply); values = replyValues (s .reply); args = s .args } ∷ givenIn ss
+unfoldable pub answeredBy : Spoken → Sight → Answered
+answeredBy (places.called c) s = places.replied (record { kind = replyKind (s .reply); number = replyNumber (s .reply); values = replyValues (s .reply); args = s .args })
+answeredBy (places.row ps) s = places.posted (s .posted)
 
-entered-gives : {r u : Record} {cs : List CallWords} {gs : List ReplyWords} → Sized r → Entered r cs gs u → gs ≡ givenIn (seenOf (unpackOf r) (turnsOf (callsIn cs)))
-unfolding callsIn turnsOf seenOf givenIn sightOf stepOf exportedOf replyWordsOf
+unfoldable pub givenIn : List Spoken → List Sight → List Answered
+givenIn [] ss = []
+givenIn (c ∷ cs) [] = []
+givenIn (c ∷ cs) (s ∷ ss) = answeredBy c s ∷ givenIn cs ss
+
+row-sized : (r : Record) (ps : List Post) → Sized r → Sized (leftPosted r ps)
+unfolding turnLeft
+row-sized r ps z = turn-sized r (post ps) z
+
+entered-gives : {r u : Record} {cs : List Spoken} {gs : List Answered} → Sized r → Entered r cs gs u → gs ≡ givenIn cs (seenOf (unpackOf r) (turnsIn cs))
+unfolding turnsIn spokenTurn seenOf givenIn answeredBy sightOf stepOf exportedOf exportedRow replyWordsOf
 entered-gives z places.none = refl
 entered-gives {r} z (places.next {c = c} {cs = cs} x p) =
-    ap₂ _∷_ (x .1)
+    ap₂ (λ (g : ReplyWords) (gs : List Answered). places.replied g ∷ gs) (x .1)
     (entered-gives (subst (λ (k : Record). Sized k) (sym (x .0)) (left-sized r (callOf c) z)) p
-    ∙ ap (λ (v : Vcpu). givenIn (seenOf v (turnsOf (callsIn cs)))) (ap unpackOf (x .0) ∙ left-shows r (callOf c) z))
+    ∙ ap (λ (v : Vcpu). givenIn cs (seenOf v (turnsIn cs))) (ap unpackOf (x .0) ∙ left-shows r (callOf c) z))
+entered-gives {r} z (places.post {ps = ps} {cs = cs} x p) =
+    ap₂ (λ (g : Posted) (gs : List Answered). places.posted g ∷ gs) (x .1)
+    (entered-gives (subst (λ (k : Record). Sized k) (sym (x .0)) (row-sized r ps z)) p
+    ∙ ap (λ (v : Vcpu). givenIn cs (seenOf v (turnsIn cs))) (ap unpackOf (x .0) ∙ row-shows r ps))
 
 -- refusals 1, 2 and 7, by the kind and the number given
 unfoldable pub refusalGiven : ReplyWords → Bool
@@ -263,6 +293,17 @@ unfolding exportedOf
 words-refusal-keeps-the-record r s c g z x h =
     x .0 ∙ refusal-leaves-the-words r (callOf c) z (sym (given-by r s c g x) ∙ h)
 
+-- so does a row of posts that applies nothing; and it gives each number exactly where the table has it, with as many applied
+pub words-row-keeps-the-record : (r s : Record) (ps : List Post) (g : Posted) → Sized r → ExportedRow r ps s g → g .applied ≡ 0 → s ≡ r
+unfolding exportedRow
+words-row-keeps-the-record r s ps g z x h =
+    x .0 ∙ row-leaves-the-words r ps z (ap (λ (k : Posted). k .applied) (sym (x .1)) ∙ h)
+
+pub words-row-when : (y : Error) (r s : Record) (ps : List Post) (g : Posted) → ExportedRow r ps s g → (eqb (errorNumber y) (g .refusal) ≡ rowWhen (unpackOf r) ps y) × (g .applied ≡ rowApplies (unpackOf r) ps)
+unfolding exportedRow
+words-row-when y r s ps g x =
+    (ap (λ (k : Posted). eqb (errorNumber y) (k .refusal)) (x .1) ∙ row-when y (unpackOf r) ps, ap (λ (k : Posted). k .applied) (x .1) ∙ row-applies (unpackOf r) ps)
+
 -- so does a register read, and the question how much is to be printed
 pub words-read-keeps-the-record : (r s : Record) (c : CallWords) (g : ReplyWords) (index : ℕ) → Sized r → callOf c ≡ hostCall.GetGpr index → Exported r c s g → s ≡ r
 unfolding exportedOf
@@ -291,33 +332,33 @@ unfolding exportedOf replyWordsOf
 words-when y r s c g x =
     ap (λ (n : ReplyWords). and (eqb (n .kind) 4) (eqb (errorNumber y) (n .number))) (x .1) ∙ number-when y (unpackOf r) (callOf c)
 
-pub record EnteredThird (k : ℕ) (r q u t : Record) (cs : List CallWords) (gs hs : List ReplyWords) : Type 0 where
+pub record EnteredThird (k : ℕ) (r q u t : Record) (cs : List Spoken) (gs hs : List Answered) : Type 0 where
   pub given : gs ≡ hs
   pub alike : AlikeWords k u t
-  pub keeps : written k (unpackOf r) (turnsOf (callsIn cs)) ≡ false → (getD (u .x) k 0 ≡ getD (r .x) k 0) × (getD (t .x) k 0 ≡ getD (q .x) k 0)
-  pub joins : written k (unpackOf r) (turnsOf (callsIn cs)) ≡ true → u ≡ t
+  pub keeps : written k (unpackOf r) (turnsIn cs) ≡ false → (getD (u .x) k 0 ≡ getD (r .x) k 0) × (getD (t .x) k 0 ≡ getD (q .x) k 0)
+  pub joins : written k (unpackOf r) (turnsIn cs) ≡ true → u ≡ t
 
-pub entered-third : (k : ℕ) {r q u t : Record} {cs : List CallWords} {gs hs : List ReplyWords} → Sized r → Sized q → AlikeWords k r q → Untouched k (unpackOf r) (turnsOf (callsIn cs))
+pub entered-third : (k : ℕ) {r q u t : Record} {cs : List Spoken} {gs hs : List Answered} → Sized r → Sized q → AlikeWords k r q → Untouched k (unpackOf r) (turnsIn cs)
     → Entered r cs gs u → Entered q cs hs t → EnteredThird k r q u t cs gs hs
 entered-third k {r} {q} {u} {t} {cs} {gs} {hs} z y a n p o =
-    let both : WordsThird k r q (callsIn cs) = words-third k r q (callsIn cs) z y a n in
+    let both : WordsThird k r q (turnsIn cs) = words-third k r q (turnsIn cs) z y a n in
     record {
-      given = entered-gives z p ∙ ap givenIn (both .sights) ∙ sym (entered-gives y o);
-      alike = subst (λ (m : Record). AlikeWords k m t) (sym (entered-left p)) (subst (λ (m : Record). AlikeWords k (leftAfter r (callsIn cs)) m) (sym (entered-left o)) (both .alike));
+      given = entered-gives z p ∙ ap (givenIn cs) (both .sights) ∙ sym (entered-gives y o);
+      alike = subst (λ (m : Record). AlikeWords k m t) (sym (entered-left p)) (subst (λ (m : Record). AlikeWords k (leftAfter r (turnsIn cs)) m) (sym (entered-left o)) (both .alike));
       keeps = λ h. (ap (λ (m : Record). getD (m .x) k 0) (entered-left p) ∙ both .keeps h .0, ap (λ (m : Record). getD (m .x) k 0) (entered-left o) ∙ both .keeps h .1);
       joins = λ h. entered-left p ∙ both .joins h ∙ sym (entered-left o);
     }
 
-pub entered-error-changes-nothing : (r u : Record) (t : Trap) (c : CallWords) (cs : List CallWords) (gs : List ReplyWords) → Sized r → callOf c ≡ hostCall.Start t → Entered r (c ∷ cs) gs u
-    → Middles (calledOf (unpackOf r) (hostCall.Start t) .vcpu) (callsIn cs) → inError (wholeOf (unpackOf r) t (callsIn cs) .reply) ≡ true → OverWords r u
-unfolding callsIn
+pub entered-error-changes-nothing : (r u : Record) (t : Trap) (c : CallWords) (cs : List Spoken) (gs : List Answered) → Sized r → callOf c ≡ hostCall.Start t → Entered r (places.called c ∷ cs) gs u
+    → Middles (calledOf (unpackOf r) (hostCall.Start t) .vcpu) (turnsIn cs) → inError (wholeOf (unpackOf r) t (turnsIn cs) .reply) ≡ true → OverWords r u
+unfolding turnsIn spokenTurn
 entered-error-changes-nothing r u t c cs gs z k p m h =
-    subst (λ (n : Record). OverWords r n) (sym (entered-left p ∙ ap (λ (l : HostCall). leftAfter r (l ∷ callsIn cs)) k)) (error-leaves-the-words r t (callsIn cs) z m h)
+    subst (λ (n : Record). OverWords r n) (sym (entered-left p ∙ ap (λ (l : HostCall). leftAfter r (call l ∷ turnsIn cs)) k)) (error-leaves-the-words r t (turnsIn cs) z m h)
 
 -- the counts, where no new record is made
-pub entered-counts : {r u : Record} {cs : List CallWords} {gs : List ReplyWords} → Sized r → Entered r cs gs u → (i : ℕ) → Lasting (turnsOf (callsIn cs)) → Counted (unpackOf r .counts) → i < 9
-    → getD (unpackOf u .counts) i 0 ≡ wrapped (getD (unpackOf r .counts) i 0 + traps (suc i) (unpackOf r) (turnsOf (callsIn cs)))
+pub entered-counts : {r u : Record} {cs : List Spoken} {gs : List Answered} → Sized r → Entered r cs gs u → (i : ℕ) → Lasting (turnsIn cs) → Counted (unpackOf r .counts) → i < 9
+    → getD (unpackOf u .counts) i 0 ≡ wrapped (getD (unpackOf r .counts) i 0 + traps (suc i) (unpackOf r) (turnsIn cs))
 entered-counts {r} {u} {cs} z p i l k h =
     ap (λ (m : Record). getD (unpackOf m .counts) i 0) (entered-left p)
-    ∙ ap (λ (v : Vcpu). getD (v .counts) i 0) (after-run r (callsIn cs) z)
-    ∙ counting.counts (unpackOf r) (turnsOf (callsIn cs)) i l k h
+    ∙ ap (λ (v : Vcpu). getD (v .counts) i 0) (after-run r (turnsIn cs) z)
+    ∙ counting.counts (unpackOf r) (turnsIn cs) i l k h

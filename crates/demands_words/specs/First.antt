@@ -27,6 +27,8 @@ use Rattle.scope.specs.declared.traps.Reply.the-variants as reply
 use Rattle.scope.specs.declared.traps.Reply.{Reply}
 use Rattle.scope.specs.declared.traps.Trap.{Trap}
 use Rattle.scope.specs.OneTrap.{askNumber, exitNumber}
+use Rattle.scope.specs.declared.hosts.Post.{Post}
+use Rattle.scope.specs.Posts.{leftPosted, postedOf}
 use Rattle.scope.specs.Record.{applied, bumped, counted, eventNumber, stored}
 use Rattle.scope.specs.Refusals.{doneOf, errorNumber, leavesOf, refuses}
 use Rattle.scope.specs.ReplyWords.{replyKind, replyNumber, replyWord}
@@ -34,9 +36,12 @@ use Rattle.scope.specs.Words.{csrsOf, csrsWords, laidWith, leftBy, leftOf, trap
 use Rattle.demand1.specs.Demand1.{refusal-keeps-the-record}
 use Rattle.demand1.specs.When.{callWhen, gives, is}
 use Rattle.demand1.specs.WhenLaws.{call-when}
-use Rattle.demand1.specs.Whole.{Middles, Over, Tallied, carried, inError, wholeOf}
-use Rattle.demand1.specs.WholeLaws.{error-changes-nothing}
-use Rattle.demands_words.specs.Left.{Sized, csrs-words-back, left-shows, left-sized, leftAfter}
+use Rattle.demand1.specs.RowLaws.{none-applied-keeps-the-record}
+use Rattle.demand1.specs.Whole.{Middles, Over, Tallied, afterTurn, carried, inError, wholeOf}
+use Rattle.demand1.specs.WholeLaws.{after-steps, error-changes-nothing}
+use Rattle.demand3_table.specs.Runs.{stepOf}
+use Rattle.demand3_table.specs.Turns.{Turn, call}
+use Rattle.demands_words.specs.Left.{Sized, csrs-words-back, left-shows, left-sized, leftAfter, turn-shows, turn-sized, turnLeft}
 
 never : {A : Type 0} → false ≡ true → A
 never h = let z : _≡_ {A = ℕ} 0 1 = cc in absurd (omega arith)
@@ -89,6 +94,12 @@ pub print-leaves-the-words : (r : Record) (n : ℕ) → Sized r → leftOf r (ho
 unfolding leftOf leftBy calledOf baseOf effectOf leavesOf applied stored counted bumped eventNumber waitingLeft
 print-leaves-the-words r n z = laid-same r (unpackOf r) (r .waiting) z refl refl
 
+-- so does a row of posts that applies nothing
+pub row-leaves-the-words : (r : Record) (ps : List Post) → Sized r → postedOf (unpackOf r) ps .posted .applied ≡ 0 → leftPosted r ps ≡ r
+unfolding leftPosted
+row-leaves-the-words r ps z h =
+    laid-same r _ _ z (none-applied-keeps-the-record (unpackOf r) ps h) refl
+
 -- a trap that ends in an error, from its start through its last answer, with refused calls and reads between: every word of a
 -- register and of a CSR is as before, nothing waits, and the counts have at most one more of event 2
 pub record OverWords (r s : Record) : Type 0 where
@@ -97,11 +108,11 @@ pub record OverWords (r s : Record) : Type 0 where
   pub waiting : waitingOf (s .waiting) ≡ waiting.Idle
   pub counts : Tallied (r .counts) (s .counts)
 
-after-shows : (o : Outcome) (s : Record) (l : List HostCall) → Sized s → unpackOf s ≡ o .vcpu → (unpackOf (leftAfter s l) ≡ carried o l .vcpu) × (Sized (leftAfter s l))
+after-shows : (o : Outcome) (s : Record) (l : List Turn) → Sized s → unpackOf s ≡ o .vcpu → (unpackOf (leftAfter s l) ≡ carried o l .vcpu) × (Sized (leftAfter s l))
 unfolding leftAfter carried
 after-shows o s [] z h = (h, z)
 after-shows o s (c ∷ l) z h =
-    after-shows (calledOf (o .vcpu) c) (leftOf s c) l (left-sized s c z) (left-shows s c z ∙ ap (λ (v : Vcpu). calledOf v c .vcpu) h)
+    after-shows (afterTurn o c) (turnLeft s c) l (turn-sized s c z) (turn-shows s c z ∙ ap (λ (v : Vcpu). stepOf v c) h ∙ sym (after-steps o c))
 
 over-words : (r s : Record) → Sized r → Sized s → Over (unpackOf r) (unpackOf s) → OverWords r s
 unfolding unpackOf
@@ -113,11 +124,11 @@ over-words r s z y o =
       counts = o .counts;
     }
 
-pub error-leaves-the-words : (r : Record) (t : Trap) (l : List HostCall) → Sized r
+pub error-leaves-the-words : (r : Record) (t : Trap) (l : List Turn) → Sized r
     → Middles (calledOf (unpackOf r) (hostCall.Start t) .vcpu) l
     → inError (wholeOf (unpackOf r) t l .reply) ≡ true
-    → OverWords r (leftAfter r (hostCall.Start t ∷ l))
-unfolding wholeOf leftAfter
+    → OverWords r (leftAfter r (call (hostCall.Start t) ∷ l))
+unfolding wholeOf leftAfter turnLeft
 error-leaves-the-words r t l z m h =
     let after = after-shows (calledOf (unpackOf r) (hostCall.Start t)) (leftOf r (hostCall.Start t)) l (left-sized r (hostCall.Start t) z) (left-shows r (hostCall.Start t) z) in
     over-words r (leftAfter (leftOf r (hostCall.Start t)) l) z (after .1)

@@ -1,4 +1,4 @@
--- The words that a call leaves show its outcome.
+-- The words that a call or a row of posts leaves show its outcome.
 use Prim.Native.Nat.{ℕ, _%_, _^_}
 use native.Mathlib.Omega.{arith}
 use mathlib.Core.Bool.{Bool, true, false}
@@ -23,6 +23,9 @@ use Rattle.scope.specs.declared.machine.Writes.{Writes}
 use Rattle.scope.specs.declared.traps.Error.the-variants as error
 use Rattle.scope.specs.declared.traps.Error.{Error}
 use Rattle.scope.specs.Host.{lineOf, pagingBy, pagingEffect, pendingEffect, writeEffect}
+use Rattle.scope.specs.declared.hosts.Post.{Post}
+use Rattle.scope.specs.Posts.{leftPosted, postedOf}
+use Rattle.scope.specs.PostsLaws.{row-waiting}
 use Rattle.scope.specs.Record.{applied, waitingAsk}
 use Rattle.scope.specs.Refusals.{doneOf, leavesOf, refusedOf, refuses, unlessAsking}
 use Rattle.scope.specs.Words.{askedWordCount, askedWords, csrsOf, csrsWords, kindWord, laidWith, leftBy, leftOf, trapLeft, unpackOf, waitingBy, waitingCount, waitingLeft, waitingOf, waitingWords}
@@ -31,6 +34,8 @@ use Rattle.in_place_record.specs.Laws.{same}
 use Rattle.in_place_record.specs.Spelled.{spelled, spelled-drop}
 use Rattle.in_place_record.specs.Told.{left-four}
 use Rattle.demand1.specs.Demand1.{refusal-keeps-the-record}
+use Rattle.demand3_table.specs.Runs.{stepOf}
+use Rattle.demand3_table.specs.Turns.{Turn, call, post, print}
 
 -- a record of words: 13 for the CSRs and four for what waits
 pub record Sized (r : Record) : Type 0 where
@@ -157,7 +162,30 @@ unfolding csrsOf csrsWords
 csrs-words-back l e =
     subst (λ (k : List ℕ). csrsWords (csrsOf k) ≡ k) (spelled-drop 13 0 l (omega arith)) refl
 
--- the record after calls, in words
-unfoldable pub leftAfter : Record → List HostCall → Record
+-- the record after a turn, in words, and after turns
+
+unfoldable pub turnLeft : Record → Turn → Record
+turnLeft r (call c) = leftOf r c
+turnLeft r (print buffer) = r
+turnLeft r (post ps) = leftPosted r ps
+
+unfoldable pub leftAfter : Record → List Turn → Record
 leftAfter r [] = r
-leftAfter r (c ∷ cs) = leftAfter (leftOf r c) cs
+leftAfter r (c ∷ cs) = leftAfter (turnLeft r c) cs
+
+-- a row leaves what waits, and so its words
+pub row-shows : (r : Record) (ps : List Post) → unpackOf (leftPosted r ps) ≡ postedOf (unpackOf r) ps .vcpu
+unfolding leftPosted
+row-shows r ps = shown (postedOf (unpackOf r) ps .vcpu) (r .waiting) (as-read r ∙ sym (row-waiting (unpackOf r) ps))
+
+pub turn-shows : (r : Record) (c : Turn) → Sized r → unpackOf (turnLeft r c) ≡ stepOf (unpackOf r) c
+unfolding turnLeft stepOf
+turn-shows r (call c) z = left-shows r c z
+turn-shows r (print buffer) z = refl
+turn-shows r (post ps) z = row-shows r ps
+
+pub turn-sized : (r : Record) (c : Turn) → Sized r → Sized (turnLeft r c)
+unfolding turnLeft leftPosted laidWith csrsWords
+turn-sized r (call c) z = left-sized r c z
+turn-sized r (print buffer) z = z
+turn-sized r (post ps) z = record { thirteen = refl; four = z .four }

@@ -1,17 +1,19 @@
--- Sequences of calls through the exported entries, by their promises alone: in place on 58 words, and by words.
+-- Sequences of calls and rows of posts through the exported entries, by their promises alone: in place on 58 words, and by words.
 use Prim.Native.Nat.{ℕ}
 use mathlib.Core.Bool.{Bool}
 use mathlib.Core.List.{List, [], _∷_}
-use mathlib.Core.Path.{_≡_, refl, ap, sym, _∙_}
+use mathlib.Core.Path.{_≡_, refl, ap, ap₂, sym, _∙_}
 use lib.ListN.{drop, length, take}
 use Rattle.scope.specs.Calls.{baseOf, calledOf, effectOf, printable}
 use Rattle.scope.specs.declared.hosts.HostCall.the-variants as hostCall
 use Rattle.scope.specs.declared.hosts.HostCall.{HostCall}
-use Rattle.scope.specs.declared.machine.Outcome.{Outcome}
+use Rattle.scope.specs.declared.hosts.Post.{Post}
+use Rattle.scope.specs.declared.hosts.Posted.{Posted}
 use Rattle.scope.specs.declared.machine.Record.{Record}
 use Rattle.scope.specs.declared.machine.Vcpu.{Vcpu}
 use Rattle.scope.specs.declared.traps.Reply.the-variants as reply
 use Rattle.scope.specs.declared.traps.Reply.{Reply}
+use Rattle.scope.specs.Posts.{leftPosted, postedOf}
 use Rattle.scope.specs.Record.{applied, bumped, counted, eventNumber, stored}
 use Rattle.scope.specs.Refusals.{leavesOf}
 use Rattle.scope.specs.ReplyWords.{outOf, replyWord}
@@ -20,31 +22,37 @@ use Rattle.words_call.specs.declared.CallWords.{CallWords}
 use Rattle.words_call.specs.declared.ReplyWords.{ReplyWords}
 use Rattle.words_call.specs.Words.{callOf}
 use Rattle.words_entry.specs.Words.{Exported}
+use Rattle.words_entry_posts.specs.Words.{ExportedRow}
 use Rattle.in_place_record.specs.Laws.{over}
 use Rattle.in_place_record.specs.Told.{all-there, last-four, left-four, told}
-use Rattle.in_place_record.specs.View.{Done, Made, recordOf, viewOf}
-use Rattle.demands_words.specs.Left.{Sized, csrs-words-back}
+use Rattle.in_place_record.specs.View.{Done, Made, MadeRow, recordOf, viewOf}
+use Rattle.demand3_table.specs.Runs.{Sight, sightOf, stepOf}
+use Rattle.demand3_table.specs.Turns as turns
+use Rattle.demand3_table.specs.Turns.{Turn, call}
+use Rattle.demands_words.specs.Left.{Sized, csrs-words-back, turnLeft}
 use Rattle.demands_words.specs.First.{print-leaves-the-words}
 
--- how a call is made in place: with eight words lent for its reply, with none, or for how much is to be printed
+-- how a call is made in place: with eight words lent for its reply, with none, for how much is to be printed, or for a row of posts
 pub data Use : Type 0 where
   given : HostCall → Use
   plain : HostCall → Use
   count : ℕ → Use
+  row : List Post → Use
 
-unfoldable pub useCall : Use → HostCall
-useCall (given c) = c
-useCall (plain c) = c
-useCall (count n) = hostCall.ToPrint n
+unfoldable pub useTurn : Use → Turn
+useTurn (given c) = call c
+useTurn (plain c) = call c
+useTurn (count n) = call (hostCall.ToPrint n)
+useTurn (row ps) = turns.post ps
 
-unfoldable pub callsOf : List Use → List HostCall
-callsOf [] = []
-callsOf (u ∷ us) = useCall u ∷ callsOf us
+unfoldable pub turnsOf : List Use → List Turn
+turnsOf [] = []
+turnsOf (u ∷ us) = useTurn u ∷ turnsOf us
 
--- what a call shows: the words lent for its reply, after it, and the word returned
-pub record Shown : Type 0 where
-  pub out : List ℕ
-  pub word : ℕ
+-- what a call shows: the words lent for its reply, after it, and the word returned; of a row what it gives
+pub data Shown : Type 0 where
+  words : List ℕ → ℕ → Shown
+  posted : Posted → Shown
 
 unfoldable pub valueIn : Reply → ℕ
 valueIn (reply.Value n) = n
@@ -53,31 +61,48 @@ valueIn (reply.Ask a) = 0
 valueIn reply.Done = 0
 valueIn (reply.Error e) = 0
 
--- what it shows, of the outcome
-unfoldable pub showsOf : Use → Reply → List ℕ → Shown
-showsOf (given c) p args = record { out = outOf p args; word = replyWord p }
-showsOf (plain c) p args = record { out = []; word = replyWord p }
-showsOf (count n) p args = record { out = []; word = valueIn p }
+-- what it shows, of what a host sees
+unfoldable pub showsOf : Use → Sight → Shown
+showsOf (given c) s = words (outOf (s .reply) (s .args)) (replyWord (s .reply))
+showsOf (plain c) s = words [] (replyWord (s .reply))
+showsOf (count n) s = words [] (valueIn (s .reply))
+showsOf (row ps) s = posted (s .posted)
 
 -- one call's promise: from 58 words r it leaves s and shows this
 pub data Step (r : List ℕ) : Use → List ℕ → Shown → Type 0 where
-  gives : {c : HostCall} {s p : List ℕ} {w : ℕ} → Made r c s p w → Step r (given c) s (record { out = p; word = w })
-  does : {c : HostCall} {s : List ℕ} {w : ℕ} → Done r c s w → Step r (plain c) s (record { out = []; word = w })
-  counts : {n w : ℕ} → w ≡ printable (viewOf r .waiting) n → Step r (count n) r (record { out = []; word = w })
+  gives : {c : HostCall} {s p : List ℕ} {w : ℕ} → Made r c s p w → Step r (given c) s (words p w)
+  does : {c : HostCall} {s : List ℕ} {w : ℕ} → Done r c s w → Step r (plain c) s (words [] w)
+  counts : {n w : ℕ} → w ≡ printable (viewOf r .waiting) n → Step r (count n) r (words [] w)
+  posts : {ps : List Post} {s : List ℕ} {g : Posted} → MadeRow r ps s g → Step r (row ps) s (posted g)
 
 -- the words r after these calls are u, and these were shown
 pub data Places : List ℕ → List Use → List Shown → List ℕ → Type 0 where
   none : {r : List ℕ} → Places r [] [] r
   next : {r s u : List ℕ} {c : Use} {h : Shown} {cs : List Use} {ws : List Shown} → Step r c s h → Places s cs ws u → Places r (c ∷ cs) (h ∷ ws) u
 
--- the same through the entry over words: the record r after these calls is s, and these were given
-pub data Entered : Record → List CallWords → List ReplyWords → Record → Type 0 where
-  none : {r : Record} → Entered r [] [] r
-  next : {r s u : Record} {c : CallWords} {g : ReplyWords} {cs : List CallWords} {gs : List ReplyWords} → Exported r c s g → Entered s cs gs u → Entered r (c ∷ cs) (g ∷ gs) u
+-- the same through the entries over words: a call in words, or a row of posts
 
-unfoldable pub callsIn : List CallWords → List HostCall
-callsIn [] = []
-callsIn (c ∷ cs) = callOf c ∷ callsIn cs
+pub data Spoken : Type 0 where
+  called : CallWords → Spoken
+  row : List Post → Spoken
+
+pub data Answered : Type 0 where
+  replied : ReplyWords → Answered
+  posted : Posted → Answered
+
+-- the record r after these is s, and these were given
+pub data Entered : Record → List Spoken → List Answered → Record → Type 0 where
+  none : {r : Record} → Entered r [] [] r
+  next : {r s u : Record} {c : CallWords} {g : ReplyWords} {cs : List Spoken} {gs : List Answered} → Exported r c s g → Entered s cs gs u → Entered r (called c ∷ cs) (replied g ∷ gs) u
+  post : {r s u : Record} {ps : List Post} {g : Posted} {cs : List Spoken} {gs : List Answered} → ExportedRow r ps s g → Entered s cs gs u → Entered r (row ps ∷ cs) (posted g ∷ gs) u
+
+unfoldable pub spokenTurn : Spoken → Turn
+spokenTurn (called c) = call (callOf c)
+spokenTurn (row ps) = turns.post ps
+
+unfoldable pub turnsIn : List Spoken → List Turn
+turnsIn [] = []
+turnsIn (c ∷ cs) = spokenTurn c ∷ turnsIn cs
 
 -- 58 words are a record of words
 
@@ -98,7 +123,7 @@ pub one-place : (r s : List ℕ) → length r ≡ 58 → length s ≡ 58 → rec
 unfolding viewOf
 one-place r s e f h = told r s e f (ap unpackOf h) (sym (last r e) ∙ ap (λ (k : Record). k .waiting) h ∙ last s f)
 
--- a call in place leaves the words that the definition says
+-- what is left in place is what the definition says
 
 csrs-of : (s : List ℕ) → csrsOf (recordOf s .csrs) ≡ viewOf s .csrs
 unfolding viewOf unpackOf
@@ -112,19 +137,30 @@ counts-of : (s : List ℕ) → recordOf s .counts ≡ viewOf s .counts
 unfolding viewOf unpackOf
 counts-of s = refl
 
-laid-by : (r s : List ℕ) (c : HostCall) → length r ≡ 58 → length s ≡ 58 → viewOf s ≡ calledOf (viewOf r) c .vcpu
+-- 58 words that show a record, with these for what waits
+laid-by : (s : List ℕ) (v : Vcpu) (w : List ℕ) → length s ≡ 58 → viewOf s ≡ v → drop 54 s ≡ w → recordOf s ≡ laidWith v w
+unfolding laidWith viewOf
+laid-by s v w f shows waits =
+    let csrs : recordOf s .csrs ≡ csrsWords (v .csrs) = sym (csrs-words-back (recordOf s .csrs) (record-sized s f .thirteen)) ∙ ap csrsWords (csrs-of s) ∙ ap (λ (u : Vcpu). csrsWords (u .csrs)) shows in
+    λ i. record { x = (x-of s ∙ ap (λ (u : Vcpu). u .x) shows) i; csrs = csrs i; counts = (counts-of s ∙ ap (λ (u : Vcpu). u .counts) shows) i; waiting = (last s f ∙ waits) i }
+
+left-by : (r s : List ℕ) (c : HostCall) → length r ≡ 58 → length s ≡ 58 → viewOf s ≡ calledOf (viewOf r) c .vcpu
     → drop 54 s ≡ waitingLeft c (drop 54 r) (calledOf (viewOf r) c .reply) (calledOf (viewOf r) c .vcpu .waiting)
     → recordOf s ≡ leftOf (recordOf r) c
-unfolding leftOf leftBy laidWith viewOf
-laid-by r s c e f shows waits =
-    let csrs : recordOf s .csrs ≡ csrsWords (calledOf (viewOf r) c .vcpu .csrs) = sym (csrs-words-back (recordOf s .csrs) (record-sized s f .thirteen)) ∙ ap csrsWords (csrs-of s) ∙ ap (λ (v : Vcpu). csrsWords (v .csrs)) shows in
-    let words : recordOf s .waiting ≡ waitingLeft c (recordOf r .waiting) (calledOf (viewOf r) c .reply) (calledOf (viewOf r) c .vcpu .waiting)
-    = last s f ∙ waits ∙ ap (λ (w : List ℕ). waitingLeft c w (calledOf (viewOf r) c .reply) (calledOf (viewOf r) c .vcpu .waiting)) (sym (last r e)) in
-    λ i. record { x = (x-of s ∙ ap (λ (v : Vcpu). v .x) shows) i; csrs = csrs i; counts = (counts-of s ∙ ap (λ (v : Vcpu). v .counts) shows) i; waiting = words i }
+unfolding leftOf leftBy viewOf
+left-by r s c e f shows waits =
+    laid-by s _ _ f shows (waits ∙ ap (λ (w : List ℕ). waitingLeft c w (calledOf (viewOf r) c .reply) (calledOf (viewOf r) c .vcpu .waiting)) (sym (last r e)))
+
+row-by : (r s : List ℕ) (ps : List Post) → length r ≡ 58 → length s ≡ 58 → viewOf s ≡ postedOf (viewOf r) ps .vcpu → drop 54 s ≡ drop 54 r → recordOf s ≡ leftPosted (recordOf r) ps
+unfolding leftPosted viewOf
+row-by r s ps e f shows waits = laid-by s _ _ f shows (waits ∙ sym (last r e))
 
 sized-by : (r s : List ℕ) (c : HostCall) → length r ≡ 58
     → drop 54 s ≡ waitingLeft c (drop 54 r) (calledOf (viewOf r) c .reply) (calledOf (viewOf r) c .vcpu .waiting) → length s ≡ 58
 sized-by r s c e waits = all-there s _ (left-four c (drop 54 r) _ _ (last-four r e)) waits
+
+row-sized : (r s : List ℕ) → length r ≡ 58 → drop 54 s ≡ drop 54 r → length s ≡ 58
+row-sized r s e waits = all-there s _ (last-four r e) waits
 
 print-vcpu : (v : Vcpu) (n : ℕ) → calledOf v (hostCall.ToPrint n) .vcpu ≡ v
 unfolding calledOf baseOf effectOf leavesOf applied stored counted bumped eventNumber
@@ -137,30 +173,37 @@ print-value v n = refl
 -- what each step leaves and shows
 pub record Leads (r : List ℕ) (c : Use) (s : List ℕ) (h : Shown) : Type 0 where
   pub sized : length s ≡ 58
-  pub left : recordOf s ≡ leftOf (recordOf r) (useCall c)
-  pub shows : viewOf s ≡ calledOf (viewOf r) (useCall c) .vcpu
-  pub says : h ≡ showsOf c (calledOf (viewOf r) (useCall c) .reply) (calledOf (viewOf r) (useCall c) .args)
+  pub left : recordOf s ≡ turnLeft (recordOf r) (useTurn c)
+  pub shows : viewOf s ≡ stepOf (viewOf r) (useTurn c)
+  pub says : h ≡ showsOf c (sightOf (viewOf r) (useTurn c))
 
 pub leads : {r s : List ℕ} {c : Use} {h : Shown} → length r ≡ 58 → Step r c s h → Leads r c s h
-unfolding useCall showsOf
+unfolding useTurn turnLeft stepOf sightOf showsOf
 leads {r} {s} {c} {h} e (gives {c = k} m) =
     record {
       sized = sized-by r s k e (m .waits);
-      left = laid-by r s k e (sized-by r s k e (m .waits)) (m .shows) (m .waits);
+      left = left-by r s k e (sized-by r s k e (m .waits)) (m .shows) (m .waits);
       shows = m .shows;
-      says = λ i. record { out = m .gives i; word = m .says i };
+      says = ap₂ words (m .gives) (m .says);
     }
 leads {r} {s} {c} {h} e (does {c = k} d) =
     record {
       sized = sized-by r s k e (d .waits);
-      left = laid-by r s k e (sized-by r s k e (d .waits)) (d .shows) (d .waits);
+      left = left-by r s k e (sized-by r s k e (d .waits)) (d .shows) (d .waits);
       shows = d .shows;
-      says = λ i. record { out = []; word = d .says i };
+      says = ap (words []) (d .says);
     }
 leads {r} {s} {c} {h} e (counts {n = n} k) =
     record {
       sized = e;
       left = sym (print-leaves-the-words (recordOf r) n (record-sized r e));
       shows = sym (print-vcpu (viewOf r) n);
-      says = λ i. record { out = []; word = (k ∙ sym (print-value (viewOf r) n)) i };
+      says = ap (words []) (k ∙ sym (print-value (viewOf r) n));
+    }
+leads {r} {s} {c} {h} e (posts {ps = ps} m) =
+    record {
+      sized = row-sized r s e (m .waits);
+      left = row-by r s ps e (row-sized r s e (m .waits)) (m .shows) (m .waits);
+      shows = m .shows;
+      says = ap Shown.posted (m .says);
     }

@@ -6,8 +6,11 @@ use mathlib.Core.Path.{_≡_}
 use lib.ListN.{drop, take}
 use Rattle.scope.specs.Calls.{calledOf}
 use Rattle.scope.specs.declared.hosts.HostCall.{HostCall}
+use Rattle.scope.specs.declared.hosts.Post.{Post}
+use Rattle.scope.specs.declared.hosts.Posted.{Posted}
 use Rattle.scope.specs.declared.machine.Record.{Record}
 use Rattle.scope.specs.declared.machine.Vcpu.{Vcpu}
+use Rattle.scope.specs.Posts.{postedOf}
 use Rattle.scope.specs.ReplyWords.{outOf, replyWord}
 use Rattle.scope.specs.Words.{unpackOf, waitingLeft}
 
@@ -34,3 +37,10 @@ pub record Done (entry : List ℕ) (c : HostCall) (r : List ℕ) (word : ℕ) : 
   pub shows : viewOf r ≡ calledOf (viewOf entry) c .vcpu
   pub waits : drop 54 r ≡ waitingLeft c (drop 54 entry) (calledOf (viewOf entry) c .reply) (calledOf (viewOf entry) c .vcpu .waiting)
   pub says : word ≡ replyWord (calledOf (viewOf entry) c .reply)
+
+-- the promise of a row of posts made in place: the words r show the outcome's record, the four of what waits stay, whatever they
+-- hold, and what is given is the row's
+pub record MadeRow (entry : List ℕ) (ps : List Post) (r : List ℕ) (given : Posted) : Type 0 where
+  pub shows : viewOf r ≡ postedOf (viewOf entry) ps .vcpu
+  pub waits : drop 54 r ≡ drop 54 entry
+  pub says : given ≡ postedOf (viewOf entry) ps .posted

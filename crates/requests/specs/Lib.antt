@@ -2,3 +2,4 @@ pub mod Hvip
 pub mod SetTimer
 pub mod Meaning
 pub mod Compressed
+pub mod Posts

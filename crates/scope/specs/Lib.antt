@@ -11,4 +11,6 @@ pub mod GuestPageFault
 pub mod Calls
 pub mod ReplyWords
 pub mod Words
+pub mod Posts
+pub mod PostsLaws
 pub mod WordsLaws

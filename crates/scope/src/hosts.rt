@@ -1,4 +1,4 @@
-// The calls on a record as one type.
+// The calls on a record as one type, and a row of posts. An enum holds no slice, so the row is no case of the type: docs/DECISIONS.md.
 use crate::decided::IpiCompletion;
 use crate::traps::Answer;
 use crate::traps::IpiAbi;
@@ -48,4 +48,18 @@ pub enum HostCall {
     ToPrint {
         length: u64,
     },
+}
+
+// One of a row of posts: an interrupt's vector, and its level: 0 clears, any other sets. 02, W4.
+#[repr(C)]
+pub struct Post {
+    pub vector: u64,
+    pub level: u64,
+}
+
+// What a row of posts gives: how many were applied, and the number of the refusal that stopped it, or 0.
+#[repr(C)]
+pub struct Posted {
+    pub applied: u64,
+    pub refusal: u64,
 }

@@ -1,4 +1,5 @@
 // The vCPU record, and one effect on it. 01, The record.
+use crate::hosts::Posted;
 use crate::traps::Access;
 use crate::traps::Args;
 use crate::traps::Reply;
@@ -119,6 +120,12 @@ pub struct Outcome {
     pub vcpu: Vcpu,
     pub reply: Reply,
     pub args: [u64; 6],
+}
+
+// The whole outcome of a row of posts. 02, W4.
+pub struct RowOutcome {
+    pub vcpu: Vcpu,
+    pub posted: Posted,
 }
 
 // The record in words: the waiting part is a kind and three numbers.

@@ -66,7 +66,7 @@ fn lent(kind: u64) -> [u64; 8] {
     }
 }
 
-// The call: words_call's kinds; 0 writes a word of the record.
+// The call: words_call's kinds; 0 writes a word of the record, 15 makes a row of posts.
 fn made(r: &mut [u64; 58], out: &mut [u64; 8], c: [u64; 8]) -> u64 {
     let kind = c[0];
     let a = c[1];
@@ -77,6 +77,7 @@ fn made(r: &mut [u64; 58], out: &mut [u64; 8], c: [u64; 8]) -> u64 {
         10 => started(r, out, trap_of(c)),
         11 => answered(r, out, [a, b, d]),
         13 => printed(r, out, a),
+        15 => test_call_rows::posted(r, out, [a, b, d, c[4], c[5]]),
         _ => silent(r, kind, a, b, d),
     }
 }

@@ -5,7 +5,8 @@
 use curbizzolu as api;
 
 pub type Record = [u64; 58];
-/// A call: its kind and five numbers. 0 is no call and writes a word of the record; 1 to 14 are from01's kinds.
+/// A call: its kind and five numbers. 0 is no call and writes a word of the record; 1 to 14 are from01's kinds, and 15 is a row of posts
+/// (`row_of`).
 pub type Call = [u64; 6];
 
 /// What a call gives: the returned number and the words of `out`.
@@ -162,8 +163,41 @@ pub fn next_call(r: &mut Random, record: &mut Record) -> Call {
         15 => [12, r.edgy(), 0, 0, 0, 0],
         16 | 17 => [13, length(r, record[55]), 0, 0, 0, 0],
         18 => [14, r.edgy(), r.edgy(), 0, 0, 0],
+        19 => row(r),
         _ => start(r, record),
     }
+}
+
+/// A row of posts. Three in four of its words hold allowed vectors alone, so that long rows are not all stopped early.
+fn row(r: &mut Random) -> Call {
+    let count = match r.below(4) {
+        0 => r.below(3),
+        1 => r.edgy(),
+        _ => r.below(65),
+    };
+    let mut call = [15, count, 0, 0, 0, 0];
+    for word in &mut call[2..] {
+        *word = r.number();
+        if r.below(4) != 0 {
+            *word &= 0xbbbb_bbbb_bbbb_bbbb;
+        }
+    }
+    call
+}
+
+/// The vectors that a row's posts choose from: the four that are allowed, and four that are not.
+pub const VECTORS: [u64; 8] = [1 << 63 | 1, 1 << 63 | 5, 9, 1 << 63 | 9, 5, 1 << 63 | 2, 0, u64::MAX];
+
+/// The posts that a call of kind 15 stands for, a vector and a level each: so many, 64 at most, four bits a post from the lowest on, and
+/// sixteen in each of the four words behind the count.
+pub fn row_of(call: &Call) -> Vec<[u64; 2]> {
+    let post = |i: usize| call[2 + i / 16] >> (4 * (i % 16)) & 15;
+    (0..call[1].min(64) as usize).map(|i| [VECTORS[post(i) as usize & 7], post(i) >> 3 << 63]).collect()
+}
+
+/// What a row gives, as a reply: the refusal in the returned number, how many were applied in the first word.
+fn rowed(applied: u64, refusal: u64) -> Reply {
+    Reply { code: if refusal == 0 { 0x40 } else { 0x100 + refusal }, out: [applied, 0, 0, 0, 0, 0, 0, 0] }
 }
 
 fn start(r: &mut Random, record: &mut Record) -> Call {
@@ -276,6 +310,13 @@ extern "C" {
     fn vcpu_answer(record: *mut Record, answer: *const [u64; 3], out: *mut [u64; 8]) -> u64;
     fn vcpu_complete_load(record: *mut Record, number: u64) -> u64;
     fn vcpu_to_print(record: *const Record, length: u64) -> u64;
+    fn vcpu_post_row(record: *mut Record, posts: *const [u64; 2], count: usize) -> PostedWords;
+}
+
+#[repr(C)]
+struct PostedWords {
+    applied: u64,
+    refusal: u64,
 }
 
 /// Makes the call on the library. Where it takes an `out`, each of its words is `fill` before; where it takes none, 0.
@@ -283,6 +324,12 @@ pub fn by_library(record: &mut Record, call: &Call, fill: u64) -> Reply {
     let [kind, a, b, c, d, e] = *call;
     let mut out = [if matches!(kind, 3 | 10 | 11) { fill } else { 0 }; 8];
     let r: *mut Record = record;
+    if kind == 15 {
+        let posts = row_of(call);
+        // SAFETY: as below
+        let given = unsafe { vcpu_post_row(r, posts.as_ptr(), posts.len()) };
+        return rowed(given.applied, given.refusal);
+    }
     // SAFETY: the words are ours and do not overlap; every pattern is allowed.
     let code = unsafe {
         match kind {
@@ -397,6 +444,11 @@ pub fn by_interface(vcpu: &mut api::Vcpu, call: &Call) -> Option<Reply> {
             *vcpu = api::Vcpu::new(a, b);
             0x40
         }
+        15 => {
+            let posts: Vec<_> = row_of(call).into_iter().map(|[vector, level]| api::Post { vector, level }).collect();
+            let api::Posted { applied, refusal } = vcpu.post(&posts);
+            return Some(rowed(applied as u64, refusal.map_or(0, api::Refusal::number)));
+        }
         _ => unreachable!(),
     };
     Some(Reply { code, out })
@@ -473,6 +525,10 @@ fn step(result: Result<api::Step, api::Error>, out: &mut [u64; 8]) -> u64 {
 /// Makes the call on from01. The reply in the words of the library: a hypercall's array stands from word 2 of `out` on.
 pub fn by_from01(record: &mut Record, call: &Call) -> Reply {
     let [kind, numbers @ ..] = *call;
+    if kind == 15 {
+        let given = from01::post(record, &row_of(call));
+        return rowed(given.applied, given.refusal);
+    }
     let reply = from01::call(record, kind, numbers);
     let mut out = reply.values;
     if (reply.kind, reply.number) == (0, 6) {

@@ -1,7 +1,7 @@
 //! The proved library by the exported functions of crates in_place_*: a record of
 //! words that is changed where it lies, and a word for what a call came to.
 
-use model::{Call, Reply, Vcpu};
+use model::{Call, Post, Posted, Reply, Vcpu};
 
 use crate::record_words::*;
 use crate::subject::Subject;
@@ -19,6 +19,7 @@ extern "C" {
     fn vcpu_set_return_value(record: *mut Words, value: u64) -> u64;
     fn vcpu_set_nested_page_table(record: *mut Words, levels: u64, mode: u64, root: u64) -> u64;
     fn vcpu_set_pending(record: *mut Words, vector: u64, level: u64) -> u64;
+    fn vcpu_post_row(record: *mut Words, posts: *const Post, count: usize) -> PostedWords;
     fn vcpu_latch_hvip(record: *mut Words, bits: u64) -> u64;
     fn vcpu_complete_ipi(record: *mut Words, abi: u64, completion: u64) -> u64;
     fn vcpu_to_print(record: *const Words, length: u64) -> u64;
@@ -79,6 +80,12 @@ pub fn call_words(record: &mut Words, kind: u64, [a, b, c, d, e]: [u64; 5]) -> R
     }
 }
 
+/// A row of posts, on a record by words.
+pub fn post_words(record: &mut Words, posts: &[Post]) -> PostedWords {
+    // A post is repr(C), the count is the row's, and both live for the call.
+    unsafe { vcpu_post_row(record, posts.as_ptr(), posts.len()) }
+}
+
 pub struct InPlace(pub Words);
 
 impl Subject for InPlace {
@@ -94,9 +101,21 @@ impl Subject for InPlace {
         record_of(&self.0)
     }
 
+    fn words(&self) -> Words {
+        self.0
+    }
+
     fn call(&mut self, call: &Call) -> Reply {
         let (kind, numbers) = words_of_call(call);
         reply_of(&call_words(&mut self.0, kind, numbers))
+    }
+
+    fn post_one(&mut self, post: &Post) -> Reply {
+        reply_of(&call_words(&mut self.0, 7, [post.vector, post.level, 0, 0, 0]))
+    }
+
+    fn post(&mut self, posts: &[Post]) -> Posted {
+        posted_of(&post_words(&mut self.0, posts))
     }
 
     fn to_print<'a>(&self, buffer: &'a [u8]) -> &'a [u8] {

@@ -18,10 +18,13 @@ mod input;
 mod instructions;
 mod options;
 mod outcome;
+mod posts;
 mod random;
 #[cfg(any(has_abi, has_in_place))]
 mod record_words;
 mod refusals;
+#[cfg(test)]
+mod row_faults;
 mod run;
 mod rust_side;
 mod sequence;
@@ -75,6 +78,7 @@ fn main() -> ExitCode {
             false
         }
         Mode::Words => run_words(&options),
+        Mode::Posts => run_posts(&options, subject),
         Mode::Switches => run_switches(&options, subject),
         _ => run_traps(&options, subject),
     };
@@ -143,11 +147,19 @@ fn run_switches(options: &Options, subject: &mut dyn Subject) -> bool {
 fn run_words(options: &Options) -> bool {
     let entry = match options.subject {
         #[cfg(has_abi)]
-        SubjectName::Abi => wild_words::Entry { name: "abi", call: abi::call_words, any_kind: true },
+        SubjectName::Abi => wild_words::Entry {
+            name: "abi",
+            call: abi::call_words,
+            post: abi::post_words,
+            any_kind: true,
+        },
         #[cfg(has_in_place)]
-        SubjectName::InPlace => {
-            wild_words::Entry { name: "in-place", call: in_place::call_words, any_kind: false }
-        }
+        SubjectName::InPlace => wild_words::Entry {
+            name: "in-place",
+            call: in_place::call_words,
+            post: in_place::post_words,
+            any_kind: false,
+        },
         // Not reached: main has said that the library is missing.
         _ => return false,
     };
@@ -169,6 +181,24 @@ fn run_words(options: &Options) -> bool {
 #[cfg(not(any(has_abi, has_in_place)))]
 fn run_words(_options: &Options) -> bool {
     false
+}
+
+/// True if every row agreed with its posts one by one and with from01.
+fn run_posts(options: &Options, subject: &mut dyn Subject) -> bool {
+    println!("seed {}, subject {}", options.seed, subject.name());
+    let mut random = Random::new(options.seed);
+    // At each place the model would take minutes.
+    let each = options.subject != SubjectName::Model;
+    match posts::run(&mut random, subject, &posts::LENGTHS, each) {
+        Ok(rows) => {
+            println!("{rows} rows, 0 unexplained");
+            true
+        }
+        Err(text) => {
+            println!("mismatch: {text}\n1 unexplained");
+            false
+        }
+    }
 }
 
 fn write_captures(mut options: Options, subject: &mut dyn Subject) -> ExitCode {
@@ -202,20 +232,22 @@ fn write_captures(mut options: Options, subject: &mut dyn Subject) -> ExitCode {
 fn run_refusals(options: &Options, subject: &mut dyn Subject) -> bool {
     println!("seed {}, subject {}", options.seed, subject.name());
     let mut random = Random::new(options.seed);
-    let mut refused = [0; 8];
+    let mut tally = refusals::Tally::default();
     let mut calls = 0;
     while calls < options.traps {
-        if let Err(text) = refusals::run(&mut random, options.length, subject, &mut refused) {
+        if let Err(text) = refusals::run(&mut random, options.length, subject, &mut tally) {
             println!("mismatch: {text}\n1 unexplained");
             return false;
         }
         calls += options.length;
     }
     for number in 1..8 {
-        println!("refusal or error {number}{:>12}", refused[number]);
+        println!("refusal or error {number}{:>12}", tally.refused[number]);
     }
+    let [whole, by_1, by_2] = tally.rows;
+    println!("rows of posts{whole:>17}, stopped by 1 {by_1}, by 2 {by_2}");
     println!("{calls} calls, 0 unexplained");
-    if refused[1..].contains(&0) {
+    if tally.refused[1..].contains(&0) || tally.rows.contains(&0) {
         println!("a number was not reached");
         return false;
     }

@@ -13,11 +13,14 @@ pub enum Mode {
     Sequence,
     /// Half and half.
     Both,
-    /// Calls out of turn, judged by the model; `--traps` counts calls.
+    /// Calls and rows out of turn, judged by the model; `--traps` counts calls.
     Refusals,
-    /// Calls and records of any words, judged by from01; `--traps` counts
-    /// calls.
+    /// Calls, rows and records of any words, judged by from01; `--traps`
+    /// counts calls.
     Words,
+    /// Rows of posts that are stopped at each place, judged by the subject's
+    /// own call for one post and by from01.
+    Posts,
     /// A run for each switch with it off, up to the first mismatch.
     Switches,
 }
@@ -25,7 +28,7 @@ pub enum Mode {
 #[derive(Clone, Copy, PartialEq, Eq)]
 pub enum SubjectName {
     Model,
-    /// The proved library by crate words_entry's one exported function.
+    /// The proved library by crate words_entry's exported functions.
     Abi,
     /// The proved library by the exported functions of crates in_place_*.
     InPlace,
@@ -49,7 +52,7 @@ pub struct Options {
 
 const USAGE: &str = "\
 usage: diff [--subject model|abi|in-place] [--seed N] [--traps N]
-            [--mode single|sequence|both|refusals|words|switches]
+            [--mode single|sequence|both|refusals|words|posts|switches]
             [--length N] [--only CLASS]... [--off SWITCH]... [--enough N]
             [--list] [--captures FOLDER]
 
@@ -57,12 +60,15 @@ Runs random traps on the published Rust and on the subject, and compares exit,
 requests and the whole later record. Ends with `0 unexplained` and status 0 if
 they agree but for the switches and everything was reached.
 
-Mode refusals compares calls in and out of turn on the subject and the model,
-and mode words any calls on any words, by the subject's entry and by from01, in
-every word; --traps counts calls there. Mode switches turns each switch off in
-turn and runs up to --traps traps: every switch must be needed. --enough is the
-number of mismatches that ends a run. --captures writes captures for the replay
-program with the Rust's output for each, and runs nothing else.";
+Mode refusals compares calls and rows of posts, in and out of turn, on the
+subject and the model, and mode words any calls and rows on any words, by the
+subject's entry and by from01, in every word; --traps counts calls there, and a
+row is one. Mode posts makes rows of 0 to 100,000 posts that are stopped at each
+place, and compares them with the same posts one by one and with from01; of the
+numbers it takes --seed alone. Mode switches turns each switch off in turn and
+runs up to --traps traps: every switch must be needed. --enough is the number of
+mismatches that ends a run. --captures writes captures for the replay program
+with the Rust's output for each, and runs nothing else.";
 
 /// The options, or the text to print instead of a run.
 pub fn read(mut args: impl Iterator<Item = String>) -> Result<Options, String> {
@@ -104,6 +110,7 @@ pub fn read(mut args: impl Iterator<Item = String>) -> Result<Options, String> {
                     "both" => Mode::Both,
                     "refusals" => Mode::Refusals,
                     "words" => Mode::Words,
+                    "posts" => Mode::Posts,
                     "switches" => Mode::Switches,
                     _ => return Err(USAGE.into()),
                 }

@@ -1,6 +1,6 @@
 //! What one trap or call came to, in numbers that every side can give.
 
-use model::{Exit, IpiAbi, Reply, Vcpu};
+use model::{Exit, IpiAbi, Posted, Reply, Vcpu};
 use scripted::Request;
 
 /// The exit's number, 0x100 and an error's number, or one of the others below.
@@ -14,6 +14,8 @@ pub struct Ending {
 pub const DONE: u64 = 0x200;
 /// A call's ending with a number.
 pub const VALUE: u64 = 0x201;
+/// The ending of a row of posts.
+pub const POSTED: u64 = 0x202;
 /// The published Rust panicked.
 pub const PANIC: u64 = 0x300;
 /// The published Rust was not run: it would ask for too much memory.
@@ -63,6 +65,18 @@ impl Ending {
         }
     }
 
+    pub fn of_row(posted: &Posted) -> Ending {
+        let stopped = posted.refusal.map(|error| Ending::error(error.number()));
+        Ending::row(posted.applied, stopped)
+    }
+
+    /// The ending of a row that applied so many posts, the next of which ended
+    /// otherwise than done.
+    pub fn row(applied: u64, stopped: Option<Ending>) -> Ending {
+        // No call ends with kind 0, an exit's.
+        Ending::new(POSTED, &[applied, stopped.map_or(0, |ending| ending.kind)])
+    }
+
     fn of_exit(exit: &Exit) -> Ending {
         let kind = exit.number();
         match *exit {
@@ -90,6 +104,12 @@ impl std::fmt::Debug for Ending {
         match self.kind {
             DONE => write!(f, "done"),
             VALUE => write!(f, "value {:#x}", self.data[0]),
+            POSTED => match self.data {
+                [applied, 0, ..] => write!(f, "{applied} posts applied"),
+                [applied, kind, ..] => {
+                    write!(f, "{applied} posts applied, then {:?}", Ending::new(kind, &[]))
+                }
+            },
             PANIC => write!(f, "panic"),
             NOT_RUN => write!(f, "not run: allocates too much"),
             ASK => write!(f, "ask {}", self.data[0]),

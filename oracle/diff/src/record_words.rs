@@ -19,6 +19,15 @@ pub struct ReplyWords {
     pub args: [u64; 6],
 }
 
+/// What a row of posts gives back, in words: how many were applied, and the
+/// refusal's number or 0.
+#[repr(C)]
+#[derive(Clone, Copy, Debug, PartialEq, Eq)]
+pub struct PostedWords {
+    pub applied: u64,
+    pub refusal: u64,
+}
+
 /// The record that the words stand for. Words that what waits doesn't carry
 /// count for nothing.
 pub fn record_of(words: &Words) -> Vcpu {
@@ -116,6 +125,12 @@ pub fn reply_of(words: &ReplyWords) -> Reply {
         stray("reply", &words.values);
     }
     reply
+}
+
+/// What a row came to, by its words.
+pub fn posted_of(words: &PostedWords) -> Posted {
+    let refusal = (words.refusal != 0).then(|| error_of(words.refusal));
+    Posted { applied: words.applied, refusal }
 }
 
 /// An exit by its number and values; a hypercall's arguments stand apart.

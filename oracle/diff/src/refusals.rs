@@ -1,44 +1,64 @@
-//! Calls in and out of turn on the subject and on the model. The Rust has no
-//! counterpart of refusals 1, 2 and 7 and of load completions, so the model
-//! judges these.
+//! Calls and rows of posts, in and out of turn, on the subject and on the
+//! model. The Rust has no counterpart of refusals 1, 2 and 7 and of load
+//! completions, so the model judges these.
 
 use model::*;
 
-use crate::calls::{random_call, vector};
+use crate::calls::{random_call, row, vector, Step};
 use crate::generate;
 use crate::instructions::*;
 use crate::random::Random;
 use crate::subject::{Model, Subject};
 
-/// How often each number was refused, at its index.
-pub type Refused = [u64; 8];
+#[derive(Default)]
+pub struct Tally {
+    /// How often each number was refused, at its index; at 0 what was not.
+    pub refused: [u64; 8],
+    /// How often each number stopped a row of posts, at its index; whole rows
+    /// at 0.
+    pub rows: [u64; 3],
+}
+
+/// What a step came to.
+#[derive(Debug, PartialEq)]
+enum Came {
+    Reply(Reply),
+    Posted(Posted),
+}
 
 /// Makes `length` calls on one record; the mismatch in words if there is one.
 pub fn run(
     r: &mut Random,
     length: u64,
     subject: &mut dyn Subject,
-    refused: &mut Refused,
+    tally: &mut Tally,
 ) -> Result<(), String> {
     let mut judge = Model(generate::record(r));
     subject.load(&judge.0);
     for _ in 0..length {
         let before = judge.record();
-        let call = any_call(r, &before);
-        let (due, is) = (judge.call(&call), subject.call(&call));
-        if let Reply::Error(error) = due {
-            refused[error.number() as usize] += 1;
-            let quiet = matches!(error.number(), 1 | 2 | 7);
-            if quiet && judge.0 != before {
-                return Err(format!("the model changed its record in a refused {call:x?}"));
-            }
+        let step = any_step(r, &before);
+        let (due, is) = (make(&mut judge, &step), make(subject, &step));
+        let (error, applied) = match due {
+            Came::Reply(Reply::Error(error)) => (Some(error), 0),
+            Came::Reply(_) => (None, 1),
+            Came::Posted(posted) => (posted.refusal, posted.applied),
+        };
+        let number = error.map_or(0, Error::number) as usize;
+        tally.refused[number] += 1;
+        if let Came::Posted(_) = due {
+            tally.rows[number] += 1;
+        }
+        let quiet = matches!(number, 1 | 2 | 7) && applied == 0;
+        if quiet && judge.0 != before {
+            return Err(format!("the model changed its record in a refused {step:x?}"));
         }
         let buffer: [u8; 64] = std::array::from_fn(|i| i as u8);
         let lent = &buffer[..r.below(65) as usize];
         let same_bytes = judge.to_print(lent) == subject.to_print(lent);
         if due != is || judge.0 != subject.record() || !same_bytes {
             return Err(format!(
-                "{call:x?}\n  on {before:x?}\n  model {due:x?}\n    {:x?}\n  {} {is:x?}\n    {:x?}\n",
+                "{step:x?}\n  on {before:x?}\n  model {due:x?}\n    {:x?}\n  {} {is:x?}\n    {:x?}\n",
                 judge.0,
                 subject.name(),
                 subject.record(),
@@ -48,16 +68,24 @@ pub fn run(
     Ok(())
 }
 
-/// Any call; half of them carry the trap on.
-fn any_call(r: &mut Random, record: &Vcpu) -> Call {
+/// Makes the call, or posts the row.
+fn make(subject: &mut dyn Subject, step: &Step) -> Came {
+    match step {
+        Step::Call(call) => Came::Reply(subject.call(call)),
+        Step::Row(posts) => Came::Posted(subject.post(posts)),
+    }
+}
+
+/// Any call or row; half of them carry the trap on.
+fn any_step(r: &mut Random, record: &Vcpu) -> Step {
     if r.coin() {
-        return match record.waiting {
+        return Step::Call(match record.waiting {
             Waiting::Nothing => start(r, record),
             Waiting::Load { .. } => Call::CompleteLoad { number: r.edgy() },
             waiting => Call::Answer(fitting_answer(r, &waiting)),
-        };
+        });
     }
-    match r.below(5) {
+    Step::Call(match r.below(6) {
         0 => Call::SetVirtualInterruptPending { vector: vector(r), pending: r.coin() },
         1 => start(r, record),
         2 if r.once_in(4) => Call::Answer(Answer::Other { number: r.pick(&[0, 10, u64::MAX]) }),
@@ -66,8 +94,9 @@ fn any_call(r: &mut Random, record: &Vcpu) -> Call {
             Call::Answer(fitting_answer(r, &kind))
         }
         3 => Call::CompleteLoad { number: r.edgy() },
+        4 => return Step::Row(row(r)),
         _ => random_call(r),
-    }
+    })
 }
 
 /// A trap by its numbers alone: the record stays as it is, so that an ecall

@@ -2,7 +2,7 @@
 
 use std::panic::{catch_unwind, AssertUnwindSafe};
 
-use model::{Call, IpiAbi, IpiCompletion, Trap, Vcpu, Waiting, Width};
+use model::{Call, IpiAbi, IpiCompletion, Trap, Vcpu, Waiting, Width, INTERRUPT};
 use published::host::Scripted;
 use published::regs::{GprIndex, VirtualHsCsrs, VsCsrs};
 use published::types::{
@@ -286,6 +286,9 @@ impl RustSide {
 
     /// Makes a call between traps; none where the Rust has no such call.
     pub fn call(&mut self, call: &Call) -> Option<Outcome> {
+        if let Call::SetVirtualInterruptPending { vector, pending } = *call {
+            return self.set_pending(vector, pending);
+        }
         scripted::begin(&Script::ZERO, self.counts);
         let ending = self.ending_of_call(call)?;
         let strays = match call {
@@ -303,6 +306,34 @@ impl RustSide {
             strays,
             ..Outcome::new(ending, self.record())
         })
+    }
+
+    /// The Rust's own function for it is private. `inject_interrupt` reaches it
+    /// to set a bit, and with a vector that is not allowed, which is refused
+    /// whatever the level; `set_vseip_level`, legacy 3 and the timer clear.
+    fn set_pending(&mut self, vector: u64, pending: bool) -> Option<Outcome> {
+        const SOFT: u64 = INTERRUPT + 1;
+        const TIMER: u64 = INTERRUPT + 5;
+        const EXTERNAL: u64 = INTERRUPT + 9;
+        let eid = match (vector, pending) {
+            (SOFT, false) => 3,
+            (TIMER, false) => 0,
+            (9 | EXTERNAL, false) => return self.call(&Call::SetVseipLevel { asserted: false }),
+            _ => return self.call(&Call::InjectInterrupt { vector }),
+        };
+        let (before, bound) = (self.record(), self.is_bound);
+        let mut given = Vcpu { sepc: 0, ..before.clone() };
+        given.x[17] = eid;
+        self.load(&given, bound, None);
+        let trap = Trap { scause: 10, stval: 0, htval: 0, htinst: 0, room: 0 };
+        let mut outcome = self.run_trap(&trap, &Script::ZERO);
+        // All else that the ecall did is taken back.
+        outcome.record = Vcpu { hvip: outcome.record.hvip, ..before };
+        self.load(&outcome.record, bound, None);
+        if outcome.ending == Ending::NOTHING {
+            outcome.ending = Ending::new(DONE, &[]);
+        }
+        Some(outcome)
     }
 
     fn ending_of_call(&mut self, call: &Call) -> Option<Ending> {

@@ -1,9 +1,9 @@
-//! Long sequences on one record: traps, load completions and the calls
-//! between traps, with what a guest's own run changes in between.
+//! Long sequences on one record: traps, load completions, the calls between
+//! traps and rows of posts, with what a guest's own run changes in between.
 
-use model::{Call, Vcpu, Waiting};
+use model::{Call, Post, Vcpu, Waiting};
 
-use crate::calls::random_call;
+use crate::calls::{random_step, Step};
 use crate::compare::run_both;
 use crate::generate;
 use crate::input::Input;
@@ -45,7 +45,7 @@ pub fn run(
             }
         }
         while r.once_in(3) {
-            one_call(&random_call(r), board, rust, subject, tally)?;
+            one_step(&random_step(r), board, rust, subject, tally)?;
         }
         record = subject.record();
         let class = r.pick(classes);
@@ -74,7 +74,7 @@ pub fn run(
         }
         if let Waiting::Load { .. } = record.waiting {
             while r.once_in(4) {
-                one_call(&random_call(r), board, rust, subject, tally)?;
+                one_step(&random_step(r), board, rust, subject, tally)?;
             }
             let call = Call::CompleteLoad { number: r.edgy() };
             tally.completions += 1;
@@ -82,6 +82,62 @@ pub fn run(
         }
     }
     Ok(())
+}
+
+fn one_step(
+    step: &Step,
+    board: &mut Board,
+    rust: &mut RustSide,
+    subject: &mut dyn Subject,
+    tally: &mut Tally,
+) -> Result<(), Parted> {
+    match step {
+        Step::Call(call) => one_call(call, board, rust, subject, tally),
+        Step::Row(posts) => one_row(posts, board, rust, subject, tally),
+    }
+}
+
+/// Posts the row on the subject in one call and on the Rust, which has no call
+/// for a row, one by one, and compares.
+fn one_row(
+    posts: &[Post],
+    board: &mut Board,
+    rust: &mut RustSide,
+    subject: &mut dyn Subject,
+    tally: &mut Tally,
+) -> Result<(), Parted> {
+    let before: Vcpu = subject.record();
+    tally.rows += 1;
+    let by_rust = rust_row(posts, board, rust);
+    let ending = Ending::of_row(&subject.post(posts));
+    let by_subject = Outcome::new(ending, subject.record());
+    if by_rust == by_subject {
+        return Ok(());
+    }
+    let text = by_rust.differences(&by_subject, ("Rust", subject.name()));
+    Err(Parted::Call(format!("a row, {posts:x?}\n{text}  on {before:x?}\n")))
+}
+
+/// The row on the Rust, up to the first post that is refused or shows more
+/// than an ending and a record.
+pub fn rust_row(posts: &[Post], board: &mut Board, rust: &mut RustSide) -> Outcome {
+    let mut row = Outcome::new(Ending::row(0, None), rust.record());
+    for (at, post) in posts.iter().enumerate() {
+        let pending = post.level != 0;
+        let call = Call::SetVirtualInterruptPending { vector: post.vector, pending };
+        let Some(mut one) = rust.call(&call) else {
+            break;
+        };
+        adjust_call(board, &call, &mut one);
+        let is_done = one.ending == Ending::new(DONE, &[]);
+        let is_bare = one == Outcome::new(one.ending, one.record.clone());
+        let stopped = (!is_done).then_some(one.ending);
+        row = Outcome { ending: Ending::row(at as u64 + is_done as u64, stopped), ..one };
+        if !is_done || !is_bare {
+            break;
+        }
+    }
+    row
 }
 
 /// Makes the call on both sides and compares.

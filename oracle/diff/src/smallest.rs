@@ -1,7 +1,7 @@
 //! The smallest input of each known difference, as docs/DIFFERENCES.md has
 //! it: the two sides part with the switch off and agree with it on.
 
-use model::{Call, Trap, Vcpu, EID_DBCN, EID_TIME};
+use model::{Call, Post, Trap, Vcpu, Waiting, Width, EID_DBCN, EID_TIME, INTERRUPT};
 use scripted::{Fetched, Script};
 
 use crate::compare::run_both;
@@ -9,6 +9,7 @@ use crate::input::Input;
 use crate::options::SubjectName;
 use crate::outcome::*;
 use crate::rust_side::RustSide;
+use crate::sequence::rust_row;
 use crate::subject::Subject;
 use crate::subject_named;
 use crate::switches::{adjust_call, Board, SWITCHES};
@@ -161,6 +162,45 @@ fn set_timer_needs_no_switch() {
             }
         }
     }
+}
+
+/// 02, W4: a row is the Rust's posts one by one, with every switch off but the
+/// one for a vector that is not allowed.
+#[test]
+fn a_row_is_the_rusts_posts_one_by_one() {
+    let mut board = Board::all_on();
+    for (_, name, _) in SWITCHES.iter().filter(|(_, name, _)| *name != "vector-error") {
+        assert!(board.turn_off(name));
+    }
+    let (soft, timer, external) = (INTERRUPT + 1, INTERRUPT + 5, INTERRUPT + 9);
+    let waiting = Waiting::Load { rd: 5, width: Width::One, signed: true };
+    let mut rust = RustSide::new();
+    for mut subject in subjects() {
+        for vector in [soft, timer, external, 9, 0, 1, 5, 8, 10, soft + 1, u64::MAX] {
+            for level in [0, 1, 2, 1 << 63, u64::MAX] {
+                for hvip in [0, 0x444, !0x444, u64::MAX] {
+                    for bound in [false, true] {
+                        let post = Post { vector, level };
+                        let other = Post { vector: soft, level: (level == 0) as u64 };
+                        let record = Vcpu { hvip, waiting, sepc: u64::MAX, ..Vcpu::zero() };
+                        rust.load(&record, bound, None);
+                        subject.load(&record);
+                        let by_rust = rust_row(&[other, post, other], &mut board, &mut rust);
+                        let ending = Ending::of_row(&subject.post(&[other, post, other]));
+                        let by_subject = Outcome::new(ending, subject.record());
+                        assert_eq!(by_rust, by_subject, "{post:x?} {hvip:x} {bound}");
+                        assert_eq!(rust.record(), by_rust.record);
+                    }
+                }
+            }
+        }
+        // The empty row.
+        let empty = rust_row(&[], &mut board, &mut rust);
+        assert_eq!(empty.ending, Ending::of_row(&subject.post(&[])));
+    }
+    let mut rust = RustSide::new();
+    let row = rust_row(&[Post { vector: 0, level: 0 }], &mut off("vector-error"), &mut rust);
+    assert_eq!(row.ending, Ending::row(0, Some(Ending::error(3))));
 }
 
 #[test]

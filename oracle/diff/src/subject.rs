@@ -1,7 +1,9 @@
 //! What is judged against the published Rust: anything that keeps 01's
 //! record and takes 01's calls.
 
-use model::{Answer, Ask, Call, FetchAnswer, GuestPhysAddr, GuestVirtAddr, Reply, Trap, Vcpu};
+use model::{
+    Answer, Ask, Call, FetchAnswer, GuestPhysAddr, GuestVirtAddr, Post, Posted, Reply, Trap, Vcpu,
+};
 use scripted::{digest, pattern, Fetched, Request, Script};
 
 use crate::outcome::{Ending, Outcome};
@@ -15,8 +17,17 @@ pub trait Subject {
     /// The whole record.
     fn record(&self) -> Vcpu;
 
+    /// The whole record as words, also those that what waits doesn't carry.
+    fn words(&self) -> [u64; 58];
+
     /// Makes one of 01's calls.
     fn call(&mut self, call: &Call) -> Reply;
+
+    /// Makes one post by 01's call, the level as it is.
+    fn post_one(&mut self, post: &Post) -> Reply;
+
+    /// Posts a row by 02's call.
+    fn post(&mut self, posts: &[Post]) -> Posted;
 
     /// The bytes to print of the lent buffer.
     fn to_print<'a>(&self, buffer: &'a [u8]) -> &'a [u8];
@@ -38,8 +49,20 @@ impl Subject for Model {
         self.0.clone()
     }
 
+    fn words(&self) -> [u64; 58] {
+        self.0.to_words()
+    }
+
     fn call(&mut self, call: &Call) -> Reply {
         self.0.call(call)
+    }
+
+    fn post_one(&mut self, post: &Post) -> Reply {
+        self.0.set_virtual_interrupt_pending(post.vector, post.level != 0)
+    }
+
+    fn post(&mut self, posts: &[Post]) -> Posted {
+        self.0.post(posts)
     }
 
     fn to_print<'a>(&self, buffer: &'a [u8]) -> &'a [u8] {

@@ -329,7 +329,9 @@ pub fn adjust_call(board: &mut Board, call: &Call, rust: &mut Outcome) {
         Call::SetGpr { index, .. } if index > 31 => {
             (RegisterIndex, rust.ending == Ending::new(DONE, &[]))
         }
-        Call::InjectInterrupt { vector } if !allowed(vector) => {
+        Call::InjectInterrupt { vector } | Call::SetVirtualInterruptPending { vector, .. }
+            if !allowed(vector) =>
+        {
             (VectorError, rust.ending == Ending::error(3))
         }
         _ => return,

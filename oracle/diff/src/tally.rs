@@ -21,6 +21,8 @@ const ASKS: [&str; 9] = [
 pub struct Tally {
     pub traps: u64,
     pub calls: u64,
+    /// Rows of posts.
+    pub rows: u64,
     pub completions: u64,
     pub unexplained: u64,
     classes: [u64; CLASSES.len()],
@@ -34,6 +36,7 @@ impl Tally {
         Tally {
             traps: 0,
             calls: 0,
+            rows: 0,
             completions: 0,
             unexplained: 0,
             classes: [0; CLASSES.len()],
@@ -93,6 +96,7 @@ impl Tally {
             row("error ", &number.to_string(), self.errors[number], all);
         }
         row("", "calls between traps", self.calls, false);
+        row("", "rows of posts", self.rows, false);
         row("", "load completions", self.completions, false);
         for (at, (_, name, text)) in SWITCHES.iter().enumerate() {
             let state = if board.is_on(at) { "" } else { " (off)" };

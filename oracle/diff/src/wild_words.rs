@@ -1,19 +1,23 @@
-//! Random calls on random words by one entry of the proved library, each held
-//! to from01 in every word of the reply and of the record: unknown kinds,
-//! numbers that are no ask's, waiting parts that no call leaves, words beside
-//! them that are nobody's.
+//! Random calls and rows of posts on random words by one entry of the proved
+//! library, each held to from01 in every word of the reply and of the record:
+//! unknown kinds, numbers that are no ask's, waiting parts that no call leaves,
+//! words beside them that are nobody's.
 
-use crate::calls::{root, vector};
+use model::{Post, Vcpu};
+
+use crate::calls::{root, row, vector};
 use crate::generate;
 use crate::instructions::*;
 use crate::random::Random;
-use crate::record_words::{ReplyWords, Words};
+use crate::record_words::{PostedWords, ReplyWords, Words};
 
 /// An entry over words.
 pub struct Entry {
     pub name: &'static str,
     /// Makes the call of this kind with these numbers.
     pub call: fn(&mut Words, u64, [u64; 5]) -> ReplyWords,
+    /// Posts a row.
+    pub post: fn(&mut Words, &[Post]) -> PostedWords,
     /// Whether it can be given a kind that is no call's.
     pub any_kind: bool,
 }
@@ -46,10 +50,16 @@ pub struct Tally {
     printed: u64,
     /// Loads and stores by a fetched 16-bit word.
     compressed: [u64; 2],
+    /// Rows of posts by what waits, and by the refusal that stopped them, 0
+    /// where none did.
+    rows: [u64; WAITING as usize + 2],
+    stops: [u64; 3],
+    /// Rows that were stopped behind posts that were applied.
+    late: u64,
 }
 
 impl Tally {
-    fn rows(&self) -> [(&'static str, &[u64]); 8] {
+    fn rows(&self) -> [(&'static str, &[u64]); 10] {
         [
             ("call", &self.kinds),
             ("waits", &self.waiting),
@@ -59,12 +69,14 @@ impl Tally {
             ("done", &self.done),
             ("value", &self.values),
             ("error", &self.errors),
+            ("row on", &self.rows),
+            ("stop", &self.stops),
         ]
     }
 
     /// Prints the counts; true if everything was reached.
     pub fn print(&self, entry: &Entry) -> bool {
-        let mut reached = self.printed != 0 && !self.compressed.contains(&0);
+        let mut reached = self.printed != 0 && self.late != 0 && !self.compressed.contains(&0);
         for (what, row) in self.rows() {
             for (number, count) in row.iter().enumerate() {
                 // Asks and errors are from 1 on; kinds of call too, and to
@@ -81,6 +93,7 @@ impl Tally {
         println!("bytes to print{:>9}", self.printed);
         println!("16-bit loads{:>11}", self.compressed[0]);
         println!("16-bit stores{:>10}", self.compressed[1]);
+        println!("stopped late{:>11}", self.late);
         if !reached {
             println!("a number was not reached");
         }
@@ -103,11 +116,37 @@ impl Tally {
     }
 }
 
-/// Makes one call on a record of any words; the mismatch in words if there is
-/// one.
+/// Makes one call or posts one row on a record of any words; the mismatch in
+/// words if there is one.
 pub fn one(r: &mut Random, entry: &Entry, tally: &mut Tally) -> Result<(), String> {
-    let (before, kind, numbers) = drawn(r, entry.any_kind);
     tally.calls += 1;
+    if r.once_in(16) {
+        one_row(r, entry, tally)
+    } else {
+        one_call(r, entry, tally)
+    }
+}
+
+fn one_row(r: &mut Random, entry: &Entry, tally: &mut Tally) -> Result<(), String> {
+    let before = words_of(&generate::record(r), &waiting(r, 7));
+    let posts = row(r);
+    let pairs: Vec<[u64; 2]> = posts.iter().map(|post| [post.vector, post.level]).collect();
+    let (mut due_words, mut words) = (before, before);
+    let due = from01::post(&mut due_words, &pairs);
+    let is = (entry.post)(&mut words, &posts);
+    Tally::count(&mut tally.rows, before[54]);
+    Tally::count(&mut tally.stops, due.refusal);
+    tally.late += (due.refusal != 0 && due.applied != 0) as u64;
+    if (is.applied, is.refusal, words) == (due.applied, due.refusal, due_words) {
+        return Ok(());
+    }
+    let mut text = format!("row {pairs:x?} on {before:x?}\n");
+    text += &format!("  from01 {due:x?}\n  {} {is:x?}\n", entry.name);
+    Err(text + &differences(entry, &before, &due_words, &words))
+}
+
+fn one_call(r: &mut Random, entry: &Entry, tally: &mut Tally) -> Result<(), String> {
+    let (before, kind, numbers) = drawn(r, entry.any_kind);
     Tally::count(&mut tally.kinds, kind);
     Tally::count(&mut tally.waiting, before[54]);
     if kind == 11 {
@@ -129,11 +168,24 @@ pub fn one(r: &mut Random, entry: &Entry, tally: &mut Tally) -> Result<(), Strin
     }
     let mut text = format!("call {kind} {numbers:x?} on {before:x?}\n");
     text += &format!("  from01 {due:x?}\n  {} {is:x?}\n", entry.name);
-    for at in (0..58).filter(|&at| words[at] != due_words[at]) {
-        let (was, due, is) = (before[at], due_words[at], words[at]);
+    Err(text + &differences(entry, &before, &due_words, &words))
+}
+
+/// The words that differ, one on each line.
+fn differences(entry: &Entry, before: &Words, due: &Words, is: &Words) -> String {
+    let mut text = String::new();
+    for at in (0..58).filter(|&at| is[at] != due[at]) {
+        let (was, due, is) = (before[at], due[at], is[at]);
         text += &format!("  word {at} was {was:x}, from01 {due:x}, {} {is:x}\n", entry.name);
     }
-    Err(text)
+    text
+}
+
+/// A record's words with these waiting words.
+fn words_of(record: &Vcpu, waiting: &[u64; 4]) -> Words {
+    let mut words = record.to_words();
+    words[54..].copy_from_slice(waiting);
+    words
 }
 
 /// A record of random words, a call and its numbers. Half of the calls start a
@@ -166,9 +218,7 @@ fn drawn(r: &mut Random, any_kind: bool) -> (Words, u64, [u64; 5]) {
         13 => numbers[0] = length(r, waiting[1]),
         _ => {}
     }
-    let mut words = record.to_words();
-    words[54..].copy_from_slice(&waiting);
-    (words, kind, numbers)
+    (words_of(&record, &waiting), kind, numbers)
 }
 
 /// Four waiting words; half of them are of a kind that the call asks for.

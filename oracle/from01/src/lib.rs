@@ -4,7 +4,7 @@
 //!
 //! It is written to be read beside 01 and the requests of 02 that have landed:
 //! each rule stands under the sentence that it follows. Quotes are 01's; one
-//! from a request has the request's name behind it, as "(W1)" or "(W2)".
+//! from a request has the request's name behind it: "(W1)", "(W2)", "(W4)".
 //! "(reading)" marks a point that they leave open and a recorded reading
 //! settles, "(words)" one of the layout as words. Where they name a form of the
 //! ISA, its fields are the ISA's.
@@ -14,12 +14,16 @@
 mod compressed;
 mod ecall;
 mod fault;
+mod posts;
+#[cfg(test)]
+mod posts_tests;
 mod record;
 mod reply;
 #[cfg(test)]
 mod tests;
 mod trap;
 
+pub use posts::{post, Post, Posted};
 use record::*;
 pub use reply::Reply;
 use reply::*;

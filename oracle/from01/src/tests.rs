@@ -1,13 +1,14 @@
 //! The marked cases, the refusal table, the rules of the waiting words and
 //! each rule of 01 by an example; then W1 and W2, each with what it says stays.
+//! W4 stands in posts_tests.rs.
 
 use super::*;
 
-const TOP: u64 = 1 << 63;
+pub const TOP: u64 = 1 << 63;
 
 /// A record with a different number in each word and nothing waiting.
 /// hstatus bit 8 is clear.
-fn filled() -> [u64; 58] {
+pub fn filled() -> [u64; 58] {
     let mut words = [0; 58];
     for (i, word) in words.iter_mut().enumerate() {
         *word = 0x1111_0000_0000_0000 + 0x1_0000_0000 * i as u64 + 4 * i as u64;
@@ -18,11 +19,11 @@ fn filled() -> [u64; 58] {
 }
 
 /// `filled` with these words set.
-fn with(set: &[(usize, u64)]) -> [u64; 58] {
+pub fn with(set: &[(usize, u64)]) -> [u64; 58] {
     changed(filled(), set)
 }
 
-fn changed(mut words: [u64; 58], set: &[(usize, u64)]) -> [u64; 58] {
+pub fn changed(mut words: [u64; 58], set: &[(usize, u64)]) -> [u64; 58] {
     for &(word, number) in set {
         words[word] = number;
     }
@@ -1081,7 +1082,7 @@ const SET_TIMER: [(u64, u64); 4] = [(0, 0), (0, 1), (0, u64::MAX), (0x54494D45, 
 const HVIPS: [u64; 4] = [0, TICK, !TICK, u64::MAX];
 
 /// Each bit of hvip alone, and all bits but each.
-fn each_hvip() -> impl Iterator<Item = u64> {
+pub fn each_hvip() -> impl Iterator<Item = u64> {
     (0..64).flat_map(|bit| [1 << bit, !(1 << bit)])
 }
 

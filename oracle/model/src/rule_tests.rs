@@ -613,3 +613,242 @@ fn extension() {
         assert_eq!(width.extend(true, !top), top - 1);
     }
 }
+
+/// The four vectors that a post may have.
+const VECTORS: [u64; 4] = [INTERRUPT + 1, INTERRUPT + 5, 9, INTERRUPT + 9];
+
+/// 0 clears, any other sets.
+const LEVELS: [u64; 5] = [0, 1, 2, 1 << 63, u64::MAX];
+
+/// Vectors that no post may have: each stands close to one that it may.
+const NOT_ALLOWED: [u64; 8] = [0, 1, 5, 8, 10, INTERRUPT, INTERRUPT + 2, (1 << 32) + 9];
+
+/// Posts with vectors that are allowed, mixed.
+fn row(length: usize) -> Vec<Post> {
+    let mut number = length as u64;
+    let mut pick = |from: &[u64]| {
+        number = number.wrapping_mul(6364136223846793005).wrapping_add(1442695040888963407);
+        from[(number >> 33) as usize % from.len()]
+    };
+    // Half of the levels are 0.
+    let levels = [&[0; 3], &LEVELS[..]].concat();
+    (0..length).map(|_| Post { vector: pick(&VECTORS), level: pick(&levels) }).collect()
+}
+
+/// The row with a vector that is not allowed at one place.
+fn with_bad_at(posts: &[Post], place: usize) -> Vec<Post> {
+    let mut posts = posts.to_vec();
+    if let Some(post) = posts.get_mut(place) {
+        post.vector = NOT_ALLOWED[place % NOT_ALLOWED.len()];
+    }
+    posts
+}
+
+/// The row's posts by the call for one, up to the first that is refused.
+fn one_by_one(v: &mut Vcpu, posts: &[Post]) -> Posted {
+    let mut applied = 0;
+    for post in posts {
+        match v.set_virtual_interrupt_pending(post.vector, post.level != 0) {
+            Reply::Error(error) => return Posted { applied, refusal: Some(error) },
+            reply => assert_eq!(reply, Reply::Done),
+        }
+        applied += 1;
+    }
+    Posted { applied, refusal: None }
+}
+
+/// A record in which every number is another.
+fn all_different() -> Vcpu {
+    let words = std::array::from_fn(|i| 0x5a5a_5a5a_5a5a_5a00 + i as u64);
+    Vcpu::from_words(&words, Waiting::Nothing)
+}
+
+/// 02, W4: "the same outcome as posting them one by one in order", with the
+/// refused post at each place and with none. A waiting load refuses nothing
+/// and goes on waiting.
+#[test]
+fn a_row_is_its_posts_one_by_one() {
+    for length in [0, 1, 2, 64] {
+        for place in 0..=length {
+            for waiting in [Waiting::Nothing, load()] {
+                for hvip in [0, u64::MAX, !0x444, 0x5a5a_5a5a_5a5a_5a40] {
+                    let posts = with_bad_at(&row(length), place);
+                    let before = Vcpu { hvip, waiting, ..all_different() };
+                    let (mut v, mut due) = (before.clone(), before.clone());
+                    let posted = v.post(&posts);
+                    assert_eq!(posted, one_by_one(&mut due, &posts), "{posts:?}");
+                    assert_eq!(v, due, "{posts:?}");
+                    // Nothing but the three bits, whatever the posts are.
+                    let three = 0x444;
+                    assert_eq!(v.hvip & !three, hvip & !three);
+                    assert_eq!(v, Vcpu { hvip: v.hvip, ..before });
+                    let refusal = (place < length).then_some(Error::InvalidInput);
+                    assert_eq!(posted, Posted { applied: place as u64, refusal });
+                }
+            }
+        }
+    }
+}
+
+/// 02, W4, with 100,000 posts: the places at both ends and every 499th.
+#[test]
+fn a_long_row_is_its_posts_one_by_one() {
+    const LENGTH: usize = 100_000;
+    let posts = row(LENGTH);
+    let before = Vcpu { waiting: load(), ..all_different() };
+    let mut v = before.clone();
+    // hvip before each post, and after the last.
+    let mut hvip = vec![v.hvip];
+    for post in &posts {
+        assert_eq!(one_by_one(&mut v, &[*post]), Posted { applied: 1, refusal: None });
+        hvip.push(v.hvip);
+    }
+    assert_eq!(v, Vcpu { hvip: v.hvip, ..before.clone() });
+    let ends = (0..70).chain(LENGTH - 70..=LENGTH);
+    for place in ends.chain((0..LENGTH).step_by(499)) {
+        let mut v = before.clone();
+        let refusal = (place < LENGTH).then_some(Error::InvalidInput);
+        let posted = v.post(&with_bad_at(&posts, place));
+        assert_eq!(posted, Posted { applied: place as u64, refusal });
+        assert_eq!(v, Vcpu { hvip: hvip[place], ..before.clone() }, "{place}");
+    }
+}
+
+/// 02, W4: refusal 2 goes before the first post is looked at, "for an empty
+/// row too, with 0 applied".
+#[test]
+fn a_waiting_ask_refuses_a_row() {
+    let page_fault = FetchFor::GuestPageFault { addr: GuestPhysAddr(7), write: true };
+    let others = [Waiting::Fetch(page_fault), Waiting::Emit(EmitFor::Legacy)];
+    for waiting in every_waiting().into_iter().chain(others) {
+        for length in [0, 1, 2, 64, 100_000] {
+            for place in [0, length / 2, length] {
+                let before = Vcpu { waiting, ..all_different() };
+                let mut v = before.clone();
+                let posted = v.post(&with_bad_at(&row(length), place));
+                assert_eq!(posted, Posted { applied: 0, refusal: Some(Error::BadState) });
+                assert_eq!(v, before);
+            }
+        }
+    }
+}
+
+/// 02, W4: "An empty row applies 0", and is refused by an ask alone.
+#[test]
+fn an_empty_row_applies_0() {
+    for waiting in [Waiting::Nothing, load()] {
+        let before = Vcpu { waiting, ..all_different() };
+        let mut v = before.clone();
+        assert_eq!(v.post(&[]), Posted { applied: 0, refusal: None });
+        assert_eq!(v, before);
+    }
+}
+
+/// 02, W4: what a level does to each of the three bits.
+#[test]
+fn levels_of_posts() {
+    for (vector, bit) in VECTORS.into_iter().zip([4, 0x40, 0x400, 0x400]) {
+        for level in LEVELS {
+            for hvip in [0, u64::MAX, bit, !bit] {
+                let later = if level == 0 { hvip & !bit } else { hvip | bit };
+                let mut v = Vcpu { hvip, ..all_different() };
+                let posted = v.post(&[Post { vector, level }]);
+                assert_eq!(posted, Posted { applied: 1, refusal: None });
+                assert_eq!(v, Vcpu { hvip: later, ..all_different() });
+            }
+        }
+    }
+}
+
+/// 02, W4: posts on one line, of which the last decides, and on several.
+#[test]
+fn posts_in_order() {
+    let (soft, timer, by_9) = (INTERRUPT + 1, INTERRUPT + 5, INTERRUPT + 9);
+    for (posts, hvip, later) in [
+        (&[(soft, 1), (soft, 0)][..], 0, 0),
+        (&[(soft, 0), (soft, 1)], 0, 4),
+        // 9 and 2^63 + 9 are one line.
+        (&[(9, 1), (by_9, 0)], 0, 0),
+        (&[(by_9, 1), (9, 0)], u64::MAX, !0x400),
+        (&[(by_9, 0), (9, 1)], 0, 0x400),
+        (&[(timer, 0), (soft, 0), (9, 0), (timer, 2)], u64::MAX, !0x404),
+        (&[(timer, 1), (9, 1), (soft, 1), (timer, 0)], 0, 0x404),
+    ] {
+        let posts: Vec<Post> =
+            posts.iter().map(|&(vector, level)| Post { vector, level }).collect();
+        let mut v = Vcpu { hvip, ..Vcpu::zero() };
+        v.post(&posts);
+        assert_eq!(v, Vcpu { hvip: later, ..Vcpu::zero() }, "{posts:x?}");
+    }
+}
+
+/// 02, W4: each vector's neighbours, by number and by bit, behind a good post
+/// and before one. The level of a refused post counts for nothing.
+#[test]
+fn vectors_of_posts() {
+    let before = Vcpu { hvip: 0x440, ..all_different() };
+    let mut not_allowed = 0;
+    for near in VECTORS {
+        let by_bit = (0..64).map(|bit| near ^ 1 << bit);
+        for vector in by_bit.chain([near.wrapping_add(1), near.wrapping_sub(1), !near]) {
+            for level in LEVELS {
+                let soft = |level| Post { vector: INTERRUPT + 1, level };
+                let posts = [soft(1), Post { vector, level }, soft(0)];
+                let (mut v, mut due) = (before.clone(), before.clone());
+                let posted = v.post(&posts);
+                assert_eq!(posted, one_by_one(&mut due, &posts), "{vector:x}");
+                assert_eq!(v, due, "{vector:x}");
+                if VECTORS.contains(&vector) {
+                    assert_eq!(posted, Posted { applied: 3, refusal: None });
+                } else {
+                    not_allowed += 1;
+                    let refusal = Some(Error::InvalidInput);
+                    assert_eq!(posted, Posted { applied: 1, refusal });
+                    assert_eq!(v, Vcpu { hvip: 0x444, ..all_different() });
+                }
+            }
+        }
+    }
+    // Of the 268 all but 6: +1 and +5, +1 and +9, 9 and 2^63 + 9, each from
+    // both sides.
+    assert_eq!(not_allowed, 262 * LEVELS.len());
+}
+
+/// 02, W4: posts behind the refused one are not looked at.
+#[test]
+fn a_second_bad_vector_changes_nothing() {
+    for place in 0..64 {
+        let posts = with_bad_at(&row(64), place);
+        let mut due = all_different();
+        let posted = due.post(&posts[..=place]);
+        assert_eq!(posted, Posted { applied: place as u64, refusal: Some(Error::InvalidInput) });
+        for second in place + 1..=64 {
+            let mut v = all_different();
+            assert_eq!(v.post(&with_bad_at(&posts, second)), posted);
+            assert_eq!(v, due);
+        }
+    }
+}
+
+/// 02, W4: a row that is cut in two and posted in two calls leaves the same
+/// record, unless the first was stopped.
+#[test]
+fn a_row_cut_in_two() {
+    for place in 0..=64 {
+        let posts = with_bad_at(&row(64), place);
+        let mut whole = all_different();
+        let posted = whole.post(&posts);
+        for cut in 0..=64 {
+            let mut v = all_different();
+            let first = v.post(&posts[..cut]);
+            if place < cut {
+                assert_eq!((first, &v), (posted, &whole));
+                continue;
+            }
+            assert_eq!(first, Posted { applied: cut as u64, refusal: None });
+            let second = v.post(&posts[cut..]);
+            assert_eq!(first.applied + second.applied, posted.applied);
+            assert_eq!((second.refusal, &v), (posted.refusal, &whole));
+        }
+    }
+}

@@ -308,3 +308,21 @@ pub enum Call {
     Answer(Answer),
     CompleteLoad { number: u64 },
 }
+
+/// One post of a row: an interrupt vector, and its level, of which 0 clears
+/// and any other sets. The two words of 02's exported form.
+#[repr(C)]
+#[derive(Clone, Copy, Debug, PartialEq, Eq)]
+pub struct Post {
+    pub vector: u64,
+    pub level: u64,
+}
+
+/// What a row of posts came to.
+#[derive(Clone, Copy, Debug, PartialEq, Eq)]
+pub struct Posted {
+    /// How many posts were applied.
+    pub applied: u64,
+    /// What stopped the row.
+    pub refusal: Option<Error>,
+}
