@@ -44,7 +44,7 @@ ROOT = os.path.dirname(os.path.dirname(os.path.abspath(__file__)))
 WORK = f"{ROOT}/target/mutants"
 RESULTS = f"{ROOT}/docs/mutants.jsonl"
 # A library whose functions promise safety alone, and the program whose output shows what they do.
-SHOWN_BY = {"test_call_lines": "test_call_list"}
+SHOWN_BY = {"test_call_lines": "test_call_list", "test_call_rows": "test_call_list"}
 SORTS = ("fact", "fact-new", "fit", "unfit", "run", "broken", "accepted")
 
 # ---- reading the code

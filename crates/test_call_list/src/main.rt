@@ -77,7 +77,7 @@ fn made(r: &mut [u64; 58], out: &mut [u64; 8], c: [u64; 8]) -> u64 {
         10 => started(r, out, trap_of(c)),
         11 => answered(r, out, [a, b, d]),
         13 => printed(r, out, a),
-        15 => test_call_rows::posted(r, out, [a, b, d, c[4], c[5]]),
+        15 => test_call_rows::posted(r, out, c),
         _ => silent(r, kind, a, b, d),
     }
 }

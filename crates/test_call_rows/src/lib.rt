@@ -1,11 +1,11 @@
-// A line of the fixed list of calls that makes a row of posts; docs/CALLS.md says how its numbers hold the row.
+// A row of posts, as a line of the fixed list of calls holds it; docs/CALLS.md says how.
 ghost use Prim.Native.Nat.{_<_, _≤_};
 use scope::Post;
 use scope::Posted;
 
-// Makes the row of a line's five numbers. The first word given is how many were applied.
-pub fn posted(r: &mut [u64; 58], out: &mut [u64; 8], numbers: [u64; 5]) -> u64 {
-    let p = lent(r, all(numbers), count(numbers[0]));
+// Makes the row in a line's words. The first word given is how many posts were applied.
+pub fn posted(r: &mut [u64; 58], out: &mut [u64; 8], words: [u64; 8]) -> u64 {
+    let p = lent(r, all(words), count(words[1]));
     out[0] = p.applied;
     if p.refusal == 0 {
         return 0x40;
@@ -29,13 +29,13 @@ fn count(n: u64) -> usize
     64
 }
 
-// The 64 posts that the last four numbers hold. Each takes the four lowest bits that are left of its number.
-fn all(numbers: [u64; 5]) -> [Post; 64] {
-    let mut left = numbers;
+// The 64 posts of the third word to the sixth. Each takes the four lowest bits that are left of its word.
+fn all(words: [u64; 8]) -> [Post; 64] {
+    let mut left = words;
     let mut posts = [post(0); 64];
     let mut i: usize = 0;
     while i < 64 {
-        let at = 1 + i / 16;
+        let at = 2 + i / 16;
         let bits = left[at];
         posts[i] = post(bits % 16);
         left[at] = bits / 16;

@@ -7,7 +7,7 @@ use Rattle.test_call_rows.proofs.all.Statement.{statement}
 use Rattle.test_call_rows.proofs.all.Tie as tie
 
 abbrev Inv-loop : tie.InvT-loop
-Inv-loop left₀ posts₀ i₀ left posts i = (i ≤ 64) × ((length posts ≡ 64) × (length left ≡ 5))
+Inv-loop left₀ posts₀ i₀ left posts i = (i ≤ 64) × ((length posts ≡ 64) × (length left ≡ 8))
 
 abbrev μ-loop : tie.MeasureT-loop
 μ-loop left₀ posts₀ i₀ left posts i = 64 - i
