@@ -1,8 +1,8 @@
 /* The proved exit handler of a RISC-V hypervisor, for a host in C. Link libin_place.a: tools/archive in_place makes it.
  *
  * Every function answers on every pattern of words, and touches only the words that it is lent. The pointers must be to words
- * that do not overlap. A refusal (1, 2, 7) changes nothing (of a row of posts: the refused post does); a trap that ends in an error (3 to 6) changed no
- * register and no CSR. */
+ * that do not overlap. A refusal (1, 2, 7) changes nothing; of a row of posts, the refused post changes nothing, and those before it
+ * stay. A trap that ends in an error (3 to 6) changed no register and no CSR. */
 #ifndef CURBIZZOLU_H
 #define CURBIZZOLU_H
 
@@ -155,9 +155,10 @@ uint64_t vcpu_set_return_value(struct vcpu *v, uint64_t value);
 uint64_t vcpu_set_nested_page_table(struct vcpu *v, uint64_t levels, uint64_t mode, uint64_t root);
 /* 2^63 + 1, 2^63 + 5, 9 or 2^63 + 9; level 0 clears, any other sets. */
 uint64_t vcpu_set_pending(struct vcpu *v, uint64_t vector, uint64_t level);
-/* The same for a row, in order, in one call. The first post that is refused stops it, changes nothing, and is number `applied`, counted
- * from 0; those before it stay applied, those behind it are not looked at. While an ask waits the row is refused before its first
- * post, an empty one too. With a count of 0 the pointer is not looked at. */
+/* The same for a row, in order, in one call. A vector that is not allowed stops it: the refusal is VCPU_INVALID_INPUT, that post is
+ * number `applied`, counted from 0, and changes nothing; those before it stay applied, those behind it are not looked at. While an ask
+ * waits the row is refused with VCPU_BAD_STATE before its first post, an empty one too. With a count of 0 the pointer is not looked
+ * at, and may be null. */
 struct vcpu_posted vcpu_post_row(struct vcpu *v, const struct vcpu_post *posts, size_t count);
 /* hvip |= bits. */
 uint64_t vcpu_latch_hvip(struct vcpu *v, uint64_t bits);

@@ -58,6 +58,22 @@ static void asks(void) {
     for (uint64_t n = 0; n <= 0x200; n++) check("vcpu_is_ask", n, vcpu_is_ask(n), n >= 0x21 && n <= 0x29);
 }
 
+/* A row of no posts, of which nothing is looked at, and a long one. */
+static void rows(void) {
+    static struct vcpu_post row[100000];
+    struct vcpu v;
+    vcpu_new(&v, 0, 0);
+    struct vcpu_posted none = vcpu_post_row(&v, NULL, 0);
+    check("a row of no posts at NULL", none.applied, none.applied == 0 && none.refusal == 0 && v.hvip == 0, 1);
+    for (size_t i = 0; i < 100000; i++)
+        row[i] = (struct vcpu_post){VCPU_VECTOR_TIMER, i % 2};
+    row[99999].vector = 5;
+    struct vcpu_posted most = vcpu_post_row(&v, row, 100000);
+    check("a row of 100000 posts, the last bad", most.applied, most.applied == 99999 && most.refusal == VCPU_INVALID_INPUT && v.hvip == 0, 1);
+    most = vcpu_post_row(&v, row, 99998);
+    check("a row of 99998 posts", most.applied, most.applied == 99998 && most.refusal == 0 && v.hvip == 1 << 6, 1);
+}
+
 int main(void) {
     crossing(21, 0x23503, 1);  /* ld a0, that began 4 bytes before the page */
     crossing(23, 0xa2b023, 1); /* sd a0, 5 bytes before */
@@ -65,6 +81,7 @@ int main(void) {
     for (unsigned i = 0; i < sizeof whole / sizeof *whole; i++) crossing(21, whole[i], 0), crossing(23, whole[i], 0);
     crossing(10, 0x23503, 0);
     hypercall();
+    rows();
     vectors();
     asks();
     return wrong != 0;

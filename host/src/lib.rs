@@ -46,7 +46,8 @@
 //! # Ok::<(), Error>(())
 //! ```
 //!
-//! Every call gives an answer on every record and argument. A [`Refusal`] changes nothing; a trap that ends in a
+//! Every call gives an answer on every record and argument. A [`Refusal`] changes nothing (of a row of posts, the refused post changes
+//! nothing, and those before it stay); a trap that ends in a
 //! [`TrapError`] changed no register and no CSR.
 
 #![no_std]

@@ -492,8 +492,9 @@ impl Post {
     }
 }
 
-/// What a row of posts gave: how many were applied, and the refusal that stopped it, if one did. Where one did, the refused post is
-/// number `applied`, counted from 0; it changed nothing.
+/// What a row of posts gave: how many were applied, and the refusal that stopped it, if one did. With [`Refusal::InvalidInput`] the
+/// refused post is number `applied`, counted from 0, and changed nothing; with [`Refusal::BadState`] the row, which may be empty, was
+/// refused before its first post.
 ///
 /// ```
 /// use curbizzolu::{Post, Posted, Refusal, Vcpu, S_SOFT, S_TIMER};
@@ -513,7 +514,8 @@ pub struct Posted {
 }
 
 impl Posted {
-    /// How many were applied, where nothing stopped the row: its length.
+    /// How many were applied, where nothing stopped the row: its length. Where something did, that alone is given: what was applied
+    /// before it stays, and is `applied`.
     pub const fn whole(self) -> Result<usize, Refusal> {
         match self.refusal {
             None => Ok(self.applied),
@@ -522,7 +524,7 @@ impl Posted {
     }
 }
 
-/// Why a call was refused. It changed nothing.
+/// Why a call was refused. It changed nothing; of a row of posts, the refused post changed nothing.
 ///
 /// ```
 /// use curbizzolu::{Refusal, Vcpu};

@@ -1,6 +1,6 @@
 // What the host's own calls do to a record: setup, entry, registers, page table, interrupts, IPI results.
 ghost use mathlib.Core.Path.{_≡_};
-ghost use Rattle.scope.specs.Host.{entryCsrs, ipiWrites, lineOf, pagingBy, pagingEffect, pendingEffect, setupCsrs, tableCsrs, writeEffect};
+ghost use Rattle.scope.specs.Host.{entryCsrs, ipiWrites, hvipBitOf, pagingBy, pagingEffect, pendingEffect, setupCsrs, tableCsrs, writeEffect};
 ghost use lib.Dec.{eqb};
 ghost use Rattle.isa_types.specs.Pick.{pick};
 ghost use Rattle.isa_consts.specs.Csr.{vseip, vssip, vstip};
@@ -78,8 +78,8 @@ pub fn pending_effect(c: Csrs, w: Waiting, vector: u64, on: bool) -> Effect
 }
 
 // The bit of hvip that a vector stands for, or 0.
-pub fn line_of(vector: u64) -> u64
-    ensures { λ r. ⌜ r ≡ lineOf vector ⌝ }
+fn line_of(vector: u64) -> u64
+    ensures { λ r. ⌜ r ≡ hvipBitOf vector ⌝ }
 {
     line_by(vector, isa_consts::is_supervisor_external(vector))
 }

@@ -9,7 +9,7 @@ use Rattle.scope.specs.declared.hosts.Post.{Post}
 use Rattle.scope.specs.declared.machine.RowOutcome.{RowOutcome}
 use Rattle.scope.specs.declared.machine.Vcpu.{Vcpu}
 use Rattle.scope.specs.declared.traps.Error.the-variants as error
-use Rattle.scope.specs.Host.{lineOf}
+use Rattle.scope.specs.Host.{hvipBitOf}
 use Rattle.scope.specs.Posts.{rowOf}
 use Rattle.scope.specs.Record.{pended, waitingAsk}
 use Rattle.scope.specs.Refusals.{errorNumber}
@@ -32,7 +32,7 @@ appliedBy s line on =
 
 -- one post; a row that was stopped stays
 unfoldable pub stepOf : Row → Post → Row
-stepOf s p = pick (eqb (s .refusal) 0) (appliedBy s (lineOf (p .vector)) (tested (p .level))) s
+stepOf s p = pick (eqb (s .refusal) 0) (appliedBy s (hvipBitOf (p .vector)) (tested (p .level))) s
 
 -- the row, in order
 unfoldable pub foldOf : Row → List Post → Row

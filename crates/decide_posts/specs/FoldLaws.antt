@@ -13,7 +13,7 @@ use Rattle.isa_consts.specs.Csr.{vseip, vssip, vstip}
 use Rattle.isa_consts.specs.Traps.{supervisorExternal, supervisorSoft, supervisorTimer}
 use Rattle.isa_types.specs.Pick.{pick}
 use Rattle.scope.specs.declared.hosts.Post.{Post}
-use Rattle.scope.specs.Host.{lineOf}
+use Rattle.scope.specs.Host.{hvipBitOf}
 use Rattle.scope.specs.Words.{tested}
 use Rattle.decide_posts.specs.declared.Row.{Row}
 use Rattle.decide_posts.specs.Fold.{appliedBy, foldOf, nextOf, stepOf}
@@ -82,7 +82,7 @@ one-at-most s line on false h = rw h (le-refl _)
 
 step-applies : (s : Row) (p : Post) (t : Bool) → eqb (s .refusal) 0 ≡ t → stepOf s p .applied ≤ s .applied + 1
 unfolding stepOf
-step-applies s p true h = rw h (one-at-most s (lineOf (p .vector)) (tested (p .level)) (eqb (lineOf (p .vector)) 0) refl)
+step-applies s p true h = rw h (one-at-most s (hvipBitOf (p .vector)) (tested (p .level)) (eqb (hvipBitOf (p .vector)) 0) refl)
 step-applies s p false h = rw h (omega arith)
 
 ahead : (t : Bool) {i n : ℕ} → i < n → i + 1 ≤ pick t (i + 1) n
@@ -98,26 +98,26 @@ applies-within s r p {i} {n} l e h =
 
 -- the bit that a vector stands for, as one of three that are not 0 at once
 
-soft-line : (v : ℕ) → v ≡ supervisorSoft → bitOr (bitOr (pick (eqb v supervisorSoft) vssip 0) (pick (eqb v supervisorTimer) vstip 0)) (pick (supervisorExternal v) vseip 0) ≡ lineOf v
-unfolding lineOf supervisorExternal
+soft-line : (v : ℕ) → v ≡ supervisorSoft → bitOr (bitOr (pick (eqb v supervisorSoft) vssip 0) (pick (eqb v supervisorTimer) vstip 0)) (pick (supervisorExternal v) vseip 0) ≡ hvipBitOf v
+unfolding hvipBitOf supervisorExternal
 soft-line v h =
-    subst (λ (n : ℕ). bitOr (bitOr (pick (eqb n supervisorSoft) vssip 0) (pick (eqb n supervisorTimer) vstip 0)) (pick (supervisorExternal n) vseip 0) ≡ lineOf n) (sym h) refl
+    subst (λ (n : ℕ). bitOr (bitOr (pick (eqb n supervisorSoft) vssip 0) (pick (eqb n supervisorTimer) vstip 0)) (pick (supervisorExternal n) vseip 0) ≡ hvipBitOf n) (sym h) refl
 
-timer-line : (v : ℕ) → v ≡ supervisorTimer → bitOr (bitOr (pick (eqb v supervisorSoft) vssip 0) (pick (eqb v supervisorTimer) vstip 0)) (pick (supervisorExternal v) vseip 0) ≡ lineOf v
-unfolding lineOf supervisorExternal
+timer-line : (v : ℕ) → v ≡ supervisorTimer → bitOr (bitOr (pick (eqb v supervisorSoft) vssip 0) (pick (eqb v supervisorTimer) vstip 0)) (pick (supervisorExternal v) vseip 0) ≡ hvipBitOf v
+unfolding hvipBitOf supervisorExternal
 timer-line v h =
-    subst (λ (n : ℕ). bitOr (bitOr (pick (eqb n supervisorSoft) vssip 0) (pick (eqb n supervisorTimer) vstip 0)) (pick (supervisorExternal n) vseip 0) ≡ lineOf n) (sym h) refl
+    subst (λ (n : ℕ). bitOr (bitOr (pick (eqb n supervisorSoft) vssip 0) (pick (eqb n supervisorTimer) vstip 0)) (pick (supervisorExternal n) vseip 0) ≡ hvipBitOf n) (sym h) refl
 
 other-line : (x : Bool) → bitOr (bitOr 0 0) (pick x vseip 0) ≡ pick x vseip 0
 other-line true = refl
 other-line false = refl
 
 line-by : (v : ℕ) (s t : Bool) → eqb v supervisorSoft ≡ s → eqb v supervisorTimer ≡ t
-    → bitOr (bitOr (pick (eqb v supervisorSoft) vssip 0) (pick (eqb v supervisorTimer) vstip 0)) (pick (supervisorExternal v) vseip 0) ≡ lineOf v
-unfolding lineOf
+    → bitOr (bitOr (pick (eqb v supervisorSoft) vssip 0) (pick (eqb v supervisorTimer) vstip 0)) (pick (supervisorExternal v) vseip 0) ≡ hvipBitOf v
+unfolding hvipBitOf
 line-by v true t h k = soft-line v (eqb-true v supervisorSoft h)
 line-by v false true h k = timer-line v (eqb-true v supervisorTimer k)
 line-by v false false h k = rw (h, k) (other-line (supervisorExternal v))
 
-pub line-of-three : (v : ℕ) → bitOr (bitOr (pick (eqb v supervisorSoft) vssip 0) (pick (eqb v supervisorTimer) vstip 0)) (pick (supervisorExternal v) vseip 0) ≡ lineOf v
+pub line-of-three : (v : ℕ) → bitOr (bitOr (pick (eqb v supervisorSoft) vssip 0) (pick (eqb v supervisorTimer) vstip 0)) (pick (supervisorExternal v) vseip 0) ≡ hvipBitOf v
 line-of-three v = line-by v (eqb v supervisorSoft) (eqb v supervisorTimer) refl refl

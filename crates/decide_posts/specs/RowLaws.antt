@@ -6,7 +6,7 @@ use mathlib.Core.Path.{_≡_, refl, ap, sym, _∙_}
 use lib.Dec.{eqb}
 use Rattle.isa_registers.specs.Bits.{withBits}
 use Rattle.isa_types.specs.Pick.{pick}
-use Rattle.scope.specs.Host.{lineOf}
+use Rattle.scope.specs.Host.{hvipBitOf}
 use Rattle.scope.specs.Posts.{oneByOne, postedOf, rowOf}
 use Rattle.scope.specs.PostsLaws.{Free, hvipBy, post-applied, post-refused, row-free, row-refused, still-free, withHvip}
 use Rattle.scope.specs.Record.{pended, waitingAsk}
@@ -25,17 +25,17 @@ going h n = record { hvip = h; applied = n; refusal = 0 }
 
 -- a turn of the fold
 
-turn-refused : (h n : ℕ) (p : Post) → eqb (lineOf (p .vector)) 0 ≡ true → stepOf (going h n) p ≡ record { hvip = h; applied = n; refusal = errorNumber error.InvalidInput }
+turn-refused : (h n : ℕ) (p : Post) → eqb (hvipBitOf (p .vector)) 0 ≡ true → stepOf (going h n) p ≡ record { hvip = h; applied = n; refusal = errorNumber error.InvalidInput }
 unfolding stepOf appliedBy
 turn-refused h n p e = rw e
 
-turn-applied : (h n : ℕ) (p : Post) → eqb (lineOf (p .vector)) 0 ≡ false → stepOf (going h n) p ≡ going (withBits h (lineOf (p .vector)) (tested (p .level))) (n + 1)
+turn-applied : (h n : ℕ) (p : Post) → eqb (hvipBitOf (p .vector)) 0 ≡ false → stepOf (going h n) p ≡ going (withBits h (hvipBitOf (p .vector)) (tested (p .level))) (n + 1)
 unfolding stepOf appliedBy
 turn-applied h n p e = rw e
 
 -- the posts that are left, from a record whose hvip is h, n of them applied
 
-one : (v : Vcpu) (h n : ℕ) (p : Post) (ps : List Post) (t : Bool) → Free v → eqb (lineOf (p .vector)) 0 ≡ t
+one : (v : Vcpu) (h n : ℕ) (p : Post) (ps : List Post) (t : Bool) → Free v → eqb (hvipBitOf (p .vector)) 0 ≡ t
     → ((k m : ℕ) → oneByOne m (withHvip v k) ps ≡ endedOf v (foldOf (going k m) ps)) → oneByOne n (withHvip v h) (p ∷ ps) ≡ endedOf v (foldOf (stepOf (going h n) p) ps)
 unfolding endedOf withHvip hvipBy pended errorNumber
 one v h n p ps true f e more =
@@ -43,13 +43,13 @@ one v h n p ps true f e more =
     ∙ sym (ap (endedOf v) (ap (λ (s : Row). foldOf s ps) (turn-refused h n p e) ∙ stopped (record { hvip = h; applied = n; refusal = errorNumber error.InvalidInput }) ps refl))
 one v h n p ps false f e more =
     post-applied (withHvip v h) n p ps (still-free v h f) e
-    ∙ more (withBits h (lineOf (p .vector)) (tested (p .level))) (n + 1)
+    ∙ more (withBits h (hvipBitOf (p .vector)) (tested (p .level))) (n + 1)
     ∙ sym (ap (λ (s : Row). endedOf v (foldOf s ps)) (turn-applied h n p e))
 
 rest : (v : Vcpu) (h n : ℕ) (ps : List Post) → Free v → oneByOne n (withHvip v h) ps ≡ endedOf v (foldOf (going h n) ps)
 unfolding oneByOne foldOf endedOf withHvip
 rest v h n [] f = refl
-rest v h n (p ∷ ps) f = one v h n p ps (eqb (lineOf (p .vector)) 0) f refl (λ k m. rest v k m ps f)
+rest v h n (p ∷ ps) f = one v h n p ps (eqb (hvipBitOf (p .vector)) 0) f refl (λ k m. rest v k m ps f)
 
 -- the whole row
 

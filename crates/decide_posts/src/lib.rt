@@ -4,7 +4,7 @@ ghost use Prim.Native.Nat.{_<_, _-_, _^_};
 ghost use lib.ListN.{length};
 ghost use lib.Dec.{eqb};
 ghost use Rattle.isa_types.specs.Pick.{pick};
-ghost use Rattle.scope.specs.Host.{lineOf};
+ghost use Rattle.scope.specs.Host.{hvipBitOf};
 ghost use Rattle.decide_posts.specs.Fold.{appliedBy, begunBy, foldOf, nextOf, stepOf};
 use scope::Post;
 
@@ -63,7 +63,7 @@ fn step(s: Row, p: Post) -> Row
 // The bit of hvip that a vector stands for, or 0, as decide_host::line_of has it. In a row the next vector is not foretold, so here
 // the three are chosen from and not branched on.
 fn line_of(vector: u64) -> u64
-    ensures { λ r. ⌜ r ≡ lineOf vector ⌝ }
+    ensures { λ r. ⌜ r ≡ hvipBitOf vector ⌝ }
 {
     let soft = isa_types::select(vector == isa_consts::S_SOFT, isa_consts::VSSIP, 0);
     let timer = isa_types::select(vector == isa_consts::S_TIMER, isa_consts::VSTIP, 0);

@@ -10,7 +10,7 @@ use lib.Dec.{eqb}
 use Rattle.isa_consts.specs.Csr.{vseip, vssip, vstip}
 use Rattle.isa_consts.specs.Traps.{supervisorExternal, supervisorSoft, supervisorTimer}
 use Rattle.isa_types.specs.Pick.{and, not, or, pick}
-use Rattle.scope.specs.Host.{lineOf}
+use Rattle.scope.specs.Host.{hvipBitOf}
 use Rattle.scope.specs.Posts.{oneByOne, postedOf, rowOf}
 use Rattle.scope.specs.PostsLaws.{Free, hvipBy, post-applied, post-refused, row-free, row-refused, still-free, withHvip}
 use Rattle.scope.specs.Record.{waitingAsk}
@@ -30,11 +30,11 @@ line-by false true x = refl
 line-by false false true = refl
 line-by false false false = refl
 
-no-line : (k : ℕ) → eqb (lineOf k) 0 ≡ not (vectorAllowed k)
-unfolding lineOf vectorAllowed
+pub no-line : (k : ℕ) → eqb (hvipBitOf k) 0 ≡ not (vectorAllowed k)
+unfolding hvipBitOf vectorAllowed
 no-line k = line-by (eqb k supervisorSoft) (eqb k supervisorTimer) (supervisorExternal k)
 
-line-at : (k : ℕ) (b : Bool) → vectorAllowed k ≡ b → eqb (lineOf k) 0 ≡ not b
+line-at : (k : ℕ) (b : Bool) → vectorAllowed k ≡ b → eqb (hvipBitOf k) 0 ≡ not b
 line-at k b h = no-line k ∙ ap not h
 
 -- no error has the number 0

@@ -37,7 +37,7 @@ use Rattle.scope.specs.declared.decided.Fault.the-variants as fault
 use Rattle.scope.specs.GuestPageFault.{faultEffect, completedOf, mmioOf, pageFaultOf}
 use Rattle.scope.specs.declared.decided.Answered.{Answered}
 use Rattle.scope.specs.declared.decided.Answered.the-variants as answered
-use Rattle.scope.specs.Host.{lineOf, pagingBy, pagingEffect, pendingEffect, writeEffect}
+use Rattle.scope.specs.Host.{hvipBitOf, pagingBy, pagingEffect, pendingEffect, writeEffect}
 use Rattle.scope.specs.Classes.{startEffect, classOf, classEffect}
 use Rattle.scope.specs.Answers.{answerEffect, fetchEffect, fittingEffect, numbersEffect, valuesEffect, wordEffect}
 use Rattle.demand1.specs.Leaves.{Sound, Says, ExitLeaves, Failed, copy-in, copy-mask, copy-out, fetch-csr, fetch-fault, get-char, put-byte, put-char, read-console, forward, illegal, print, quiet, load}
@@ -215,7 +215,7 @@ paging-sound c n levels mode root =
 pub pending-sound : (c : Csrs) (n : Waiting) (v : ℕ) (on : Bool) → Sound c n (pendingEffect c n v on)
 unfolding pendingEffect
 pending-sound c n v on =
-    picked (eqb (lineOf v) 0) (input-sound c n) (done-sound c _ n n _)
+    picked (eqb (hvipBitOf v) 0) (input-sound c n) (done-sound c _ n n _)
 
 -- and so with the guard of refusal 2 before them
 unless-sound : (v : Vcpu) (e : Effect) → Sound (v .csrs) (v .waiting) e → Sound (v .csrs) (v .waiting) (unlessAsking v e)

@@ -44,7 +44,7 @@ use Rattle.scope.specs.declared.decided.Stimecmp.{Stimecmp}
 use Rattle.scope.specs.declared.decided.Stimecmp.the-variants as csr
 use Rattle.scope.specs.GuestPageFault.{faultEffect, faultOf, loadUnder, storeUnder, completedOf, mmioOf, pageFaultOf}
 use Rattle.scope.specs.declared.decided.Answered.the-variants as answered
-use Rattle.scope.specs.Host.{lineOf, pagingBy, pagingEffect, pendingEffect, writeEffect}
+use Rattle.scope.specs.Host.{hvipBitOf, pagingBy, pagingEffect, pendingEffect, writeEffect}
 use Rattle.scope.specs.Classes.{startEffect, classOf, classEffect}
 use Rattle.scope.specs.Answers.{answerEffect, fetchEffect, fittingEffect, numbersEffect, valuesEffect, wordEffect}
 use Rattle.scope.specs.Calls.{calledOf, effectOf, gprReply}
@@ -293,7 +293,7 @@ read-index e false n = refl
 
 -- every call
 pub call-when : (e : Error) (v : Vcpu) (c : HostCall) → gives e (calledOf v c .reply) ≡ callWhen v c e
-unfolding calledOf effectOf applied leavesOf gives gprReply writeEffect pagingEffect pagingBy pendingEffect lineOf indexAllowed pagingAllowed vectorAllowed callWhen
+unfolding calledOf effectOf applied leavesOf gives gprReply writeEffect pagingEffect pagingBy pendingEffect hvipBitOf indexAllowed pagingAllowed vectorAllowed callWhen
 call-when e v hostCall.Setup = changing-gives e v _ true (done-gives e _ _ _)
 call-when e v (hostCall.SetEntry at) = changing-gives e v _ true (done-gives e _ _ _)
 call-when e v (hostCall.GetGpr i) = read-index e (ltb i 32) _

@@ -37,7 +37,7 @@ use Rattle.scope.specs.declared.decided.Stimecmp.the-variants as csr
 use Rattle.scope.specs.declared.decided.Fault.{Fault}
 use Rattle.scope.specs.declared.decided.Fault.the-variants as fault
 use Rattle.scope.specs.GuestPageFault.{faultEffect, completedOf, mmioOf, pageFaultOf}
-use Rattle.scope.specs.Host.{lineOf, writeEffect, pagingBy, pagingEffect, pendingEffect}
+use Rattle.scope.specs.Host.{hvipBitOf, writeEffect, pagingBy, pagingEffect, pendingEffect}
 use Rattle.scope.specs.Classes.{argumentsOf, startEffect, classOf, classEffect}
 use Rattle.demand3_table.specs.Table.{a6, a7}
 use Rattle.demand3.specs.Kinds.{fenceKind, ecallKind, csrFunct3, onStimecmp, wordKind, stvalKind, waitingKind, fetchKind, answerKind, callKind, classKind}
@@ -241,7 +241,7 @@ module _ (c : Csrs) where
   pending-event : (w : Waiting) (vector : ℕ) (on : Bool) → counts (pendingEffect c w vector on) ≡ 0
   unfolding pendingEffect doneOf refusedOf leavesOf eventNumber
   pending-event w vector on =
-      both (eqb (lineOf vector) 0) counts refl refl
+      both (eqb (hvipBitOf vector) 0) counts refl refl
 
   write-event : (w : Waiting) (index value : ℕ) → counts (writeEffect c w index value) ≡ 0
   unfolding writeEffect doneOf refusedOf leavesOf eventNumber

@@ -8,7 +8,7 @@ use mathlib.Core.List.{List, [], _∷_}
 use mathlib.Core.Path.{_≡_, refl, sym, _∙_}
 use lib.ListN.{set, length, replicate, length-set}
 use lib.Seq.{getD-set-other}
-use Rattle.scope.specs.Host.{pendingEffect, lineOf}
+use Rattle.scope.specs.Host.{pendingEffect, hvipBitOf}
 use Rattle.isa_consts.specs.Traps.{supervisorExternal}
 use Rattle.scope.specs.Words.{tested}
 use Rattle.scope.specs.Posts.{postCall, oneByOne, rowOf, postedOf}
@@ -37,7 +37,7 @@ use Rattle.scope.specs.GuestPageFault.{loadUnder, storeUnder, faultOf, faultEff
 use Rattle.scope.specs.Classes.{argumentsOf, startEffect, classOf, classEffect}
 use Rattle.scope.specs.Calls.{printCount, baseOf, fitted, printable, printedOf, calledOf, effectOf, askedCount, gprReply}
 use Rattle.demand3_table.specs.Table.{a0, a1, a2, a3, a4, a5, a7, sourceNames, forwardNames, timeNames, srstNames, spiNames, hsmNames, consoleNames, byteNames, dbcnNames, eidNames, ecallNames, funct3Names, stimecmpNames, storeNames, accessNames, wordNames, fetchNames, answerNames, namesOf, readsOf, callNames, callReads, classNames}
-use Rattle.demand3_table.specs.Runs.{sightOf, stepOf, runOf, seenOf, Apart, Untouched, renews, wroteBy, written, wrote}
+use Rattle.demand3_table.specs.Runs.{Lasting, turnRenews, sightOf, stepOf, runOf, seenOf, Apart, Untouched, renews, wroteBy, written, wrote}
 use Rattle.demand3_table.specs.Alike.{Alike}
 use Rattle.demand3.specs.Shown.{exampleRecord, other, Met, rowsGiven, exitNumbers, askNumbers, replyNumbers, sightNumbers, toldOf, sameList, Row, named, matters, allMatter, Joined, waits}
 use Rattle.scope.specs.Answers.{answerEffect, fetchEffect, fittingEffect, numbersEffect, valuesEffect, wordEffect}
@@ -57,7 +57,7 @@ other-alike r n v h =
 
 -- one name that opens what a call goes through; the decoder stays shut
 opened : ℕ
-unfolding answerNumber exitNumber askNumber errorNumber spvpOf sieOf withBits guestPageFaultAddr standardRequest valueOf stored moved timed pended eventNumber bumped counted waitingAsk isIdle listed applied noArgs finishedOf askingOf failedOf refusedOf doneOf lesserOf returnsOf movesOf staysOf asksOf setTimerOf hypercallOf askFetchOf missedOf trapStatusOf injectedOf missedEffect setBits clearBits stimecmpBy stimecmpWord stimecmpStval calledOf baseOf effectOf stimecmpEffect loadUnder storeUnder faultOf faultEffect copiedEffect ecallAnswer ecallAskNumber completedOf argumentsOf ecallEffect virtualEffect mmioOf pageFaultOf classOf classEffect startEffect wordEffect fetchEffect numbersEffect valuesEffect answerValues fittingEffect answerEffect printCount fitted printable printedOf sourceNames forwardNames timeNames srstNames spiNames hsmNames consoleNames byteNames dbcnNames eidNames ecallNames funct3Names stimecmpNames storeNames classNames accessNames wordNames fetchNames answerNames namesOf readsOf sightOf stepOf runOf seenOf Untouched exitNumbers askNumbers replyNumbers sightNumbers toldOf sameList named matters allMatter timeEffect spiEffect hsmEffect srstEffect spanEffect consoleEffect dbcnEffect rfncEffect forwardEffect notSupportedEffect leavesOf unlessAsking callNames callReads askedCount givesOf consoleReadEffect copiedOutEffect gprReply written renews wroteBy wrote pendingEffect lineOf supervisorExternal tested flagOf postCall oneByOne rowOf postedOf replyNumber refuses refusal rowsGiven
+unfolding answerNumber exitNumber askNumber errorNumber spvpOf sieOf withBits guestPageFaultAddr standardRequest valueOf stored moved timed pended eventNumber bumped counted waitingAsk isIdle listed applied noArgs finishedOf askingOf failedOf refusedOf doneOf lesserOf returnsOf movesOf staysOf asksOf setTimerOf hypercallOf askFetchOf missedOf trapStatusOf injectedOf missedEffect setBits clearBits stimecmpBy stimecmpWord stimecmpStval calledOf baseOf effectOf stimecmpEffect loadUnder storeUnder faultOf faultEffect copiedEffect ecallAnswer ecallAskNumber completedOf argumentsOf ecallEffect virtualEffect mmioOf pageFaultOf classOf classEffect startEffect wordEffect fetchEffect numbersEffect valuesEffect answerValues fittingEffect answerEffect printCount fitted printable printedOf sourceNames forwardNames timeNames srstNames spiNames hsmNames consoleNames byteNames dbcnNames eidNames ecallNames funct3Names stimecmpNames storeNames classNames accessNames wordNames fetchNames answerNames namesOf readsOf sightOf stepOf runOf seenOf Untouched exitNumbers askNumbers replyNumbers sightNumbers toldOf sameList named matters allMatter timeEffect spiEffect hsmEffect srstEffect spanEffect consoleEffect dbcnEffect rfncEffect forwardEffect notSupportedEffect leavesOf unlessAsking callNames callReads askedCount givesOf consoleReadEffect copiedOutEffect gprReply written renews wroteBy wrote pendingEffect hvipBitOf supervisorExternal tested flagOf postCall oneByOne rowOf postedOf replyNumber refuses refusal rowsGiven
 opened = 0
 
 abbrev zeros : List ℕ
@@ -73,7 +73,8 @@ ecall = trapped 10 0 0
 apart : {r : ℕ} → Apart r []
 apart = record { free = refl }
 
--- DBCN write with both asks, and a row of posts in the middle, which is refused, and behind it, which is not; x5 is 1 and 2
+-- DBCN write with both asks, a row of posts in the middle, which is refused, and one behind it, which its second post stops; x5 is 1
+-- and 2
 
 abbrev dbcn : Vcpu
 dbcn = exampleRecord (set (set (set (set zeros 17 eidDbcn) 10 3) 11 0x8000) 5 1)
@@ -103,6 +104,11 @@ dbcn-met =
 pub dbcn-posted : rowsGiven (seenOf dbcn dbcnCalls) ≡ 0 ∷ 2 ∷ 1 ∷ 1 ∷ []
 unfolding opened
 dbcn-posted = refl
+
+-- and none of its turns makes a new record, so the counts speak of it
+pub dbcn-lasts : Lasting dbcnCalls
+unfolding opened Lasting turnRenews
+dbcn-lasts = (refl, (refl, (refl, (refl, (refl, (refl, tt))))))
 
 -- a load with its completion, which writes x7
 

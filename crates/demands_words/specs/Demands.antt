@@ -179,15 +179,15 @@ pub place-exit-leaves : (r s p : List ℕ) (c : HostCall) (w : ℕ) → Made r c
 place-exit-leaves r s p c w m y e =
     subst (λ (v : Vcpu). ExitLeaves y (v .waiting)) (sym (m .shows)) (exit-leaves (viewOf r) c y e)
 
--- a trap that ends in an error, from its start through its last answer, with refused calls and reads between
+-- a trap that ends in an error, from its start through its last answer, with refused calls, rows while an ask waits, and reads between
 pub place-error-changes-nothing : (r u : List ℕ) (t : Trap) (cs : List Use) (ws : List Shown) → length r ≡ 58 → Places r (places.given (hostCall.Start t) ∷ cs) ws u
     → Middles (calledOf (viewOf r) (hostCall.Start t) .vcpu) (turnsOf cs) → inError (wholeOf (viewOf r) t (turnsOf cs) .reply) ≡ true → OverWords (recordOf r) (recordOf u)
 unfolding viewOf
 place-error-changes-nothing r u t cs ws e p m h =
     subst (λ (z : Record). OverWords (recordOf r) z) (sym (ran e p .left ∙ start-first (recordOf r) t cs)) (error-leaves-the-words (recordOf r) t (turnsOf cs) (record-sized r e) m h)
 
--- demand 3, in all 58 words: two that are alike but in register k, and the same calls on both, the same words lent and lengths to
--- print, none of which names k or reads it out
+-- demand 3, in all 58 words: two that are alike but in register k, and the same calls and rows of posts on both, the same words lent and
+-- lengths to print, none of which names k or reads it out
 pub record PlaceThird (k : ℕ) (r q u t : List ℕ) (cs : List Use) (ws xs : List Shown) : Type 0 where
   pub shown : ws ≡ xs
   pub alike : AlikeWords k (recordOf u) (recordOf t)

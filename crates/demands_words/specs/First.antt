@@ -100,7 +100,8 @@ unfolding leftPosted
 row-leaves-the-words r ps z h =
     laid-same r _ _ z (none-applied-keeps-the-record (unpackOf r) ps h) refl
 
--- a trap that ends in an error, from its start through its last answer, with refused calls and reads between: every word of a
+-- a trap that ends in an error, from its start through its last answer, with refused calls, rows of posts while an ask waits, reads and
+-- printing between: every word of a
 -- register and of a CSR is as before, nothing waits, and the counts have at most one more of event 2
 pub record OverWords (r s : Record) : Type 0 where
   pub x : s .x ≡ r .x

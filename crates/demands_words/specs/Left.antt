@@ -22,7 +22,7 @@ use Rattle.scope.specs.declared.machine.Waiting.{Waiting}
 use Rattle.scope.specs.declared.machine.Writes.{Writes}
 use Rattle.scope.specs.declared.traps.Error.the-variants as error
 use Rattle.scope.specs.declared.traps.Error.{Error}
-use Rattle.scope.specs.Host.{lineOf, pagingBy, pagingEffect, pendingEffect, writeEffect}
+use Rattle.scope.specs.Host.{hvipBitOf, pagingBy, pagingEffect, pendingEffect, writeEffect}
 use Rattle.scope.specs.declared.hosts.Post.{Post}
 use Rattle.scope.specs.Posts.{leftPosted, postedOf}
 use Rattle.scope.specs.PostsLaws.{row-waiting}
@@ -110,7 +110,7 @@ paging-stays c n levels mode root =
 pending-stays : (c : Csrs) (n : Waiting) (vector : ℕ) (on : Bool) → Stays n (pendingEffect c n vector on)
 unfolding pendingEffect
 pending-stays c n vector on =
-    either-stays (eqb (lineOf vector) 0) (refused-stays c n _) (done-stays _ _ n)
+    either-stays (eqb (hvipBitOf vector) 0) (refused-stays c n _) (done-stays _ _ n)
 
 -- the words of what waits, by a trap's reply
 trap-waits : (r : Record) (c : HostCall) → length (r .waiting) ≡ 4 → (b : Bool) → refuses (calledOf (unpackOf r) c .reply) ≡ b

@@ -113,7 +113,7 @@ joined-after k r q (c ∷ cs) z y a u h =
     (ap (λ (n : Vcpu). written k n cs) (turn-shows r c z) ∙ t))
 
 pub record WordsThird (k : ℕ) (r q : Record) (cs : List Turn) : Type 0 where
-  -- all exits, host requests and refusals agree, with what each carries and the hypercall array
+  -- all exits, host requests and refusals agree, with what each carries, the hypercall array and what rows of posts give
   pub sights : seenOf (unpackOf r) cs ≡ seenOf (unpackOf q) cs
   -- every word but the register's agrees, the four of what waits too
   pub alike : AlikeWords k (leftAfter r cs) (leftAfter q cs)

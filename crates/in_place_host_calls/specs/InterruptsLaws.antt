@@ -7,7 +7,7 @@ use Rattle.scope.specs.declared.machine.Csrs.{Csrs}
 use Rattle.scope.specs.declared.machine.Waiting.{Waiting}
 use Rattle.scope.specs.declared.machine.Writes.the-variants as writes
 use Rattle.scope.specs.Record.{pended}
-use Rattle.scope.specs.Host.{lineOf, pendingEffect}
+use Rattle.scope.specs.Host.{hvipBitOf, pendingEffect}
 use Rattle.isa_registers.specs.Bits.{withBits}
 use Rattle.in_place_host.specs.Host.{Keeps}
 use Rattle.in_place_host.specs.Laws.{done-keeps, pick-keeps, refused-keeps}
@@ -15,5 +15,5 @@ use Rattle.in_place_host.specs.Laws.{done-keeps, pick-keeps, refused-keeps}
 pub pending-keeps : (c : Csrs) (w : Waiting) (vector : ℕ) (on : Bool) → Keeps (pendingEffect c w vector on) w
 unfolding pendingEffect
 pending-keeps c w vector on =
-    pick-keeps (eqb (lineOf vector) 0) (refused-keeps c w error.InvalidInput)
-    (done-keeps (pended c (withBits (c .hs .hvip) (lineOf vector) on)) writes.Keep w)
+    pick-keeps (eqb (hvipBitOf vector) 0) (refused-keeps c w error.InvalidInput)
+    (done-keeps (pended c (withBits (c .hs .hvip) (hvipBitOf vector) on)) writes.Keep w)

@@ -1,4 +1,5 @@
--- Which calls touch hvip: every other one leaves it. 01, The record and Ecalls; 02, W1.
+-- Which calls touch hvip: every other case of HostCall leaves it. (A row of posts touches nothing else: Posts.antt.) 01, The record and
+-- Ecalls; 02, W1.
 use Prim.Native.Nat.{ℕ, _%_, _^_}
 use mathlib.Core.Bool.{Bool, true, false}
 use mathlib.Core.List.{List}

@@ -66,8 +66,8 @@ pagingEffect c w levels mode root =
     (refusedOf c w error.InvalidInput))
 
 -- the bit of hvip that a vector stands for: 2^63+1 is bit 2, 2^63+5 bit 6, 9 and 2^63+9 bit 10; any other vector stands for none, 0
-unfoldable pub lineOf : ℕ → ℕ
-lineOf vector =
+unfoldable pub hvipBitOf : ℕ → ℕ
+hvipBitOf vector =
     pick (eqb vector supervisorSoft) vssip
     (pick (eqb vector supervisorTimer) vstip
     (pick (supervisorExternal vector) vseip
@@ -76,8 +76,8 @@ lineOf vector =
 -- interrupt pending: the vector's bit is set or cleared; a vector that stands for none is refusal 1
 unfoldable pub pendingEffect : Csrs → Waiting → ℕ → Bool → Effect
 pendingEffect c w vector on =
-    pick (eqb (lineOf vector) 0) (refusedOf c w error.InvalidInput)
-    (doneOf (pended c (withBits (c .hs .hvip) (lineOf vector) on)) writes.Keep w)
+    pick (eqb (hvipBitOf vector) 0) (refusedOf c w error.InvalidInput)
+    (doneOf (pended c (withBits (c .hs .hvip) (hvipBitOf vector) on)) writes.Keep w)
 
 -- IPI completion: legacy writes a0; v0.2 writes a0 and a1 = 0
 unfoldable pub ipiWrites : IpiAbi → ℕ → Writes

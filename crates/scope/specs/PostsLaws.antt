@@ -17,7 +17,7 @@ use Rattle.scope.specs.declared.machine.Writes.the-variants as writes
 use Rattle.scope.specs.declared.traps.Error.the-variants as error
 use Rattle.scope.specs.declared.traps.Reply.the-variants as reply
 use Rattle.scope.specs.Calls.{baseOf, calledOf, effectOf}
-use Rattle.scope.specs.Host.{lineOf, pendingEffect}
+use Rattle.scope.specs.Host.{hvipBitOf, pendingEffect}
 use Rattle.scope.specs.Posts.{oneByOne, postCall, postedOf, rowOf}
 use Rattle.scope.specs.Record.{applied, bumped, counted, eventNumber, pended, stored, waitingAsk}
 use Rattle.scope.specs.Refusals.{doneOf, errorNumber, leavesOf, refusal, refusedOf, refuses, unlessAsking}
@@ -38,34 +38,34 @@ still-free v h f = record { free = f .free }
 
 -- hvip after one post
 unfoldable pub hvipBy : Vcpu → Post → ℕ
-hvipBy v p = withBits (v .csrs .hs .hvip) (lineOf (p .vector)) (tested (p .level))
+hvipBy v p = withBits (v .csrs .hs .hvip) (hvipBitOf (p .vector)) (tested (p .level))
 
 -- one post while no ask waits, by whether its vector stands for a bit
 
-by-line : (v : Vcpu) (p : Post) (t : Bool) → Free v → eqb (lineOf (p .vector)) 0 ≡ t
+by-line : (v : Vcpu) (p : Post) (t : Bool) → Free v → eqb (hvipBitOf (p .vector)) 0 ≡ t
     → calledOf v (postCall p) ≡ applied v (pick t (refusedOf (v .csrs) (v .waiting) error.InvalidInput) (doneOf (pended (v .csrs) (hvipBy v p)) writes.Keep (v .waiting)))
 unfolding calledOf baseOf effectOf postCall unlessAsking pendingEffect hvipBy
 by-line v p t f h = rw (f .free, h)
 
-pub single-refused : (v : Vcpu) (p : Post) → Free v → eqb (lineOf (p .vector)) 0 ≡ true → calledOf v (postCall p) .reply ≡ reply.Error error.InvalidInput
+pub single-refused : (v : Vcpu) (p : Post) → Free v → eqb (hvipBitOf (p .vector)) 0 ≡ true → calledOf v (postCall p) .reply ≡ reply.Error error.InvalidInput
 unfolding applied refusedOf leavesOf
 single-refused v p f h = ap (λ (o : Outcome). o .reply) (by-line v p true f h)
 
-pub single-done : (v : Vcpu) (p : Post) → Free v → eqb (lineOf (p .vector)) 0 ≡ false → calledOf v (postCall p) .reply ≡ reply.Done
+pub single-done : (v : Vcpu) (p : Post) → Free v → eqb (hvipBitOf (p .vector)) 0 ≡ false → calledOf v (postCall p) .reply ≡ reply.Done
 unfolding applied doneOf
 single-done v p f h = ap (λ (o : Outcome). o .reply) (by-line v p false f h)
 
-pub single-leaves : (v : Vcpu) (p : Post) → Free v → eqb (lineOf (p .vector)) 0 ≡ false → calledOf v (postCall p) .vcpu ≡ withHvip v (hvipBy v p)
+pub single-leaves : (v : Vcpu) (p : Post) → Free v → eqb (hvipBitOf (p .vector)) 0 ≡ false → calledOf v (postCall p) .vcpu ≡ withHvip v (hvipBy v p)
 unfolding applied stored counted bumped eventNumber doneOf withHvip
 single-leaves v p f h = ap (λ (o : Outcome). o .vcpu) (by-line v p false f h)
 
 -- and in a row
 
-pub post-refused : (v : Vcpu) (n : ℕ) (p : Post) (ps : List Post) → Free v → eqb (lineOf (p .vector)) 0 ≡ true → oneByOne n v (p ∷ ps) ≡ rowOf v n (errorNumber error.InvalidInput)
+pub post-refused : (v : Vcpu) (n : ℕ) (p : Post) (ps : List Post) → Free v → eqb (hvipBitOf (p .vector)) 0 ≡ true → oneByOne n v (p ∷ ps) ≡ rowOf v n (errorNumber error.InvalidInput)
 unfolding oneByOne applied refuses refusal replyNumber refusedOf leavesOf
 post-refused v n p ps f h = rw (by-line v p true f h)
 
-pub post-applied : (v : Vcpu) (n : ℕ) (p : Post) (ps : List Post) → Free v → eqb (lineOf (p .vector)) 0 ≡ false → oneByOne n v (p ∷ ps) ≡ oneByOne (n + 1) (withHvip v (hvipBy v p)) ps
+pub post-applied : (v : Vcpu) (n : ℕ) (p : Post) (ps : List Post) → Free v → eqb (hvipBitOf (p .vector)) 0 ≡ false → oneByOne n v (p ∷ ps) ≡ oneByOne (n + 1) (withHvip v (hvipBy v p)) ps
 unfolding oneByOne applied stored counted bumped eventNumber refuses doneOf withHvip
 post-applied v n p ps f h = rw (by-line v p false f h)
 
@@ -95,7 +95,7 @@ over-only : (v : Vcpu) (h : ℕ) (o : RowOutcome) → OnlyHvip (withHvip v h) o 
 unfolding withHvip pended
 over-only v h o k = record { only = k .only }
 
-post-only : (v : Vcpu) (n : ℕ) (p : Post) (ps : List Post) (t : Bool) → Free v → eqb (lineOf (p .vector)) 0 ≡ t
+post-only : (v : Vcpu) (n : ℕ) (p : Post) (ps : List Post) (t : Bool) → Free v → eqb (hvipBitOf (p .vector)) 0 ≡ t
     → ((h m : ℕ) → OnlyHvip (withHvip v h) (oneByOne m (withHvip v h) ps)) → OnlyHvip v (oneByOne n v (p ∷ ps))
 post-only v n p ps true f e more =
     subst (OnlyHvip v) (sym (post-refused v n p ps f e)) (stopped-only v n (errorNumber error.InvalidInput))
@@ -106,7 +106,7 @@ posts-only : (v : Vcpu) (n : ℕ) (ps : List Post) → Free v → OnlyHvip v (on
 unfolding oneByOne
 posts-only v n [] f = stopped-only v n 0
 posts-only v n (p ∷ ps) f =
-    post-only v n p ps (eqb (lineOf (p .vector)) 0) f refl (λ h m. posts-only (withHvip v h) m ps (still-free v h f))
+    post-only v n p ps (eqb (hvipBitOf (p .vector)) 0) f refl (λ h m. posts-only (withHvip v h) m ps (still-free v h f))
 
 only-by : (v : Vcpu) (ps : List Post) (t : Bool) → eqb (waitingAsk (v .waiting)) 0 ≡ t → OnlyHvip v (postedOf v ps)
 only-by v ps true h =
@@ -159,7 +159,7 @@ module _ (x y k l : List ℕ) (w : Waiting) where
   unfolding withHvip hvipBy
   next-right c p = refl
 
-  same-post : (c : Csrs) (n : ℕ) (p : Post) (ps : List Post) (t : Bool) → Free (left c) → eqb (lineOf (p .vector)) 0 ≡ t
+  same-post : (c : Csrs) (n : ℕ) (p : Post) (ps : List Post) (t : Bool) → Free (left c) → eqb (hvipBitOf (p .vector)) 0 ≡ t
       → ((d : Csrs) (m : ℕ) → SameRow (oneByOne m (left d) ps) (oneByOne m (right d) ps)) → SameRow (oneByOne n (left c) (p ∷ ps)) (oneByOne n (right c) (p ∷ ps))
   same-post c n p ps true f e more =
       subst (λ (o : RowOutcome). SameRow o (oneByOne n (right c) (p ∷ ps))) (sym (post-refused (left c) n p ps f e))
@@ -174,7 +174,7 @@ module _ (x y k l : List ℕ) (w : Waiting) where
   unfolding oneByOne
   same-posts c n [] f = same-end c n 0
   same-posts c n (p ∷ ps) f =
-      same-post c n p ps (eqb (lineOf (p .vector)) 0) f refl (λ d m. same-posts d m ps (record { free = f .free }))
+      same-post c n p ps (eqb (hvipBitOf (p .vector)) 0) f refl (λ d m. same-posts d m ps (record { free = f .free }))
 
   same-by : (c : Csrs) (ps : List Post) (t : Bool) → eqb (waitingAsk w) 0 ≡ t → SameRow (postedOf (left c) ps) (postedOf (right c) ps)
   same-by c ps true h =
