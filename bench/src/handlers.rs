@@ -2,6 +2,7 @@
 //! for looking at replies. `set` and `trap` are always inlined: a trap that passes through memory between two functions of the driver
 //! is stored in words and loaded in pairs, and that costs more than some handlers.
 
+use crate::record::{from_words, to_words};
 use crate::traps::{Record, Work};
 use crate::SEE;
 use plain::{enums, words, Forms};
@@ -93,40 +94,6 @@ fn meant(mut r: Record) -> Record {
     if r[54] == 0 {
         r[55..].fill(0);
     }
-    r
-}
-
-/// Plain Rust's record from the library's words. Nothing waits in it.
-fn from_words(r: &Record) -> plain::Vcpu {
-    plain::Vcpu {
-        x: std::array::from_fn(|i| r[i]),
-        sepc: r[32],
-        sstatus: r[33],
-        hstatus: r[34],
-        vsstatus: r[35],
-        vstvec: r[36],
-        vsepc: r[37],
-        vscause: r[38],
-        vstval: r[39],
-        vstimecmp: r[40],
-        hie: r[41],
-        hvip: r[42],
-        hgeie: r[43],
-        hgatp: r[44],
-        counts: std::array::from_fn(|i| r[45 + i]),
-        waiting: plain::Waiting::Idle,
-    }
-}
-
-/// And back. No trap of the bench leaves anything waiting.
-fn to_words(v: &plain::Vcpu) -> Record {
-    let mut r = [0; 58];
-    r[..32].copy_from_slice(&v.x);
-    let numbers =
-        [v.sepc, v.sstatus, v.hstatus, v.vsstatus, v.vstvec, v.vsepc, v.vscause, v.vstval, v.vstimecmp, v.hie, v.hvip, v.hgeie, v.hgatp];
-    r[32..45].copy_from_slice(&numbers);
-    r[45..54].copy_from_slice(&v.counts);
-    r[54] = (v.waiting != plain::Waiting::Idle) as u64;
     r
 }
 

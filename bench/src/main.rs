@@ -7,10 +7,13 @@
 //! bench/trap runs the program `compare`, then these, and prints the tables.
 
 mod handlers;
+mod record;
+mod rounds;
 mod traps;
 
 use handlers::*;
 use plain::{First, Straight};
+use rounds::lower;
 use std::hint::black_box;
 use std::time::Instant;
 use traps::*;
@@ -49,23 +52,6 @@ fn once(which: usize, row: &Row, traps: u64) -> (u64, Record) {
         6 => timed::<Interface>(row, traps),
         _ => timed::<Thin>(row, traps),
     }
-}
-
-/// Runs `f` some 256 bytes down the stack for each step.
-///
-/// A store of two words that lies across two pages costs some ten nanoseconds on x86-64. The library clears the reply's words in
-/// pairs, and where the stack begins at such a place, as it does in one process of some sixty, one handler is twice as slow from the
-/// first run to the last. So each round lies elsewhere, once round a page, and the least is of a good place.
-#[inline(never)]
-fn lower(steps: u64, f: &mut dyn FnMut()) {
-    let mut piece = [0u8; 240];
-    black_box(&mut piece);
-    if steps == 0 {
-        f()
-    } else {
-        lower(steps - 1, f)
-    }
-    black_box(&mut piece);
 }
 
 /// A number of traps or rounds.

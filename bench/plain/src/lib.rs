@@ -6,6 +6,8 @@
 //! library's boundary, numbers and pointers in, words out. The text is inlined whole into each of the four, so that each is compiled
 //! for its own callers alone; their calls are not inlined into the caller, as calls into another library are not.
 //!
+//! `posts` has a post and a row of posts of either, with `&mut Vcpu`.
+//!
 //! The program plain-replay is the yardstick of replay: a reader of captures around `Straight`, inlined whole, with the digits of `hex`.
 
 pub mod enums;
@@ -13,6 +15,7 @@ mod first;
 mod forms;
 mod handler;
 pub mod hex;
+pub mod posts;
 mod straight;
 mod types;
 pub mod words;

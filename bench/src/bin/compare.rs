@@ -4,6 +4,8 @@
 #[path = "../handlers.rs"]
 #[allow(dead_code)] // the traps alone are only timed
 mod handlers;
+#[path = "../record.rs"]
+mod record;
 #[path = "../traps.rs"]
 #[allow(dead_code)] // so are the rows
 mod traps;
