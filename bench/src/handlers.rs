@@ -2,7 +2,7 @@
 //! for looking at replies. `set` and `trap` are always inlined: a trap that passes through memory between two functions of the driver
 //! is stored in words and loaded in pairs, and that costs more than some handlers.
 
-use crate::record::{from_words, to_words};
+use crate::record::{from_words, to_words, ReplyWords};
 use crate::traps::{Record, Work};
 use crate::SEE;
 use plain::{enums, words, Forms};
@@ -14,14 +14,6 @@ use std::mem::MaybeUninit;
 struct CallWords {
     kind: u64,
     numbers: [u64; 5],
-}
-
-#[repr(C)]
-struct ReplyWords {
-    kind: u64,
-    number: u64,
-    values: [u64; 8],
-    args: [u64; 6],
 }
 
 extern "C" {

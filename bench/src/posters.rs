@@ -1,6 +1,6 @@
 //! Every handler that takes posts, behind one trait: one post in a call, and a row in a call.
 
-use crate::record::{from_words, to_words};
+use crate::record::{from_words, to_words, ReplyWords};
 use crate::traps::Record;
 use curbizzolu::Post;
 use plain::posts::Posts;
@@ -15,14 +15,6 @@ pub type Given = (u64, u64);
 struct PostedWords {
     applied: u64,
     refusal: u64,
-}
-
-#[repr(C)]
-struct ReplyWords {
-    kind: u64,
-    number: u64,
-    values: [u64; 8],
-    args: [u64; 6],
 }
 
 extern "C" {

@@ -35,3 +35,12 @@ pub fn to_words(v: &plain::Vcpu) -> Record {
     r[54] = (v.waiting != plain::Waiting::Idle) as u64;
     r
 }
+
+/// What the entry over words gives.
+#[repr(C)]
+pub struct ReplyWords {
+    pub kind: u64,
+    pub number: u64,
+    pub values: [u64; 8],
+    pub args: [u64; 6],
+}

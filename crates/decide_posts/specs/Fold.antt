@@ -31,13 +31,13 @@ appliedBy s line on =
     (record { hvip = withBits (s .hvip) line on; applied = s .applied + 1; refusal = 0 })
 
 -- one post; a row that was stopped stays
-unfoldable pub stepOf : Row → Post → Row
-stepOf s p = pick (eqb (s .refusal) 0) (appliedBy s (hvipBitOf (p .vector)) (tested (p .level))) s
+unfoldable pub postTaken : Row → Post → Row
+postTaken s p = pick (eqb (s .refusal) 0) (appliedBy s (hvipBitOf (p .vector)) (tested (p .level))) s
 
 -- the row, in order
 unfoldable pub foldOf : Row → List Post → Row
 foldOf s [] = s
-foldOf s (p ∷ ps) = foldOf (stepOf s p) ps
+foldOf s (p ∷ ps) = foldOf (postTaken s p) ps
 
 -- the index after this one of n; the end where the row was stopped
 unfoldable pub nextOf : Row → ℕ → ℕ → ℕ

@@ -16,15 +16,15 @@ use Rattle.scope.specs.declared.hosts.Post.{Post}
 use Rattle.scope.specs.Host.{hvipBitOf}
 use Rattle.scope.specs.Words.{tested}
 use Rattle.decide_posts.specs.declared.Row.{Row}
-use Rattle.decide_posts.specs.Fold.{appliedBy, foldOf, nextOf, stepOf}
+use Rattle.decide_posts.specs.Fold.{appliedBy, foldOf, nextOf, postTaken}
 
 -- a post that stands for an index past the end; no turn looks at it
 abbrev pub noPost : Post
 noPost = record { vector = 0; level = 0 }
 
 -- a row that was stopped stays, whatever follows
-stays : (s : Row) (p : Post) → eqb (s .refusal) 0 ≡ false → stepOf s p ≡ s
-unfolding stepOf
+stays : (s : Row) (p : Post) → eqb (s .refusal) 0 ≡ false → postTaken s p ≡ s
+unfolding postTaken
 stays s p h = rw h
 
 pub stopped : (s : Row) (ps : List Post) → eqb (s .refusal) 0 ≡ false → foldOf s ps ≡ s
@@ -47,7 +47,7 @@ by-test true r ps i h = ap (λ (k : ℕ). foldOf r (drop k ps)) (one-more i)
 by-test false r ps i h =
     stopped r (drop (suc i) ps) h ∙ sym (stopped r (drop (length ps) ps) h)
 
-pub turned : (s r : Row) (ps : List Post) (i : ℕ) → i < length ps → r ≡ stepOf s (getD ps i noPost) → foldOf s (drop i ps) ≡ foldOf r (drop (nextOf r i (length ps)) ps)
+pub turned : (s r : Row) (ps : List Post) (i : ℕ) → i < length ps → r ≡ postTaken s (getD ps i noPost) → foldOf s (drop i ps) ≡ foldOf r (drop (nextOf r i (length ps)) ps)
 unfolding foldOf nextOf
 turned s r ps i l e =
     ap (foldOf s) (begins ps i l) ∙ ap (λ (u : Row). foldOf u (drop (suc i) ps)) (sym e) ∙ by-test (eqb (r .refusal) 0) r ps i refl
@@ -80,8 +80,8 @@ unfolding appliedBy
 one-at-most s line on true h = rw h (omega arith)
 one-at-most s line on false h = rw h (le-refl _)
 
-step-applies : (s : Row) (p : Post) (t : Bool) → eqb (s .refusal) 0 ≡ t → stepOf s p .applied ≤ s .applied + 1
-unfolding stepOf
+step-applies : (s : Row) (p : Post) (t : Bool) → eqb (s .refusal) 0 ≡ t → postTaken s p .applied ≤ s .applied + 1
+unfolding postTaken
 step-applies s p true h = rw h (one-at-most s (hvipBitOf (p .vector)) (tested (p .level)) (eqb (hvipBitOf (p .vector)) 0) refl)
 step-applies s p false h = rw h (omega arith)
 
@@ -89,7 +89,7 @@ ahead : (t : Bool) {i n : ℕ} → i < n → i + 1 ≤ pick t (i + 1) n
 ahead true l = omega arith
 ahead false l = omega arith
 
-pub applies-within : (s r : Row) (p : Post) {i n : ℕ} → i < n → r ≡ stepOf s p → s .applied ≤ i → r .applied ≤ nextOf r i n
+pub applies-within : (s r : Row) (p : Post) {i n : ℕ} → i < n → r ≡ postTaken s p → s .applied ≤ i → r .applied ≤ nextOf r i n
 unfolding nextOf
 applies-within s r p {i} {n} l e h =
     let one : r .applied ≤ s .applied + 1 = subst (λ (u : Row). u .applied ≤ s .applied + 1) (sym e) (step-applies s p (eqb (s .refusal) 0) refl) in

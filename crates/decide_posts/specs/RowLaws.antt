@@ -16,7 +16,7 @@ use Rattle.scope.specs.declared.hosts.Post.{Post}
 use Rattle.scope.specs.declared.machine.Vcpu.{Vcpu}
 use Rattle.scope.specs.declared.traps.Error.the-variants as error
 use Rattle.decide_posts.specs.declared.Row.{Row}
-use Rattle.decide_posts.specs.Fold.{appliedBy, begunBy, begunOf, endedOf, foldOf, stepOf}
+use Rattle.decide_posts.specs.Fold.{appliedBy, begunBy, begunOf, endedOf, foldOf, postTaken}
 use Rattle.decide_posts.specs.FoldLaws.{stopped}
 
 -- so many applied, and nothing stopped the row yet
@@ -25,18 +25,18 @@ going h n = record { hvip = h; applied = n; refusal = 0 }
 
 -- a turn of the fold
 
-turn-refused : (h n : ℕ) (p : Post) → eqb (hvipBitOf (p .vector)) 0 ≡ true → stepOf (going h n) p ≡ record { hvip = h; applied = n; refusal = errorNumber error.InvalidInput }
-unfolding stepOf appliedBy
+turn-refused : (h n : ℕ) (p : Post) → eqb (hvipBitOf (p .vector)) 0 ≡ true → postTaken (going h n) p ≡ record { hvip = h; applied = n; refusal = errorNumber error.InvalidInput }
+unfolding postTaken appliedBy
 turn-refused h n p e = rw e
 
-turn-applied : (h n : ℕ) (p : Post) → eqb (hvipBitOf (p .vector)) 0 ≡ false → stepOf (going h n) p ≡ going (withBits h (hvipBitOf (p .vector)) (tested (p .level))) (n + 1)
-unfolding stepOf appliedBy
+turn-applied : (h n : ℕ) (p : Post) → eqb (hvipBitOf (p .vector)) 0 ≡ false → postTaken (going h n) p ≡ going (withBits h (hvipBitOf (p .vector)) (tested (p .level))) (n + 1)
+unfolding postTaken appliedBy
 turn-applied h n p e = rw e
 
 -- the posts that are left, from a record whose hvip is h, n of them applied
 
 one : (v : Vcpu) (h n : ℕ) (p : Post) (ps : List Post) (t : Bool) → Free v → eqb (hvipBitOf (p .vector)) 0 ≡ t
-    → ((k m : ℕ) → oneByOne m (withHvip v k) ps ≡ endedOf v (foldOf (going k m) ps)) → oneByOne n (withHvip v h) (p ∷ ps) ≡ endedOf v (foldOf (stepOf (going h n) p) ps)
+    → ((k m : ℕ) → oneByOne m (withHvip v k) ps ≡ endedOf v (foldOf (going k m) ps)) → oneByOne n (withHvip v h) (p ∷ ps) ≡ endedOf v (foldOf (postTaken (going h n) p) ps)
 unfolding endedOf withHvip hvipBy pended errorNumber
 one v h n p ps true f e more =
     post-refused (withHvip v h) n p ps (still-free v h f) e

@@ -5,7 +5,7 @@ ghost use lib.ListN.{length};
 ghost use lib.Dec.{eqb};
 ghost use Rattle.isa_types.specs.Pick.{pick};
 ghost use Rattle.scope.specs.Host.{hvipBitOf};
-ghost use Rattle.decide_posts.specs.Fold.{appliedBy, begunBy, foldOf, nextOf, stepOf};
+ghost use Rattle.decide_posts.specs.Fold.{appliedBy, begunBy, foldOf, nextOf, postTaken};
 use scope::Post;
 
 // How far a row has come: hvip, how many posts were applied, and the number of the refusal that stopped it, or 0.
@@ -50,7 +50,7 @@ pub fn fold(s: Row, posts: &[Post]) -> Row
 // One post. A row that was stopped stays as it is.
 fn step(s: Row, p: Post) -> Row
     requires { ⌜ s .applied < 2 ^ 64 - 1 ⌝ }
-    ensures { λ r. ⌜ r ≡ stepOf s p ⌝ }
+    ensures { λ r. ⌜ r ≡ postTaken s p ⌝ }
 {
     let stopped = s.refusal;
     if stopped == 0 {

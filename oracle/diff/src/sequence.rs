@@ -110,12 +110,7 @@ fn one_row(
     tally.rows += 1;
     let by_rust = rust_row(posts, board, rust);
     let ending = Ending::of_row(&subject.post(posts));
-    let by_subject = Outcome::new(ending, subject.record());
-    if by_rust == by_subject {
-        return Ok(());
-    }
-    let text = by_rust.differences(&by_subject, ("Rust", subject.name()));
-    Err(Parted::Call(format!("a row, {posts:x?}\n{text}  on {before:x?}\n")))
+    same(&by_rust, ending, &format!("a row, {posts:x?}"), &before, subject)
 }
 
 /// The row on the Rust, up to the first post that is refused or shows more
@@ -155,10 +150,15 @@ fn one_call(
     tally.calls += 1;
     adjust_call(board, call, &mut by_rust);
     let ending = Ending::of(&subject.call(call));
+    same(&by_rust, ending, &format!("{call:x?}"), &before, subject)
+}
+
+/// The subject ended as the Rust did and left the same record, or what was called is told with the record before it.
+fn same(by_rust: &Outcome, ending: Ending, called: &str, before: &Vcpu, subject: &dyn Subject) -> Result<(), Parted> {
     let by_subject = Outcome::new(ending, subject.record());
-    if by_rust == by_subject {
+    if *by_rust == by_subject {
         return Ok(());
     }
     let text = by_rust.differences(&by_subject, ("Rust", subject.name()));
-    Err(Parted::Call(format!("{call:x?}\n{text}  on {before:x?}\n")))
+    Err(Parted::Call(format!("{called}\n{text}  on {before:x?}\n")))
 }

@@ -48,7 +48,7 @@ use denote.Triple.Table.{entered, cited}
 use denote.Triple.Walked.{says, needs, Stays, stay-none-slice, stay-none, walkOf, Walks, ends-at, walked, goes-none-slice, goes-none, walk-meets}
 use Rattle.scope.specs.declared.hosts.Post.{Post}
 use Rattle.decide_posts.specs.declared.Row.{Row}
-use Rattle.decide_posts.specs.Fold.{foldOf, nextOf, stepOf}
+use Rattle.decide_posts.specs.Fold.{foldOf, nextOf, postTaken}
 use Rattle.decide_posts.specs.FoldLaws.{applies-within, at-end, in-reach, nearer, noPost, turned}
 use Rattle.decide_posts.proofs.fold.Key.{name as #here}
 use Rattle.scope.proofs.hosts.Post as P
@@ -112,8 +112,8 @@ module _ {M : Type 1} (𝓤 : URA M) (H : Heap 𝓤) (A : Atoms 𝓤) (at-mem : 
   abbrev Next : Contract 𝓤
   Next = tripleOf 𝓤 H A next-index.signature (next-index.spec 𝓤 H A at-mem run)
 
-  stepped : (s : Row) (p : Post) (r : Row) → ent 𝓤 (ensured 𝓤 H A step.ended (step.clauses 𝓤 H A at-mem run) tt (s, (p, tt)) tt r) (fact 𝓤 (r ≡ stepOf s p))
-  stepped s p r = exE 𝓤 _ (λ ws. snd∗ 𝓤 (sem 𝓤 H A (lasts step.ended tt (s, (p, tt)) ws)) (fact 𝓤 (r ≡ stepOf s p)))
+  stepped : (s : Row) (p : Post) (r : Row) → ent 𝓤 (ensured 𝓤 H A step.ended (step.clauses 𝓤 H A at-mem run) tt (s, (p, tt)) tt r) (fact 𝓤 (r ≡ postTaken s p))
+  stepped s p r = exE 𝓤 _ (λ ws. snd∗ 𝓤 (sem 𝓤 H A (lasts step.ended tt (s, (p, tt)) ws)) (fact 𝓤 (r ≡ postTaken s p)))
 
   nexted : (s : Row) (i n k : ℕ) → ent 𝓤 (ensured 𝓤 H A next-index.ended (next-index.clauses 𝓤 H A at-mem run) tt (s, (i, (n, tt))) tt k) (fact 𝓤 (k ≡ nextOf s i n))
   nexted s i n k = exE 𝓤 _ (λ ws. snd∗ 𝓤 (sem 𝓤 H A (lasts next-index.ended tt (s, (i, (n, tt))) ws)) (fact 𝓤 (k ≡ nextOf s i n)))
@@ -187,7 +187,7 @@ module _ {M : Type 1} (𝓤 : URA M) (H : Heap 𝓤) (A : Atoms 𝓤) (W : Given
     in-it : T (ltb i n) → i < n
     in-it less = ltb→lt i n less
 
-    abbrev next : T (ltb i n) → (r : Row) (k : ℕ) → r ≡ stepOf s p → k ≡ nextOf r i n → Is Q.the-row r (qm r ∷ []) → Here
+    abbrev next : T (ltb i n) → (r : Row) (k : ℕ) → r ≡ postTaken s p → k ≡ nextOf r i n → Is Q.the-row r (qm r ∷ []) → Here
     next less r k e e₂ is = (k, r, subst (λ (m : ℕ). m ≤ n) (sym e₂) (in-reach r (in-it less)), t .3 ∙ turned s r ys i (in-it less) e ∙ ap (λ (m : ℕ). foldOf r (dropᴸ m ys)) (sym e₂), is, subst (λ (m : ℕ). r .applied ≤ m) (sym e₂) (applies-within s r p (in-it less) e (t .5)))
 
     closer : T (ltb i n) → (r : Row) (k : ℕ) → k ≡ nextOf r i n → n - k < n - i
@@ -241,7 +241,7 @@ module _ {M : Type 1} (𝓤 : URA M) (H : Heap 𝓤) (A : Atoms 𝓤) (W : Given
           -- [post_step's pre; the row; what shuts; what ps owns; _8; …; _7; …; _6; …; _5; …; _4; …; _3; …; _2; …; _1; …; _0; …]
           calls-at ! (fmOf 𝓤 H (W .laws) 𝓣) (Step 𝓤 H A at-mem run) known-step (to-step 𝓤 H A W at-mem run (s t) (p t)) (and-then ! (load ! (from ! (stop !)) (look ! 14 refl)) (and-then ! (load ! (from ! (stop !)) (look ! 4 refl)) (no-more !))) (λ w.
           use1 W (later (some (λ (r : Row). (‵ ftrue ⊛ ‵ (Q.the-row .own r (w ∷ []))) ⊛ raw (ensured 𝓤 H A step.ended (step.clauses 𝓤 H A at-mem run) tt ((s t), (p t, tt)) tt r)))) (id⊢ 𝓤 _) $ await ! tt $ pick ! (λ r.
-          split ! $ move ! (1 ∷ []) $ use1 W (raw (fact 𝓤 (r ≡ stepOf (s t) (p t)))) (stepped 𝓤 H A at-mem run (s t) (p t) r) $ heard ! (r ≡ stepOf (s t) (p t)) (λ e. split ! $ drop ! $
+          split ! $ move ! (1 ∷ []) $ use1 W (raw (fact 𝓤 (r ≡ postTaken (s t) (p t)))) (stepped 𝓤 H A at-mem run (s t) (p t) r) $ heard ! (r ≡ postTaken (s t) (p t)) (λ e. split ! $ drop ! $
           peeks ! Q.the-row (Is Q.the-row) (shows 𝓤 H A Q.the-row) r (w ∷ []) (λ is.
           land ! (from ! (stop !)) (store ! 14 refl (LL.lawful Q.the-type Q′.the-laws 𝓤 H A W .typed r _ is .0)) $
           rewrite ! 14 (λ (u : Val). ‵ (fat fullShare Q′.mir l₃ 0 u)) (ap only (LL.tells Q.the-type Q′.the-laws r (w ∷ []) is)) refl $
