@@ -11,7 +11,8 @@ use Rattle.scope.specs.declared.machine.Vcpu.{Vcpu}
 use Rattle.scope.specs.declared.traps.Error.the-variants as error
 use Rattle.scope.specs.Host.{hvipBitOf}
 use Rattle.scope.specs.Posts.{rowOf}
-use Rattle.scope.specs.Record.{pended, waitingAsk}
+use Rattle.scope.specs.PostsLaws.{withHvip}
+use Rattle.scope.specs.Record.{waitingAsk}
 use Rattle.scope.specs.Refusals.{errorNumber}
 use Rattle.scope.specs.Words.{tested}
 use Rattle.decide_posts.specs.declared.Row.{Row}
@@ -45,5 +46,4 @@ nextOf s i n = pick (eqb (s .refusal) 0) (i + 1) n
 
 -- the record with hvip as the row leaves it, and what the row gives
 unfoldable pub endedOf : Vcpu → Row → RowOutcome
-endedOf v s =
-    rowOf (record { x = v .x; csrs = pended (v .csrs) (s .hvip); counts = v .counts; waiting = v .waiting }) (s .applied) (s .refusal)
+endedOf v s = rowOf (withHvip v (s .hvip)) (s .applied) (s .refusal)

@@ -9,6 +9,7 @@ use Rattle.decide_posts.specs.declared.Row.{Row}
 use Rattle.in_place_record.specs.Laws.{over}
 use Rattle.in_place_record.specs.View.{MadeRow, recordOf, viewOf}
 use Rattle.scope.specs.Posts.{postedOf, rowOf}
+use Rattle.scope.specs.PostsLaws.{withHvip}
 use Rattle.scope.specs.Record.{pended}
 use Rattle.scope.specs.Words.{csrsOf, unpackOf}
 use Rattle.scope.specs.declared.hosts.Post.{Post}
@@ -22,10 +23,10 @@ pub hvip-word : (r : List ℕ) → length r ≡ 58 → getD r 42 0 ≡ viewOf r 
 unfolding viewOf recordOf unpackOf csrsOf
 hvip-word r e = over (λ r. getD r 42 0 ≡ viewOf r .csrs .hs .hvip) (λ k. refl) r e
 
-hvip-shows : (r : List ℕ) (h : ℕ) → length r ≡ 58 → viewOf (set r 42 h) ≡ record { x = viewOf r .x; csrs = pended (viewOf r .csrs) h; counts = viewOf r .counts; waiting = viewOf r .waiting }
-unfolding viewOf recordOf unpackOf csrsOf pended
+hvip-shows : (r : List ℕ) (h : ℕ) → length r ≡ 58 → viewOf (set r 42 h) ≡ withHvip (viewOf r) h
+unfolding viewOf recordOf unpackOf csrsOf withHvip pended
 hvip-shows r h e =
-    over (λ r. viewOf (set r 42 h) ≡ record { x = viewOf r .x; csrs = pended (viewOf r .csrs) h; counts = viewOf r .counts; waiting = viewOf r .waiting }) (λ k. refl) r e
+    over (λ r. viewOf (set r 42 h) ≡ withHvip (viewOf r) h) (λ k. refl) r e
 
 waits-stay : (r : List ℕ) (h : ℕ) → length r ≡ 58 → drop 54 (set r 42 h) ≡ drop 54 r
 waits-stay r h e = over (λ r. drop 54 (set r 42 h) ≡ drop 54 r) (λ k. refl) r e
