@@ -1,6 +1,8 @@
--- Every row of 01's ecalls, and every answer to one, is what one of the decisions does: a law about decisions holds of the rows.
+-- Every row of 01's ecalls, and every answer, is what one of the decisions does: a law about decisions holds of the rows.
 use Prim.Native.Nat.{ℕ}
 use mathlib.Core.Bool.{Bool, true, false}
+use mathlib.Core.List.{List}
+use mathlib.Core.Path.{_≡_, refl, ap, sym, _∙_}
 use lib.Dec.{eqb, leb}
 use Rattle.scope.specs.declared.decided.Answered.{Answered}
 use Rattle.scope.specs.declared.traps.Args.{Args}
@@ -21,6 +23,22 @@ use Rattle.isa_consts.specs.Sbi.{eidDbcn, eidHsm, eidHvc, eidRfnc, eidSpi, eidS
 use Rattle.scope.specs.declared.machine.Event.the-variants as event
 use Rattle.scope.specs.declared.decided.LegacyRequest.the-variants as legacy
 use Rattle.isa_types.specs.Pick.{pick}
+use Rattle.scope.specs.Answers.{answerEffect, fetchEffect, fittingEffect, numbersEffect, valuesEffect, wordEffect}
+use Rattle.scope.specs.GuestPageFault.{faultEffect, mmioOf}
+use Rattle.scope.specs.OneTrap.{answerNumber}
+use Rattle.scope.specs.Record.{waitingAsk}
+use Rattle.scope.specs.Refusals.{refusedOf}
+use Rattle.scope.specs.VirtualInstruction.{missedEffect, missedOf, stimecmpEffect}
+use Rattle.scope.specs.declared.decided.Fault.{Fault}
+use Rattle.scope.specs.declared.decided.Stimecmp.{Stimecmp}
+use Rattle.scope.specs.declared.machine.Waiting.the-variants as waiting
+use Rattle.scope.specs.declared.machine.Waiting.{Waiting}
+use Rattle.scope.specs.declared.traps.Access.{Access}
+use Rattle.scope.specs.declared.traps.Answer.the-variants as answer
+use Rattle.scope.specs.declared.traps.Answer.{Answer}
+use Rattle.scope.specs.declared.traps.Error.the-variants as error
+use Rattle.scope.specs.declared.traps.Fetch.the-variants as fetch
+use Rattle.scope.specs.declared.traps.Fetch.{Fetch}
 
 module _ (P : Effect → Type 0) where
   -- one of two by a test
@@ -129,3 +147,55 @@ module _ (P : Effect → Type 0) where
     answer-row asked.PutByte word more = done (answered.Returns success 0)
     answer-row asked.GetChar word more = done (answered.Gives word)
     answer-row asked.Forward word more = done (answered.Returns word more)
+
+-- every answer, with what waits for it
+module _ (P : Waiting → Effect → Type 0) (x : List ℕ) (c : Csrs) (csrs : (n : Waiting) (d : Stimecmp) → P n (stimecmpEffect c d)) (faults : (n : Waiting) (at : GuestPhysAddr) (k : Access) (d : Fault) → P n (faultEffect c at k d)) (answers : (n : Waiting) (d : Answered) → P n (answeredEffect c d)) (wrong : (n : Waiting) → P n (refusedOf c n error.WrongAnswer)) where
+  numbers : (n : Waiting) (word more : ℕ) → P n (numbersEffect c n word more)
+  unfolding numbersEffect
+  numbers (waiting.Ecall a) word more = answer-row (P (waiting.Ecall a)) c (answers (waiting.Ecall a)) a word more
+  numbers waiting.Idle word more = wrong waiting.Idle
+  numbers (waiting.Load rd w s) word more = wrong (waiting.Load rd w s)
+  numbers waiting.FetchCsr word more = wrong waiting.FetchCsr
+  numbers (waiting.FetchFault at k) word more = wrong (waiting.FetchFault at k)
+
+  instruction : (n : Waiting) (w : ℕ) → P n (wordEffect x c n w)
+  unfolding wordEffect mmioOf
+  instruction waiting.FetchCsr w = csrs waiting.FetchCsr _
+  instruction (waiting.FetchFault at k) w = faults (waiting.FetchFault at k) at k _
+  instruction waiting.Idle w = wrong waiting.Idle
+  instruction (waiting.Load rd l s) w = wrong (waiting.Load rd l s)
+  instruction (waiting.Ecall a) w = wrong (waiting.Ecall a)
+
+  fetched : (n : Waiting) (f : Fetch) → P n (missedEffect c (missedOf f)) → P n (fetchEffect x c n f)
+  unfolding fetchEffect
+  fetched n (fetch.Word w) m = instruction n w
+  fetched n (fetch.Page a) m = m
+  fetched n (fetch.Access a) m = m
+  fetched n (fetch.Misaligned a) m = m
+  fetched n (fetch.GuestPage a) m = m
+  fetched n fetch.Unhandled m = m
+
+  fits : (n : Waiting) (a : Answer) → ((f : Fetch) → a ≡ answer.Fetched f → P n (missedEffect c (missedOf f))) → P n (fittingEffect x c n a)
+  unfolding fittingEffect valuesEffect
+  fits n (answer.Fetched f) m = fetched n f (m f refl)
+  fits n (answer.MaskCopied count bytes) m = numbers n _ _
+  fits n (answer.CopiedIn count) m = numbers n _ _
+  fits n (answer.Printed e value) m = numbers n _ _
+  fits n (answer.ConsoleRead e value) m = numbers n _ _
+  fits n (answer.CopiedOut count) m = numbers n _ _
+  fits n answer.Emitted m = numbers n _ _
+  fits n (answer.Char number) m = numbers n _ _
+  fits n (answer.Forwarded e value) m = numbers n _ _
+  fits n answer.Other m = wrong n
+
+  by-number : (n : Waiting) (a : Answer) (b : Bool) → eqb (waitingAsk n) (answerNumber a) ≡ b
+      → ((f : Fetch) → a ≡ answer.Fetched f → eqb (waitingAsk n) 1 ≡ true → P n (missedEffect c (missedOf f))) → P n (pick b (fittingEffect x c n a) (refusedOf c n error.WrongAnswer))
+  unfolding answerNumber
+  by-number n a true e m = fits n a (λ f h. m f h (ap (λ (k : Answer). eqb (waitingAsk n) (answerNumber k)) (sym h) ∙ e))
+  by-number n a false e m = wrong n
+
+  -- a fetch that failed is left to the caller, where one waits
+  pub any-answer : (n : Waiting) (a : Answer)
+      → ((f : Fetch) → a ≡ answer.Fetched f → eqb (waitingAsk n) 1 ≡ true → P n (missedEffect c (missedOf f))) → P n (answerEffect x c n a)
+  unfolding answerEffect
+  any-answer n a m = by-number n a (eqb (waitingAsk n) (answerNumber a)) refl m

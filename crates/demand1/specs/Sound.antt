@@ -6,14 +6,10 @@ use mathlib.Core.Path.{refl}
 use lib.Dec.{eqb, ltb}
 use Rattle.isa_types.specs.Pick.{pick}
 use Rattle.scope.specs.Decided.{callEffect, answeredEffect}
-use Rattle.scope.specs.OneTrap.{answerNumber, answerValues}
 use Rattle.scope.specs.declared.traps.Access.{Access}
 use Rattle.scope.specs.declared.traps.Answer.{Answer}
-use Rattle.scope.specs.declared.traps.Answer.the-variants as answer
 use Rattle.scope.specs.declared.traps.Args.{Args}
 use Rattle.scope.specs.declared.traps.Error.the-variants as error
-use Rattle.scope.specs.declared.traps.Fetch.{Fetch}
-use Rattle.scope.specs.declared.traps.Fetch.the-variants as fetch
 use Rattle.isa_types.specs.declared.GuestPhysAddr.{GuestPhysAddr}
 use Rattle.scope.specs.declared.traps.Trap.{Trap}
 use Rattle.isa_decoder.specs.declared.Trapped.{Trapped}
@@ -39,13 +35,13 @@ use Rattle.scope.specs.declared.decided.Answered.{Answered}
 use Rattle.scope.specs.declared.decided.Answered.the-variants as answered
 use Rattle.scope.specs.Host.{hvipBitOf, pagingBy, pagingEffect, pendingEffect, writeEffect}
 use Rattle.scope.specs.Classes.{startEffect, classOf, classEffect}
-use Rattle.scope.specs.Answers.{answerEffect, fetchEffect, fittingEffect, numbersEffect, valuesEffect, wordEffect}
+use Rattle.scope.specs.Answers.{answerEffect}
 use Rattle.demand1.specs.Leaves.{Sound, Says, ExitLeaves, Failed, copy-in, copy-mask, copy-out, fetch-csr, fetch-fault, get-char, put-byte, put-char, read-console, forward, illegal, print, quiet, load}
 use Rattle.scope.specs.declared.decided.Class.{Class}
 use Rattle.scope.specs.declared.hosts.HostCall.{HostCall}
 use Rattle.scope.specs.declared.machine.Vcpu.{Vcpu}
 use Rattle.scope.specs.declared.decided.Class.the-variants as class
-use Rattle.demand1.specs.Rows.{ecall-row, one-of, answer-row}
+use Rattle.demand1.specs.Rows.{any-answer, ecall-row, one-of}
 use Rattle.scope.specs.Calls.{effectOf, gprReply}
 use Rattle.scope.specs.declared.hosts.HostCall.the-variants as hostCall
 use Rattle.scope.specs.declared.traps.Reply.the-variants as reply
@@ -144,49 +140,10 @@ pub start-sound : (x : List ℕ) (c : Csrs) (n : Waiting) (t : Trap) → Sound c
 unfolding startEffect
 start-sound x c n t = picked (isIdle n) (class-sound (classOf (t .scause)) x c n t) (state-sound c n)
 
-numbers-sound : (c : Csrs) (n : Waiting) (word more : ℕ) → Sound c n (numbersEffect c n word more)
-unfolding numbersEffect
-numbers-sound c (waiting.Ecall a) word more =
-    answer-row (Sound c (waiting.Ecall a)) c (answered-sound c (waiting.Ecall a)) a word more
-numbers-sound c waiting.Idle word more = wrong-sound c waiting.Idle
-numbers-sound c (waiting.Load rd l s) word more = wrong-sound c (waiting.Load rd l s)
-numbers-sound c waiting.FetchCsr word more = wrong-sound c waiting.FetchCsr
-numbers-sound c (waiting.FetchFault at k) word more = wrong-sound c (waiting.FetchFault at k)
-
-resumed-sound : (x : List ℕ) (c : Csrs) (n : Waiting) (w : ℕ) → Sound c n (wordEffect x c n w)
-unfolding wordEffect
-resumed-sound x c waiting.FetchCsr w = csr-sound c waiting.FetchCsr _
-resumed-sound x c (waiting.FetchFault at k) w = mmio-sound x c (waiting.FetchFault at k) at k _
-resumed-sound x c waiting.Idle w = wrong-sound c waiting.Idle
-resumed-sound x c (waiting.Load rd l s) w = wrong-sound c (waiting.Load rd l s)
-resumed-sound x c (waiting.Ecall a) w = wrong-sound c (waiting.Ecall a)
-
-fetched-sound : (x : List ℕ) (c : Csrs) (n : Waiting) (f : Fetch) → Sound c n (fetchEffect x c n f)
-unfolding fetchEffect
-fetched-sound x c n (fetch.Word w) = resumed-sound x c n w
-fetched-sound x c n (fetch.Page a) = missed-sound c n _
-fetched-sound x c n (fetch.Access a) = missed-sound c n _
-fetched-sound x c n (fetch.Misaligned a) = missed-sound c n _
-fetched-sound x c n (fetch.GuestPage a) = missed-sound c n _
-fetched-sound x c n fetch.Unhandled = missed-sound c n _
-
-continued-sound : (x : List ℕ) (c : Csrs) (n : Waiting) (a : Answer) → Sound c n (fittingEffect x c n a)
-unfolding fittingEffect valuesEffect answerValues
-continued-sound x c n (answer.Fetched f) = fetched-sound x c n f
-continued-sound x c n (answer.MaskCopied k b) = numbers-sound c n k b
-continued-sound x c n (answer.CopiedIn k) = numbers-sound c n k 0
-continued-sound x c n (answer.Printed e v) = numbers-sound c n e v
-continued-sound x c n (answer.ConsoleRead e v) = numbers-sound c n e v
-continued-sound x c n (answer.CopiedOut k) = numbers-sound c n k 0
-continued-sound x c n answer.Emitted = numbers-sound c n 0 0
-continued-sound x c n (answer.Char k) = numbers-sound c n k 0
-continued-sound x c n (answer.Forwarded e v) = numbers-sound c n e v
-continued-sound x c n answer.Other = wrong-sound c n
-
 -- an answer
 pub answer-sound : (x : List ℕ) (c : Csrs) (n : Waiting) (a : Answer) → Sound c n (answerEffect x c n a)
-unfolding answerEffect
-answer-sound x c n a = picked (eqb (waitingAsk n) (answerNumber a)) (continued-sound x c n a) (wrong-sound c n)
+answer-sound x c n a =
+    any-answer (λ n e. Sound c n e) x c (csr-sound c) (fault-sound c) (answered-sound c) (wrong-sound c) n a (λ f h k. missed-sound c n _)
 
 -- a load's completion
 pub completed-sound : (c : Csrs) (n : Waiting) (k : ℕ) → Sound c n (completedOf c n k)

@@ -11,14 +11,13 @@ use Rattle.isa_consts.specs.Sbi.{eidDbcn, eidHsm, eidHvc, eidRfnc, eidSpi, eidS
 use Rattle.isa_consts.specs.Traps.{envCallFromVs, knownCause, loadGuestPageFault, storeGuestPageFault, supervisorExt, supervisorSoft, supervisorTimer, virtualInstruction}
 use Rattle.isa_types.specs.Pick.{and, never, or, pick}
 use Rattle.isa_types.specs.declared.GuestPhysAddr.{GuestPhysAddr}
-use Rattle.scope.specs.Answers.{answerEffect, fetchEffect, fittingEffect, numbersEffect, valuesEffect, wordEffect}
-use Rattle.scope.specs.Calls.{baseOf, calledOf, effectOf, gprReply}
+use Rattle.scope.specs.Answers.{answerEffect}
+use Rattle.scope.specs.Calls.{calledOf, effectOf}
 use Rattle.scope.specs.Classes.{argumentsOf, classEffect, classOf, startEffect}
 use Rattle.scope.specs.Decided.{answeredEffect}
 use Rattle.scope.specs.Ecalls.{asksOf, consoleEffect, dbcnEffect, ecallEffect, forwardEffect, givesOf, hsmEffect, hypercallOf, lesserOf, movesOf, notSupportedEffect, returnsOf, rfncEffect, spanEffect, spiEffect, srstEffect, staysOf, timeEffect}
 use Rattle.scope.specs.GuestPageFault.{completedOf, faultEffect, mmioOf, pageFaultOf}
 use Rattle.scope.specs.Host.{entryCsrs, pagingBy, pagingEffect, tableCsrs, writeEffect}
-use Rattle.scope.specs.OneTrap.{answerNumber}
 use Rattle.scope.specs.Record.{applied, isIdle, moved, timed, waitingAsk}
 use Rattle.scope.specs.Refusals.{askingOf, doneOf, failedOf, finishedOf, leavesOf, refusedOf, unlessAsking}
 use Rattle.scope.specs.VirtualInstruction.{askFetchOf, injectedOf, missedEffect, stimecmpEffect, virtualEffect}
@@ -41,14 +40,11 @@ use Rattle.scope.specs.declared.machine.Waiting.the-variants as waiting
 use Rattle.scope.specs.declared.machine.Waiting.{Waiting}
 use Rattle.scope.specs.declared.traps.Access.the-variants as access
 use Rattle.scope.specs.declared.traps.Access.{Access}
-use Rattle.scope.specs.declared.traps.Answer.the-variants as answer
 use Rattle.scope.specs.declared.traps.Answer.{Answer}
 use Rattle.scope.specs.declared.traps.Args.{Args}
 use Rattle.scope.specs.declared.traps.Error.the-variants as error
-use Rattle.scope.specs.declared.traps.Fetch.the-variants as fetch
-use Rattle.scope.specs.declared.traps.Fetch.{Fetch}
 use Rattle.scope.specs.declared.traps.Trap.{Trap}
-use Rattle.demand1.specs.Rows.{answer-row, one-of}
+use Rattle.demand1.specs.Rows.{any-answer, one-of}
 
 -- hvip is what it was
 abbrev pub HvipKept : Vcpu → Vcpu → Type 0
@@ -236,47 +232,13 @@ answered-keeps c (answered.SendIpi r) = record { hvip = refl }
 answered-keeps c (answered.Print n) = record { hvip = refl }
 answered-keeps c (answered.CopyOut at n) = record { hvip = refl }
 
-numbers-keeps : (c : Csrs) (n : Waiting) (word more : ℕ) → Keeps c (numbersEffect c n word more)
-unfolding numbersEffect refusedOf leavesOf
-numbers-keeps c (waiting.Ecall a) word more = answer-row (Keeps c) c (answered-keeps c) a word more
-numbers-keeps c waiting.Idle word more = record { hvip = refl }
-numbers-keeps c (waiting.Load rd l s) word more = record { hvip = refl }
-numbers-keeps c waiting.FetchCsr word more = record { hvip = refl }
-numbers-keeps c (waiting.FetchFault at k) word more = record { hvip = refl }
-
-word-keeps : (x : List ℕ) (c : Csrs) (n : Waiting) (w : ℕ) → Keeps c (wordEffect x c n w)
-unfolding wordEffect mmioOf refusedOf leavesOf
-word-keeps x c waiting.FetchCsr w = csr-keeps c _
-word-keeps x c (waiting.FetchFault at k) w = fault-keeps c at k _
-word-keeps x c waiting.Idle w = record { hvip = refl }
-word-keeps x c (waiting.Load rd l s) w = record { hvip = refl }
-word-keeps x c (waiting.Ecall a) w = record { hvip = refl }
-
-fetch-keeps : (x : List ℕ) (c : Csrs) (n : Waiting) (f : Fetch) → Keeps c (fetchEffect x c n f)
-unfolding fetchEffect
-fetch-keeps x c n (fetch.Word w) = word-keeps x c n w
-fetch-keeps x c n (fetch.Page a) = missed-keeps c _
-fetch-keeps x c n (fetch.Access a) = missed-keeps c _
-fetch-keeps x c n (fetch.Misaligned a) = missed-keeps c _
-fetch-keeps x c n (fetch.GuestPage a) = missed-keeps c _
-fetch-keeps x c n fetch.Unhandled = missed-keeps c _
-
-fitting-keeps : (x : List ℕ) (c : Csrs) (n : Waiting) (a : Answer) → Keeps c (fittingEffect x c n a)
-unfolding fittingEffect valuesEffect refusedOf leavesOf
-fitting-keeps x c n (answer.Fetched f) = fetch-keeps x c n f
-fitting-keeps x c n (answer.MaskCopied count bytes) = numbers-keeps c n _ _
-fitting-keeps x c n (answer.CopiedIn count) = numbers-keeps c n _ _
-fitting-keeps x c n (answer.Printed e value) = numbers-keeps c n _ _
-fitting-keeps x c n (answer.ConsoleRead e value) = numbers-keeps c n _ _
-fitting-keeps x c n (answer.CopiedOut count) = numbers-keeps c n _ _
-fitting-keeps x c n answer.Emitted = numbers-keeps c n _ _
-fitting-keeps x c n (answer.Char number) = numbers-keeps c n _ _
-fitting-keeps x c n (answer.Forwarded e value) = numbers-keeps c n _ _
-fitting-keeps x c n answer.Other = record { hvip = refl }
+wrong-keeps : (c : Csrs) (n : Waiting) → Keeps c (refusedOf c n error.WrongAnswer)
+unfolding refusedOf leavesOf
+wrong-keeps c n = record { hvip = refl }
 
 answer-keeps : (x : List ℕ) (c : Csrs) (n : Waiting) (a : Answer) → Keeps c (answerEffect x c n a)
-unfolding answerEffect refusedOf leavesOf
-answer-keeps x c n a = either (eqb (waitingAsk n) (answerNumber a)) (fitting-keeps x c n a) (record { hvip = refl })
+answer-keeps x c n a =
+    any-answer (λ n e. Keeps c e) x c (λ n. csr-keeps c) (λ n. fault-keeps c) (λ n. answered-keeps c) (wrong-keeps c) n a (λ f h k. missed-keeps c _)
 
 completed-keeps : (c : Csrs) (n : Waiting) (k : ℕ) → Keeps c (completedOf c n k)
 unfolding completedOf doneOf refusedOf leavesOf
