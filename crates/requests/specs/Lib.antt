@@ -1,3 +1,4 @@
+pub mod Kept
 pub mod Hvip
 pub mod SetTimer
 pub mod Meaning
