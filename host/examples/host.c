@@ -82,7 +82,9 @@ int main(void) {
     struct vcpu_posted posted = vcpu_post_row(&v, row, sizeof row / sizeof *row);
     printf("a row of 4 posts: %" PRIu64 " applied, refusal %" PRIu64 ", hvip %#" PRIx64 "\n", posted.applied, posted.refusal, v.hvip);
 
-    load(&v, "a fetch that faults", 0, 0);
+    v.hstatus &= ~0x100ull, v.sstatus &= ~0x100ull; /* SPVP and SPP, as the hart leaves them where user code trapped */
+    load(&v, "a fetch of user code that faults", 0, 0);
+    printf("the guest takes it in mode %d, from mode %d (0 user, 1 supervisor)\n", (int)(v.sstatus >> 8 & 1), (int)(v.vsstatus >> 8 & 1));
     printf("out of turn: %#" PRIx64 "\n", vcpu_complete_load(&v, 0));
     return 0;
 }

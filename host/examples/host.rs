@@ -100,8 +100,12 @@ fn main() -> Result<(), Error> {
     let given = vcpu.post(&[Post::set(S_EXT), Post::set(S_SOFT), Post::set(7), Post::clear(S_EXT)]);
     println!("  {} were applied, hvip is {:#x}; {}", given.applied, vcpu.hvip, given.whole().unwrap_err());
 
-    handle(&mut vcpu, "A load with no instruction in htinst:", load(0), 0)?;
-    println!("  the guest takes fault {} at {:#x} itself", vcpu.vscause, vcpu.vstval);
+    // So the hart leaves both where user code trapped: hstatus.SPVP and sstatus.SPP are 0.
+    vcpu.hstatus &= !(1 << 8);
+    vcpu.sstatus &= !(1 << 8);
+    handle(&mut vcpu, "A load of user code with no instruction in htinst:", load(0), 0)?;
+    let mode = |status: u64| if status >> 8 & 1 == 0 { "user" } else { "supervisor" };
+    println!("  it takes fault {} at {:#x} itself, in {} mode, from {} mode", vcpu.vscause, vcpu.vstval, mode(vcpu.sstatus), mode(vcpu.vsstatus));
     println!("A load completed with none waiting is refused: {}", vcpu.complete_load(0).unwrap_err());
     Ok(())
 }

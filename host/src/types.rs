@@ -339,8 +339,6 @@ impl Ask {
 
 /// What fetching a guest's instruction gave: its word, or why it could not be had.
 ///
-/// The guest takes a page, access or misaligned fault itself.
-///
 /// ```
 /// # use curbizzolu::*;
 /// # fn main() -> Result<(), Error> {
@@ -356,17 +354,37 @@ impl Ask {
 /// # Ok(())
 /// # }
 /// ```
+///
+/// The first three faults are the guest's own: it takes the exception in supervisor mode, also where user code trapped. The exit is
+/// [`Exit::Nothing`], and the record is all that the return needs.
+///
+/// ```
+/// # use curbizzolu::*;
+/// # fn main() -> Result<(), Error> {
+/// # let mut vcpu = Vcpu::new(0, 0);
+/// # vcpu.setup()?;
+/// vcpu.vstvec = 0x8000_1000;
+/// const BIT_8: u64 = 1 << 8; // hstatus.SPVP, sstatus.SPP, vsstatus.SPP: 0 is user mode
+/// vcpu.hstatus &= !BIT_8;
+/// vcpu.sstatus &= !BIT_8; // so the hart leaves both where user code trapped
+/// let Step::Ask(Ask::Fetch { at, supervisor: false }) = vcpu.start(&Trap { scause: 21, ..Trap::default() })? else { panic!() };
+/// assert_eq!(vcpu.answer(&Answer::Fetched(Fetch::Page(at)))?, Step::Exit(Exit::Nothing));
+/// assert_eq!((vcpu.sepc, vcpu.vscause), (0x8000_1000, 12));
+/// assert_eq!((vcpu.sstatus & BIT_8, vcpu.vsstatus & BIT_8), (BIT_8, 0)); // to supervisor mode, from user mode
+/// # Ok(())
+/// # }
+/// ```
 #[derive(Clone, Copy, Debug, Eq, Hash, PartialEq)]
 pub enum Fetch {
     /// The instruction. Where it is 16 bits long (its low two bits are not 3) the upper half is not looked at.
     Word(u32),
-    /// The guest's page tables have no page here.
+    /// The guest's page tables have no page here. The guest takes exception 12.
     Page(GuestVirtAddr),
-    /// The access is not allowed.
+    /// The access is not allowed. The guest takes exception 1.
     Access(GuestVirtAddr),
-    /// The address is not aligned.
+    /// The address is not aligned. The guest takes exception 0.
     Misaligned(GuestVirtAddr),
-    /// The host has not mapped this page of the guest's memory.
+    /// The host has not mapped this page of the guest's memory: [`Exit::NestedPageFault`].
     GuestPage(GuestPhysAddr),
     /// Anything else: the trap ends in [`TrapError::GuestMemoryFault`].
     Unhandled,

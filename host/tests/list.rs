@@ -236,6 +236,26 @@ fn rows() -> Vec<(Vec<(usize, u64)>, Call)> {
         row(&waits, &post(1, 9));
         row(&waits, &post(2, bad));
     }
+    // W5, a fetch that fails, of a virtual instruction and of both guest page faults: of user and of supervisor code, with sstatus bit 8
+    // clear and set, each word zeros and ones beside it. Faults 1 to 3 are injected, 4 and 5 are not, 6 is no fault's number.
+    for (kind, access) in [(2, 0), (3, 1), (3, 2)] {
+        let mut fails = |fault: u64, hstatus: u64, sstatus: u64| {
+            row(&[(33, sstatus), (34, hstatus), (54, kind), (55, 0x1000_0003), (56, access)], &[11, 1, 0x8000_1001, fault]);
+        };
+        for fault in 1..=3 {
+            for (hstatus, sstatus) in [(0x80, 0), (0x180, 0), (0x80, 0x100), (!0x100, !0x100), (u64::MAX, !0x100), (!0x100, u64::MAX)] {
+                fails(fault, hstatus, sstatus);
+            }
+        }
+        for fault in [0, 4, 5, 6] {
+            fails(fault, 0x80, 0);
+            fails(fault, u64::MAX, !0x100);
+        }
+    }
+    // The ask itself leaves both.
+    for (scause, stval) in [(22, 0), (21, 7), (23, 6)] {
+        row(&[(33, 0), (34, 0x80)], &[10, scause, stval, 0x0400_0000, 0, 4]);
+    }
     rows
 }
 

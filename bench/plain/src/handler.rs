@@ -341,6 +341,7 @@ impl Vcpu {
         self.vscause = cause;
         self.vstval = at;
         self.sepc = self.vstvec & !3;
+        self.sstatus |= 0x100;
         NOTHING
     }
 

@@ -32,14 +32,15 @@ pub fn decide(f: Fetch) -> Missed
     }
 }
 
-// The guest's CSRs after an exception that it takes in supervisor mode.
+// The guest's CSRs after an exception that it takes in supervisor mode: sstatus.SPP says so to the return.
 pub fn inject(c: Csrs, cause: u64, addr: GuestVirtAddr) -> Csrs
     ensures { λ r. ⌜ r ≡ injectedOf c cause addr ⌝ }
 {
+    let sstatus = isa_registers::with_bits(c.guest.sstatus, 0x100, true);
     let vsstatus = trap_status(c.vs.vsstatus, c.guest.hstatus);
     let guest = GuestCsrs {
         sepc: c.vs.vstvec / 4 * 4,
-        sstatus: c.guest.sstatus,
+        sstatus,
         hstatus: c.guest.hstatus,
     };
     let vs = VsCsrs {

@@ -141,11 +141,11 @@ faultLeft r o at k (fault.Load w s rd n) =
     left (movedWords (set (set (set (set r 54 1) 55 rd) 56 (widthBytes w)) 57 (flagOf s)) n) (two o (at .0) (widthBytes w)) 9
 faultLeft r o at k (fault.Store w d n) = left (stepWords r n) (three o (at .0) (widthBytes w) d) 10
 
--- the CSRs after an injected exception, of which five differ
+-- the CSRs after an injected exception, of which six differ
 unfoldable pub injectWords : List ℕ → Csrs → List ℕ
 injectWords r c =
-    set (set (set (set (set (set r 54 0) 35 (c .vs .vsstatus)) 37 (c .vs .vsepc)) 38 (c .vs .vscause)) 39 (c .vs .vstval)) 32
-    (c .guest .sepc)
+    set (set (set (set (set (set (set r 54 0) 35 (c .vs .vsstatus)) 37 (c .vs .vsepc)) 38 (c .vs .vscause)) 39 (c .vs .vstval)) 32
+    (c .guest .sepc)) 33 (c .guest .sstatus)
 
 -- a failed fetch
 unfoldable pub missedLeft : List ℕ → List ℕ → Missed → Left

@@ -76,4 +76,5 @@ pub fn inject(r: &mut [u64; 58], c: Csrs)
     r[in_place_record::VSCAUSE] = c.vs.vscause;
     r[in_place_record::VSTVAL] = c.vs.vstval;
     r[in_place_record::SEPC] = c.guest.sepc;
+    r[in_place_record::SSTATUS] = c.guest.sstatus;
 }

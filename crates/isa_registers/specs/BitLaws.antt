@@ -1,11 +1,11 @@
--- Bit by bit, what it is to clear one.
-use Prim.Native.Nat.{ℕ, zero, suc, _-_, _/_, _%_, _^_, _<_, min}
-use native.Mathlib.Nat.{min-le-left, mod-eq-of-lt, mod-lt, mul-add-mod-self-right, lt-of-le-of-lt, zero-lt-suc}
+-- Bit by bit, what it is to set one and to clear one.
+use Prim.Native.Nat.{ℕ, zero, suc, _-_, _/_, _%_, _^_, _<_, max, min, suc-le-suc}
+use native.Mathlib.Nat.{le-of-suc-le-suc, max-le, min-le-left, mod-eq-of-lt, mod-lt, mul-add-mod-self-right, lt-of-le-of-lt, zero-lt-suc}
 use native.Mathlib.Omega.{arith}
 use borrow.Author.Tests.{eqb-false, eqb-true}
 use mathlib.Core.Bool.{Bool, true, false}
 use mathlib.Core.Path.{_≡_, refl, ap, sym, subst, _∙_}
-use lib.Bits.{and-shr, and-step, bitAnd}
+use lib.Bits.{and-shr, and-step, bitAnd, bitOr, or-shr, or-step}
 use lib.Dec.{eqb}
 use Rattle.isa_types.specs.Pick.{and, pick}
 use Rattle.isa_registers.specs.Bits.{withBits}
@@ -61,7 +61,8 @@ min-by (suc zero) true h = refl
 min-by (suc zero) false h = refl
 min-by (suc (suc n)) b h = absurd (omega arith)
 
-bit-lt : (n i : ℕ) → bitOf n i < 2
+-- a bit is 0 or 1
+pub bit-lt : (n i : ℕ) → bitOf n i < 2
 unfolding bitOf
 bit-lt n i = mod-lt (n / 2 ^ i) (zero-lt-suc 1)
 
@@ -72,3 +73,42 @@ cleared-bit n k i hk hi =
     and-bit n (2 ^ 64 - 1 - 2 ^ k) i
     ∙ ap (λ (m : ℕ). min (bitOf n i) m) (eqb-true _ _ (masked k i hk hi))
     ∙ min-by (bitOf n i) (eqb i k) (bit-lt n i)
+
+max-lt : (a b : ℕ) → a < 2 → b < 2 → max a b < 2
+max-lt a b h k = suc-le-suc (max-le (le-of-suc-le-suc h) (le-of-suc-le-suc k))
+
+-- a bit of two numbers' OR
+pub or-bit : (a b i : ℕ) → bitOf (bitOr a b) i ≡ max (bitOf a i) (bitOf b i)
+unfolding bitOf
+or-bit a b i =
+    ap (λ (n : ℕ). n % 2) (or-shr a b i ∙ or-step (a / 2 ^ i) (b / 2 ^ i))
+    ∙ mul-add-mod-self-right _ 2 _
+    ∙ mod-eq-of-lt (max-lt _ _ (mod-lt (a / 2 ^ i) (zero-lt-suc 1)) (mod-lt (b / 2 ^ i) (zero-lt-suc 1)))
+
+-- the bits of the mask that sets bit k: bit k is 1, each other 0
+marked : (k i : ℕ) → k < 64 → i < 64 → eqb (bitOf (2 ^ k) i) (pick (eqb i k) 1 0) ≡ true
+unfolding bitOf
+marked k i hk hi =
+    below 64 (λ i. eqb (bitOf (2 ^ k) i) (pick (eqb i k) 1 0))
+    (below 64 (λ k. allBelow 64 (λ i. eqb (bitOf (2 ^ k) i) (pick (eqb i k) 1 0))) refl k hk) i hi
+
+max-by : (n : ℕ) (b : Bool) → n < 2 → max n (pick b 1 0) ≡ pick b 1 n
+max-by zero true h = refl
+max-by zero false h = refl
+max-by (suc zero) true h = refl
+max-by (suc zero) false h = refl
+max-by (suc (suc n)) b h = absurd (omega arith)
+
+-- setting bit k: bit k is 1, and every other bit is what it was
+pub set-bit : (n k i : ℕ) → k < 64 → i < 64 → bitOf (withBits n (2 ^ k) true) i ≡ pick (eqb i k) 1 (bitOf n i)
+unfolding withBits
+set-bit n k i hk hi =
+    or-bit n (2 ^ k) i
+    ∙ ap (λ (m : ℕ). max (bitOf n i) m) (eqb-true _ _ (marked k i hk hi))
+    ∙ max-by (bitOf n i) (eqb i k) (bit-lt n i)
+
+-- writing a bit m, 0 or 1, to bit k
+pub written-bit : (n m k i : ℕ) → m < 2 → k < 64 → i < 64 → bitOf (withBits n (2 ^ k) (eqb m 1)) i ≡ pick (eqb i k) m (bitOf n i)
+written-bit n zero k i hm hk hi = cleared-bit n k i hk hi
+written-bit n (suc zero) k i hm hk hi = set-bit n k i hk hi
+written-bit n (suc (suc m)) k i hm hk hi = absurd (omega arith)

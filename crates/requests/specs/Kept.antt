@@ -1,4 +1,4 @@
--- What a call keeps, for any number of the CSRs: hvip in Hvip.antt.
+-- What a call keeps, for any number of the CSRs: hvip in Hvip.antt, sstatus and hstatus in Mode.antt.
 use Prim.Native.Nat.{ℕ, _%_, _^_}
 use mathlib.Core.Bool.{Bool, true}
 use mathlib.Core.List.{List}

@@ -1,4 +1,4 @@
--- CSR instructions on stimecmp; fetching the guest's instruction, and what a failed fetch does. 01, Virtual instruction.
+-- CSR instructions on stimecmp; fetching the guest's instruction, and what a failed fetch does. 01, Virtual instruction; 02, W5.
 use Prim.Native.Nat.{ℕ, _%_, _^_, _*_, _/_}
 use mathlib.Core.Bool.{true, false}
 use lib.Dec.{eqb}
@@ -91,11 +91,12 @@ unfoldable pub trapStatusOf : ℕ → ℕ → ℕ
 trapStatusOf vsstatus hstatus =
     withBits (withBits (withBits vsstatus (2 ^ 5) (sieOf vsstatus)) (2 ^ 1) false) (2 ^ 8) (spvpOf hstatus)
 
--- vsepc = sepc, vscause, vstval = address, sepc = vstvec with low two bits 0
+-- vsepc = sepc, vscause, vstval = address, sepc = vstvec with low two bits 0; and sstatus SPP (bit 8) is set, so that the return goes to
+-- supervisor mode, hstatus stays (02, W5; PRIV, 'Hypervisor Extension', trap return)
 unfoldable pub injectedOf : Csrs → ℕ → GuestVirtAddr → Csrs
 injectedOf c cause addr =
     record {
-      guest = record { sepc = c .vs .vstvec / 4 * 4; sstatus = c .guest .sstatus; hstatus = c .guest .hstatus };
+      guest = record { sepc = c .vs .vstvec / 4 * 4; sstatus = withBits (c .guest .sstatus) (2 ^ 8) true; hstatus = c .guest .hstatus };
       vs =
           record {
             vsstatus = trapStatusOf (c .vs .vsstatus) (c .guest .hstatus);

@@ -70,6 +70,10 @@ code (reply.Error e) = (0x100 + errorNumber e) ∷ []
 unfoldable shown : Outcome → List ℕ
 shown o = o .vcpu .csrs .guest .sepc ∷ o .vcpu .csrs .vs .vstimecmp ∷ code (o .reply)
 
+-- vsstatus, sstatus and hstatus before these
+abbrev status : Outcome → List ℕ
+status o = o .vcpu .csrs .vs .vsstatus ∷ o .vcpu .csrs .guest .sstatus ∷ o .vcpu .csrs .guest .hstatus ∷ shown o
+
 abbrev register : Outcome → ℕ → ℕ
 register o i = getD (o .vcpu .x) i 0
 
@@ -85,16 +89,16 @@ fault scause x htinst = calledOf (base 0x1000 7 x) (hostCall.Start (trap scause 
 abbrev loaded : ℕ → Outcome
 loaded htinst = calledOf (fault 21 (replicate 32 0) htinst .vcpu) (hostCall.CompleteLoad 0x8000_0000)
 
--- the record of case 12, before a virtual instruction whose word has to be fetched
-unfoldable twelve : Vcpu
-twelve =
+-- the record of case 12, with this hstatus, before a virtual instruction whose word has to be fetched; sstatus bit 8 is clear
+unfoldable twelve : ℕ → Vcpu
+twelve hstatus =
     let v = base 0x1000 7 (replicate 32 0) in
     let c = v .csrs in
     record {
       x = v .x;
       csrs =
           record {
-            guest = c .guest;
+            guest = record { sepc = c .guest .sepc; sstatus = 0x2000; hstatus = hstatus };
             vs =
                 record { vsstatus = 2; vstvec = 0x8020_0001; vsepc = 0; vscause = 0; vstval = 0; vstimecmp = c .vs .vstimecmp };
             hs = c .hs;
@@ -103,8 +107,8 @@ twelve =
       waiting = v .waiting;
     }
 
-abbrev injected : Outcome
-injected = calledOf (calledOf twelve (hostCall.Start (trap 22 0 0 0)) .vcpu) (hostCall.Answer (answer.Fetched (fetch.Page (record { 0 = 0x1000 }))))
+abbrev injected : ℕ → Outcome
+injected hstatus = calledOf (calledOf (twelve hstatus) (hostCall.Start (trap 22 0 0 0)) .vcpu) (hostCall.Answer (answer.Fetched (fetch.Page (record { 0 = 0x1000 }))))
 
 -- what was got, beside what 01 says
 record Row : Type 0 where
@@ -141,8 +145,10 @@ marked =
     ∷ row (register (loaded 0x6383) 7 ∷ []) (0x8000_0000 ∷ [])
     -- 11. levels 3, mode 8, root 0x80004000: hgatp 0x8000000000080004
     ∷ row (calledOf (base 0 0 (replicate 32 0)) (hostCall.SetNestedPageTable 3 8 0x8000_4000) .vcpu .csrs .hs .hgatp ∷ []) (0x8000_0000_0008_0004 ∷ [])
-    -- 12. vstvec 0x80200001, vsstatus 2, hstatus bit 8 set, page fault: vsstatus 0x120, sepc 0x80200000
-    ∷ row (injected .vcpu .csrs .vs .vsstatus ∷ shown injected) (0x120 ∷ 0x8020_0000 ∷ 7 ∷ 0 ∷ 0 ∷ 0 ∷ 0 ∷ [])
+    -- 12. vstvec 0x80200001, vsstatus 2, hstatus bit 8 set, page fault: vsstatus 0x120, sepc 0x80200000; sstatus bit 8 set (02, W5)
+    ∷ row (status (injected 0x180)) (0x120 ∷ 0x2100 ∷ 0x180 ∷ 0x8020_0000 ∷ 7 ∷ 0 ∷ 0 ∷ 0 ∷ 0 ∷ [])
+    -- the same of user code, hstatus bit 8 clear: vsstatus 0x20
+    ∷ row (status (injected 0x80)) (0x20 ∷ 0x2100 ∷ 0x80 ∷ 0x8020_0000 ∷ 7 ∷ 0 ∷ 0 ∷ 0 ∷ 0 ∷ [])
     ∷ []
 
 equal : List ℕ → List ℕ → Bool

@@ -37,12 +37,12 @@ void say(const char *text);
 void check(const char *name, u64 got, u64 want);
 void known(const char *name, u64 got, u64 want, u64 by_01); /* by_01: what 01 gives where that is not what it should be */
 
-/* What the guest's trap handler counted and saw last. */
-extern volatile u64 cause, epc, faults, ticks, ipis, externals;
+/* What the guest's trap handler counted and saw last; from is SPP, the mode: 0 user, 1 supervisor. */
+extern volatile u64 cause, epc, from, faults, ticks, ipis, externals;
 extern volatile enum off { BY_TIME, BY_STIMECMP, BY_LEGACY } off; /* how the handler ends a tick */
 
 /* start.S */
-extern char user_done[], user_load[], user_amo[];
+extern char user_done[], user_load[], user_store[], user_amo[];
 u64 run_user(u64 pc, u64 a1); /* user code from pc on; a0 at its ecall */
 
 /* Loads from a1 into a0, which held 0x77 before, and stores. Where C is there the assembler makes lw, ld, sw, sd 16 bits long. */

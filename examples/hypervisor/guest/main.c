@@ -1,7 +1,7 @@
 /* What the tests share, and their order. */
 #include "guest.h"
 
-volatile u64 cause, epc, faults, ticks, ipis, externals;
+volatile u64 cause, epc, from, faults, ticks, ipis, externals;
 volatile enum off off;
 static u64 bad, gaps;
 
@@ -53,8 +53,8 @@ u64 handler(u64 scause, u64 sepc) {
         else call(off == BY_TIME ? TIME : 0, 0, -1, 0, 0);
         return sepc;
     }
-    cause = scause, epc = sepc, faults++;
-    if (!(csr_get(sstatus) & 0x100)) { /* from user mode */
+    cause = scause, epc = sepc, from = csr_get(sstatus) >> 8 & 1, faults++;
+    if (from == 0) { /* user mode */
         csr_set(sstatus, 0x100);
         return (u64)user_done;
     }

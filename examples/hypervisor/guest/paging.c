@@ -49,18 +49,24 @@ static void crossing(void) {
     check("ld from the device into memory: ones", LOAD_LONG("ld", SMALL + 0x1ffc), -1ull), check("its htinst", seen(GET_HTINST), 0x3503);
 }
 
+static const u64 injected[] = {0, 12, 1, 0}; /* the cause of each VCPU_FETCH_ that the guest takes itself */
+
 static void user(void) {
-    u64 code = USER_RAM(user_load);
+    u64 code = USER_RAM(user_load), store = USER_RAM(user_store);
     check("lw in user mode", run_user(code, USER_DEVICE), 0xffffffffbbaa9988), check("back by its ecall", cause, 8);
     run_user(USER_RAM(user_amo), USER_DEVICE);
     check("an AMO on the device in user mode: the guest takes the fault in S mode",
           (cause == 5 || cause == 7) && epc == USER_RAM(user_amo), 1);
     knob(KNOB_HTINST_ZERO, 1), check("lw in user mode, htinst 0", run_user(code, USER_DEVICE), 0xffffffffbbaa9988);
     check("the handler asked for the word", seen(GET_FIRST_REPLY), 0x21), check("and it was a device read", seen(GET_REPLY), 9);
-    knob(KNOB_FAIL_FETCH, 1), run_user(code, USER_DEVICE), check("a fetch of user code that faults: page fault", cause, 12);
-    known("the guest takes it in S mode", epc == code, 1, 0);
-    knob(KNOB_FETCH_SPP, 1), knob(KNOB_FAIL_FETCH, 1), run_user(code, USER_DEVICE);
-    check("it does where the host sets sstatus.SPP", epc == code && cause == 12, 1), knob(KNOB_FETCH_SPP, 0), knob(KNOB_HTINST_ZERO, 0);
+    for (u64 fault = 1; fault <= 3; fault++) {
+        knob(KNOB_FAIL_FETCH, fault), run_user(code, USER_DEVICE);
+        check(fault == 1 ? "a fetch of user code that faults: page fault" : fault == 2 ? "access fault" : "misaligned", cause, injected[fault]);
+        check("the guest takes it in S mode", epc == code, 1), check("it came from user mode", from, 0);
+        knob(KNOB_FAIL_FETCH, fault), run_user(store, USER_DEVICE);
+        check("the same of a store", cause == injected[fault] && epc == store && from == 0, 1);
+    }
+    knob(KNOB_HTINST_ZERO, 0);
 }
 
 /* c.lw a0, 0(a1) is the last of its page. A host that fetches four bytes at once meets the page that is not there. */
@@ -82,7 +88,12 @@ static void fetches(void) {
     for (u64 fault = 1; fault <= 3; fault++) {
         faults = 0, knob(KNOB_FAIL_FETCH, fault), n = LOAD("lbu", DEVICE);
         check(fault == 1 ? "a fetch with a page fault" : fault == 2 ? "with an access fault" : "misaligned",
-              faults == 1 && cause == (fault == 1 ? 12 : fault == 2 ? 1 : 0) && n == 0x77, 1);
+              faults == 1 && cause == injected[fault] && n == 0x77, 1);
+        check("it came from S mode", from, 1);
+        faults = 0, knob(KNOB_FAIL_FETCH, fault), STORE("sb", DEVICE, 1);
+        check("the same of a store", faults == 1 && cause == injected[fault] && from == 1, 1);
+        faults = 0, knob(KNOB_STCE, 0), knob(KNOB_FAIL_FETCH, fault), n = csr_get(stimecmp), knob(KNOB_STCE, 1);
+        check("the same of a virtual instruction", faults == 1 && cause == injected[fault] && from == 1, 1);
     }
     faults = 0, knob(KNOB_FAIL_FETCH, 4), n = LOAD("lbu", DEVICE);
     check("with a guest page fault: mapped, and tried again", faults == 0 && n == 0x88, 1);

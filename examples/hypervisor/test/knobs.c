@@ -99,8 +99,6 @@ u64 __real_vcpu_answer(struct vcpu *v, const struct vcpu_answer_words *a, struct
 u64 __wrap_vcpu_answer(struct vcpu *v, const struct vcpu_answer_words *a, struct vcpu_out *out) {
     u64 reply = __real_vcpu_answer(v, a, out);
     trace_reply(reply);
-    int injected = a->ask == VCPU_ASK_FETCH && a->second != VCPU_FETCH_WORD && reply == VCPU_EXIT_NOTHING;
-    if (injected && of(v)->knob[KNOB_FETCH_SPP]) v->sstatus |= SSTATUS_SPP;
     return reply;
 }
 

@@ -11,7 +11,6 @@ enum {
     KNOB_STCE,          /* henvcfg.STCE */
     KNOB_LIBRARY_FIRST, /* 1: the host does not look for RAM before it starts a trap */
     KNOB_FAIL_FETCH,    /* the next fetch is answered with this VCPU_FETCH_ */
-    KNOB_FETCH_SPP,     /* 1: after a fetch fault the host sets sstatus.SPP */
     KNOB_KEEP_TICK,     /* 1: with STCE 0 the host latches a tick and never takes it back */
     KNOB_TYPED,         /* 1: the console has "typed" to read */
     KNOB_SOFT,          /* the host gets a software interrupt of its own */

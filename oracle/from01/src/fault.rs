@@ -23,6 +23,10 @@ fn inject(r: &mut Record, cause: u64, address: u64) -> Reply {
     r.set(VSCAUSE, cause);
     r.set(VSTVAL, address);
     r.set(VSSTATUS, new);
+    // "Injection shall also set sstatus bit 8, so that the return goes to
+    // supervisor mode; hstatus stays." (W5) The other bits of sstatus stay, and
+    // SPP is from hstatus bit 8 all the same (reading).
+    r.set(SSTATUS, r.get(SSTATUS) | 1 << 8);
     r.set(SEPC, r.get(VSTVEC) & !3);
     exit(NOTHING, &[])
 }

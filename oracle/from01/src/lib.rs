@@ -4,8 +4,8 @@
 //!
 //! It is written to be read beside 01 and the requests of 02 that have landed:
 //! each rule stands under the sentence that it follows. Quotes are 01's; one
-//! from a request has the request's name behind it: "(W1)", "(W2)", "(W4)".
-//! "(reading)" marks a point that they leave open and a recorded reading
+//! from a request has the request's name behind it: "(W1)", "(W2)", "(W4)",
+//! "(W5)". "(reading)" marks a point that they leave open and a recorded reading
 //! settles, "(words)" one of the layout as words. Where they name a form of the
 //! ISA, its fields are the ISA's.
 
@@ -14,6 +14,8 @@
 mod compressed;
 mod ecall;
 mod fault;
+#[cfg(test)]
+mod injection_tests;
 mod posts;
 #[cfg(test)]
 mod posts_tests;

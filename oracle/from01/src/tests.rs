@@ -1,6 +1,6 @@
 //! The marked cases, the refusal table, the rules of the waiting words and
 //! each rule of 01 by an example; then W1 and W2, each with what it says stays.
-//! W4 stands in posts_tests.rs.
+//! W4 stands in posts_tests.rs, W5 in injection_tests.rs.
 
 use super::*;
 
@@ -42,7 +42,7 @@ fn ecall_record(eid: u64, fid: u64, args: &[u64]) -> [u64; 58] {
 /// Makes the call and compares the reply and the whole later record: the
 /// earlier one with these words set.
 #[track_caller]
-fn check(
+pub fn check(
     words: &mut [u64; 58],
     kind: u64,
     numbers: [u64; 5],
@@ -63,7 +63,7 @@ fn next(words: &[u64; 58]) -> u64 {
     words[SEPC].wrapping_add(4)
 }
 
-fn nothing() -> Reply {
+pub fn nothing() -> Reply {
     exit(NOTHING, &[])
 }
 
@@ -217,6 +217,8 @@ fn case_12_injected_page_fault() {
             (WAITS, waits),
         ]);
         let sepc = w[SEPC];
+        // "Case 12 gains that bit." (W5)
+        let sstatus = w[SSTATUS] | 0x100;
         check(
             &mut w,
             11,
@@ -227,6 +229,7 @@ fn case_12_injected_page_fault() {
                 (VSCAUSE, 12),
                 (VSTVAL, 0xabc),
                 (VSSTATUS, 0x120),
+                (SSTATUS, sstatus),
                 (SEPC, 0x80200000),
                 (WAITS, 0),
             ],
@@ -960,6 +963,7 @@ fn fetch_faults() {
                 (VSCAUSE, cause),
                 (VSTVAL, 5),
                 (VSSTATUS, !0x122),
+                (SSTATUS, w[SSTATUS] | 0x100),
                 (SEPC, u64::MAX - 3),
             ];
             check(&mut w, 11, [1, 5, more, 0, 0], nothing(), &later);
@@ -1897,6 +1901,16 @@ fn total_and_refusals_change_nothing() {
             _ => hvip,
         };
         assert_eq!(words[HVIP], later);
+        // All that changes sstatus.
+        let sstatus = before[SSTATUS];
+        let later = match (kind, before[WAITS], numbers) {
+            _ if refused => sstatus,
+            (1, ..) => 0x2100,
+            (14, ..) => 0,
+            (11, 2 | 3, [1, _, 1..=3, ..]) => sstatus | 0x100,
+            _ => sstatus,
+        };
+        assert_eq!(words[SSTATUS], later);
         if matches!(kind, 1 | 2 | 4..=9) {
             assert_eq!(words[WAITS..], before[WAITS..]);
         }

@@ -134,5 +134,7 @@ fn case_12_injection() {
     let fault = Answer::Fetch(FetchAnswer::Page(GuestVirtAddr(0x46)));
     assert_eq!(v.answer(&fault), nothing());
     assert_eq!((v.vsstatus, v.sepc), (0x120, 0x8020_0000));
+    // 02, W5
+    assert_eq!((v.sstatus, v.hstatus), (0x100, 0x100));
     assert_eq!((v.vsepc, v.vscause, v.vstval), (0x44, 12, 0x46));
 }

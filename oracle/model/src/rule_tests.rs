@@ -852,3 +852,245 @@ fn a_row_cut_in_two() {
         }
     }
 }
+
+/// A record in which every number is all ones.
+fn all_ones() -> Vcpu {
+    Vcpu::from_words(&[u64::MAX; 58], Waiting::Nothing)
+}
+
+/// User code and supervisor code, each with sstatus bit 8 clear and set.
+fn codes(record: &Vcpu) -> Vec<Vcpu> {
+    let mut codes = Vec::new();
+    for hstatus in [record.hstatus & !0x100, record.hstatus | 0x100] {
+        for sstatus in [record.sstatus & !0x100, record.sstatus | 0x100] {
+            codes.push(Vcpu { sstatus, hstatus, ..record.clone() });
+        }
+    }
+    codes
+}
+
+/// All numbers different, all ones and zero.
+fn guests() -> Vec<Vcpu> {
+    [all_different(), all_ones(), Vcpu::zero()].iter().flat_map(codes).collect()
+}
+
+/// The traps that ask for a word, each with what it leaves waiting.
+fn fetching() -> [(Trap, FetchFor); 3] {
+    let addr = GuestPhysAddr(7);
+    let page_fault = |scause| Trap { htval: 1, stval: 7, ..trap(scause) };
+    [
+        (trap(22), FetchFor::VirtualInstruction),
+        (page_fault(21), FetchFor::GuestPageFault { addr, write: false }),
+        (page_fault(23), FetchFor::GuestPageFault { addr, write: true }),
+    ]
+}
+
+/// The faults that are injected, at address 0x46, each with its cause.
+fn injected() -> [(Answer, u64); 3] {
+    let at = GuestVirtAddr(0x46);
+    [
+        (Answer::Fetch(FetchAnswer::Page(at)), 12),
+        (Answer::Fetch(FetchAnswer::Access(at)), 1),
+        (Answer::Fetch(FetchAnswer::Misaligned(at)), 0),
+    ]
+}
+
+/// 02, W5: bit 8 of sstatus, whatever it was and whichever code ran. SPP of
+/// vsstatus is hstatus bit 8, and hstatus stays.
+#[test]
+fn injection_sets_sstatus_bit_8() {
+    let some = 0x5a5a_5a5a_5a5a_5a00;
+    for (record, sstatus, by_user, by_supervisor, sepc) in [
+        (all_different(), some + 0x121, some + 0x21, some + 0x121, some + 0x24),
+        (all_ones(), u64::MAX, !0x102, !2, !3),
+        (Vcpu::zero(), 0x100, 0, 0x100, 0),
+    ] {
+        for before in codes(&record) {
+            let supervisor = before.hstatus & 0x100 != 0;
+            let vsstatus = if supervisor { by_supervisor } else { by_user };
+            for (start, _) in fetching() {
+                for (answer, vscause) in injected() {
+                    let mut v = before.clone();
+                    v.start(&start);
+                    assert_eq!(v.answer(&answer), Reply::Exit(Exit::Nothing));
+                    let mut want = Vcpu { sepc, sstatus, vsstatus, ..before.clone() };
+                    (want.vsepc, want.vscause, want.vstval) = (before.sepc, vscause, 0x46);
+                    assert_eq!(v, want, "{start:?} {answer:?}");
+                }
+            }
+        }
+    }
+}
+
+/// 02, W5: the other bits of sstatus and all of hstatus stay, each set alone
+/// and each clear alone. No other bit of hstatus decides SPP.
+#[test]
+fn injection_bit_by_bit() {
+    for bit in 0..64 {
+        for one in [1 << bit, !(1 << bit)] {
+            for (sstatus, hstatus) in [(one, 0), (one, u64::MAX), (0, one), (u64::MAX, one)] {
+                for (start, _) in fetching() {
+                    let mut v = Vcpu { sstatus, hstatus, ..Vcpu::zero() };
+                    let mut want = Vcpu { sstatus: sstatus | 0x100, ..v.clone() };
+                    (want.vsstatus, want.vscause, want.vstval) = (hstatus & 0x100, 12, 0x46);
+                    v.start(&start);
+                    v.answer(&injected()[0].0);
+                    assert_eq!(v, want, "{start:?}");
+                }
+            }
+        }
+    }
+}
+
+/// 02, W5: a guest as setup leaves it, in its user program and in its kernel,
+/// with a second fault in the handler. The asks go by hstatus.
+#[test]
+fn a_handler_runs_as_supervisor() {
+    let (user, kernel) = ((0x2000, 0x2_0000_0080, 0x20), (0x2100, 0x2_0000_0180, 0x120));
+    for (sstatus, hstatus, vsstatus) in [user, kernel] {
+        let mut v = Vcpu { vsstatus: 2, vstvec: 0x8020_0001, ..Vcpu::zero() };
+        v.setup();
+        (v.sstatus, v.hstatus, v.sepc) = (sstatus, hstatus, 0x44);
+        let supervisor = hstatus & 0x100 != 0;
+        let mut want = Vcpu { sstatus: 0x2100, vsstatus, sepc: 0x8020_0000, ..v.clone() };
+        let at = GuestVirtAddr(0x44);
+        assert_eq!(v.start(&trap(22)), Reply::Ask(Ask::Fetch { at, supervisor }));
+        v.answer(&injected()[0].0);
+        (want.vsepc, want.vscause, want.vstval) = (0x44, 12, 0x46);
+        assert_eq!(v, want);
+        let at = GuestVirtAddr(0x8020_0000);
+        assert_eq!(v.start(&trap(22)), Reply::Ask(Ask::Fetch { at, supervisor }));
+        v.answer(&injected()[1].0);
+        // SIE was 0, so SPIE is.
+        (want.vsstatus, want.vsepc, want.vscause) = (vsstatus & 0x100, 0x8020_0000, 1);
+        assert_eq!(v, want);
+    }
+}
+
+/// 02, W5: a guest-page fault and an unhandled one are not injected.
+#[test]
+fn a_fault_that_is_not_injected_leaves_sstatus() {
+    let addr = GuestPhysAddr(0x46);
+    let fault = Reply::Exit(Exit::NestedPageFault { addr, access: Access::Execute });
+    for before in guests() {
+        for (start, _) in fetching() {
+            for (answer, reply) in [
+                (FetchAnswer::GuestPage(addr), fault),
+                (FetchAnswer::Unhandled, Reply::Error(Error::GuestMemoryFault)),
+            ] {
+                let mut v = before.clone();
+                v.start(&start);
+                assert_eq!(v.answer(&Answer::Fetch(answer)), reply);
+                assert_eq!(v, before);
+            }
+        }
+    }
+}
+
+/// 02, W5: the bit is the answer's work. The ask leaves sstatus, and so does
+/// an answer that is refused: of another kind, or with no fetch waiting.
+#[test]
+fn an_ask_and_a_refused_answer_leave_sstatus() {
+    let refused = Reply::Error(Error::WrongAnswer);
+    for before in guests() {
+        for (start, class) in fetching() {
+            let mut v = before.clone();
+            let at = GuestVirtAddr(before.sepc);
+            let supervisor = before.hstatus & 0x100 != 0;
+            assert_eq!(v.start(&start), Reply::Ask(Ask::Fetch { at, supervisor }));
+            let asked = Vcpu { waiting: Waiting::Fetch(class), ..before.clone() };
+            assert_eq!(v, asked);
+            // The first is a fetch's.
+            for answer in &every_answer()[1..] {
+                assert_eq!(v.answer(answer), refused);
+                assert_eq!(v, asked);
+            }
+        }
+        let others = every_waiting().split_off(1);
+        for waiting in others.into_iter().chain([load(), Waiting::Nothing]) {
+            let before = Vcpu { waiting, ..before.clone() };
+            for (answer, _) in injected() {
+                let mut v = before.clone();
+                assert_eq!(v.answer(&answer), refused);
+                assert_eq!(v, before);
+            }
+        }
+    }
+}
+
+/// 02, W5: words that fit and words that don't, fetched and given.
+#[test]
+fn a_word_leaves_sstatus() {
+    let [(virtual_word, _), (load_fault, _), (store_fault, _)] = fetching();
+    for before in guests() {
+        let moved = |by| Vcpu { sepc: before.sepc.wrapping_add(by), ..before.clone() };
+        // csrrw x5, stimecmp, x5
+        let mut swapped = Vcpu { vstimecmp: before.x[5], ..moved(4) };
+        swapped.x[5] = before.vstimecmp;
+        let mut counted = before.clone();
+        counted.counts[1] = before.counts[1].wrapping_add(1);
+        let waits = |rd| Waiting::Load { rd, width: Width::Four, signed: true };
+        let lw = Vcpu { waiting: waits(7), ..moved(4) };
+        let c_lw = Vcpu { waiting: waits(8), ..moved(2) };
+        for (start, word, want) in [
+            (virtual_word, 0x14D2_92F3, &swapped),
+            (virtual_word, 0x14D0_4073, &counted),
+            (virtual_word, 0x4000, &counted),
+            (load_fault, 0x2383, &lw),
+            (load_fault, 0x4000, &c_lw),
+            (load_fault, 0x70_2023, &before),
+            (load_fault, 0x1f, &before),
+            (store_fault, 0x70_2023, &moved(4)),
+            (store_fault, 0xc000, &moved(2)),
+            (store_fault, 0x2383, &before),
+            (store_fault, 0x1f, &before),
+        ] {
+            let mut v = before.clone();
+            v.start(&start);
+            v.answer(&Answer::Fetch(FetchAnswer::Word(word)));
+            assert_eq!(&v, want, "{start:?} {word:#x}");
+        }
+        for (given, want) in [
+            (Trap { stval: 0x14D2_92F3, ..virtual_word }, &swapped),
+            (Trap { stval: 0x14D0_4073, ..virtual_word }, &counted),
+            (Trap { htinst: 0x2383, ..load_fault }, &lw),
+            (Trap { htinst: 0x3000, ..load_fault }, &before),
+            (Trap { htinst: 0x70_2023, ..store_fault }, &moved(4)),
+            (Trap { htinst: 0x2000, ..store_fault }, &before),
+        ] {
+            let mut v = before.clone();
+            v.start(&given);
+            assert_eq!(&v, want, "{given:?}");
+        }
+    }
+}
+
+/// 02, W5 is about fetch faults: of all other calls, an interrupt's injection
+/// among them, setup alone writes sstatus.
+#[test]
+fn other_calls_leave_sstatus() {
+    for before in guests() {
+        for call in changing_calls().into_iter().chain([
+            Call::InjectInterrupt { vector: INTERRUPT + 1 },
+            Call::InjectInterrupt { vector: INTERRUPT + 5 },
+            Call::InjectInterrupt { vector: 9 },
+        ]) {
+            let mut v = before.clone();
+            v.call(&call);
+            let sstatus = if call == Call::Setup { 0x2100 } else { before.sstatus };
+            assert_eq!(v.sstatus, sstatus, "{call:?}");
+        }
+        for code in 0..40 {
+            for scause in [code, INTERRUPT + code] {
+                let mut v = before.clone();
+                v.start(&trap(scause));
+                assert_eq!(v.sstatus, before.sstatus, "{scause:#x}");
+            }
+        }
+        for (waiting, answer) in every_waiting().into_iter().zip(every_answer()) {
+            let mut v = Vcpu { waiting, ..before.clone() };
+            assert_ne!(v.answer(&answer), Reply::Error(Error::WrongAnswer));
+            assert_eq!(v.sstatus, before.sstatus, "{waiting:?}");
+        }
+    }
+}

@@ -92,6 +92,8 @@ impl Vcpu {
         }
     }
 
+    /// The guest's own trap (01, Virtual instruction; 02, W5). vsstatus says where
+    /// the fault came from, sstatus that its handler runs as supervisor.
     fn inject(&mut self, cause: u64, at: GuestVirtAddr) -> Reply {
         const SIE: u64 = 1 << 1;
         const SPIE: u64 = 1 << 5;
@@ -108,6 +110,7 @@ impl Vcpu {
         self.vscause = cause;
         self.vstval = at.0;
         self.vsstatus = vsstatus;
+        self.sstatus |= SPP;
         self.sepc = self.vstvec & !3;
         Reply::Exit(Exit::Nothing)
     }

@@ -23,6 +23,9 @@ element-write-r-5 c = search needs
 element-write-r-6 : tie.Need-element-write-r-6
 element-write-r-6 c = search needs
 
+element-write-r-7 : tie.Need-element-write-r-7
+element-write-r-7 c = search needs
+
 returns : tie.Need-returns
 unfolding injectWords
 returns c = refl
@@ -37,4 +40,5 @@ inject-spec =
     element-write-r-4
     element-write-r-5
     element-write-r-6
+    element-write-r-7
     returns)
