@@ -1,10 +1,11 @@
 //! Every 16-bit word fetched under a guest page fault, in both directions: the
 //! published Rust by the switches, each subject, and from01.
 
-use model::{Trap, Vcpu, Waiting};
+use model::{Trap, Vcpu};
 use scripted::{Fetched, Script};
 
-use crate::compare::{run_both, Pair};
+use crate::by_from01::same_as_from01;
+use crate::compare::run_both;
 use crate::input::Input;
 use crate::outcome::*;
 use crate::rust_side::RustSide;
@@ -25,27 +26,6 @@ fn input(scause: u64, word: u32) -> Input {
     }
 }
 
-/// What from01 comes to: the exit with its numbers, and the record's words.
-fn by_from01(input: &Input) -> (Ending, [u64; 58]) {
-    let Fetched::Word(word) = input.script.fetch else {
-        unreachable!("a word is fetched");
-    };
-    let mut words = input.record.to_words();
-    let trap = &input.trap;
-    from01::call(&mut words, 10, [trap.scause, trap.stval, trap.htval, trap.htinst, trap.room]);
-    let reply = from01::call(&mut words, 11, [1, word as u64, 0, 0, 0]);
-    assert_eq!(reply.kind, 0, "no exit: {word:#x}");
-    (Ending::new(reply.number, &reply.values[..7]), words)
-}
-
-fn same_as_from01(input: &Input, pair: &Pair) -> bool {
-    let (ending, words) = by_from01(input);
-    let due = pair.subject.record.to_words();
-    // What is left beside a kind that carries nothing is nobody's.
-    let carried = if pair.subject.record.waiting == Waiting::Nothing { 55 } else { 58 };
-    pair.subject.ending == ending && words[..carried] == due[..carried]
-}
-
 #[test]
 fn every_16_bit_word_agrees() {
     let mut rust = RustSide::new();
@@ -63,6 +43,7 @@ fn every_16_bit_word_agrees() {
                     let pair = run_both(&mut board, &mut rust, subject.as_mut(), &input, false);
                     assert!(pair.agree(), "{scause} {word:#x}");
                     assert!(same_as_from01(&input, &pair), "{scause} {word:#x}");
+                    assert!(pair.subject.ending.kind <= MMIO_WRITE, "no exit: {word:#x}");
                     exits += (pair.subject.ending.kind == exit) as u64;
                 }
             }

@@ -2,12 +2,16 @@
 
 #[cfg(has_abi)]
 mod abi;
+#[cfg(test)]
+mod by_from01;
 mod calls;
 mod captures;
 mod compare;
 mod constants;
 #[cfg(test)]
 mod every_compressed;
+#[cfg(test)]
+mod every_injection;
 mod expand;
 #[cfg(test)]
 mod faults;
@@ -107,7 +111,8 @@ fn run_traps(options: &Options, subject: &mut dyn Subject) -> bool {
     println!("seed {}, subject {}", options.seed, subject.name());
     let mut run = Run::new(options, options.board.clone(), subject);
     run.go();
-    let missed = run.tally.print(&run.board, &options.only);
+    let mut missed = run.tally.print_injections(&options.only);
+    missed.extend(run.tally.print(&run.board, &options.only));
     for name in &missed {
         println!("not reached: {name}");
     }

@@ -85,6 +85,7 @@ impl Run<'_> {
             let input = generate::input(r, class, record);
             let pair = run_both(&mut self.board, &mut self.rust, self.subject, &input, false);
             self.tally.trap(class, &pair.subject);
+            self.tally.injection(&input);
             if !pair.agree() {
                 self.tally.unexplained += 1;
                 self.report(input);

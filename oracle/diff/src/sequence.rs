@@ -49,10 +49,12 @@ pub fn run(
         }
         record = subject.record();
         let class = r.pick(classes);
-        // The guest runs: its registers and some CSRs change. The generator
-        // sets the argument registers that its class needs.
+        // The guest runs: its registers and some CSRs change. The trap writes
+        // sstatus, in which an injection has set bit 8. The generator sets the
+        // argument registers that its class needs.
         let mut input = generate::input(r, class, record.clone());
         if r.once_in(4) {
+            input.record.sstatus = r.number();
             input.record.hstatus = r.number();
             input.record.vsstatus = r.number();
             input.record.vstvec = r.edgy();
@@ -65,6 +67,7 @@ pub fn run(
         }
         let pair = run_both(board, rust, subject, &input, true);
         tally.trap(class, &pair.subject);
+        tally.injection(&input);
         if !pair.agree() {
             return Err(Parted::Trap(Box::new(input)));
         }

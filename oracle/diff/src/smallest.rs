@@ -38,6 +38,10 @@ fn fetched(scause: u64, word: u32) -> Input {
     input
 }
 
+fn failed(scause: u64, fetch: Fetched) -> Input {
+    with(input(scause), |i| i.script.fetch = fetch)
+}
+
 fn with(mut input: Input, change: impl FnOnce(&mut Input)) -> Input {
     change(&mut input);
     input
@@ -64,6 +68,10 @@ fn inputs() -> Vec<(&'static str, Input, Ending, Ending)> {
         ("timer-tick", hvip(csr(0x14D1_2073)), nothing, nothing),
         ("timer-tick", hvip(fetched(22, 0x14D1_2073)), nothing, nothing),
         ("fetched-opcode", fetched(22, 0x14D0_2000), Ending::error(3), nothing),
+        ("injected-mode", failed(22, Fetched::Page(0)), nothing, nothing),
+        ("injected-mode", failed(22, Fetched::Misaligned(0)), nothing, nothing),
+        ("injected-mode", failed(21, Fetched::Access(0)), nothing, nothing),
+        ("injected-mode", failed(23, Fetched::Page(0)), nothing, nothing),
         ("trap-codes", input(2), Ending::error(3), Ending::error(4)),
         ("trap-codes", input(1 << 63), Ending::error(3), Ending::error(4)),
         ("direction", fetched(23, 0x03), nested(2), read_of(1)),
@@ -103,9 +111,19 @@ fn inputs() -> Vec<(&'static str, Input, Ending, Ending)> {
     ]
 }
 
-fn off(name: &str) -> Board {
+/// Every switch on but this one.
+pub fn off(name: &str) -> Board {
     let mut board = Board::all_on();
     assert!(board.turn_off(name));
+    board
+}
+
+/// Every switch off but these.
+pub fn off_but(names: &[&str]) -> Board {
+    let mut board = Board::all_on();
+    for (_, name, _) in SWITCHES.iter().filter(|(_, name, _)| !names.contains(name)) {
+        assert!(board.turn_off(name));
+    }
     board
 }
 
@@ -142,10 +160,7 @@ fn explains_inputs(subject: &mut dyn Subject) {
 /// 02, W1: on the two set-timer calls SBI, 01 and the Rust agree, with every switch off.
 #[test]
 fn set_timer_needs_no_switch() {
-    let mut none = Board::all_on();
-    for (_, name, _) in SWITCHES {
-        assert!(none.turn_off(name));
-    }
+    let mut none = off_but(&[]);
     let mut rust = RustSide::new();
     for mut subject in subjects() {
         for call in [&[][..], &[(16, 1)], &[(17, EID_TIME)]] {
@@ -168,10 +183,7 @@ fn set_timer_needs_no_switch() {
 /// one for a vector that is not allowed.
 #[test]
 fn a_row_is_the_rusts_posts_one_by_one() {
-    let mut board = Board::all_on();
-    for (_, name, _) in SWITCHES.iter().filter(|(_, name, _)| *name != "vector-error") {
-        assert!(board.turn_off(name));
-    }
+    let mut board = off_but(&["vector-error"]);
     let (soft, timer, external) = (INTERRUPT + 1, INTERRUPT + 5, INTERRUPT + 9);
     let waiting = Waiting::Load { rd: 5, width: Width::One, signed: true };
     let mut rust = RustSide::new();

@@ -18,6 +18,7 @@ pub enum Switch {
     EmptyCopy,
     TimerTick,
     FetchedOpcode,
+    InjectedMode,
     TrapCodes,
     Direction,
     OtherWordFlags,
@@ -34,12 +35,13 @@ pub enum Switch {
 use Switch::*;
 
 /// Each switch with its name and what it does.
-pub const SWITCHES: [(Switch, &str, &str); 16] = [
+pub const SWITCHES: [(Switch, &str, &str); 17] = [
     (ConsoleBound, "console-bound", "DBCN 0 and 1 with a0 above the room: the Rust is given a0 = room"),
     (ConsoleA2, "console-a2", "DBCN 0 and 1 with a0 and a2 not 0: the Rust's outcome is replaced by INVALID_PARAM, 0"),
     (EmptyCopy, "empty-copy", "DBCN 1 answered 0, 0: the Rust's copy of no bytes is dropped, and 0, 0 returned"),
     (TimerTick, "timer-tick", "a CSR write to stimecmp: the hvip bit 6 that the Rust clears is kept"),
     (FetchedOpcode, "fetched-opcode", "a fetched stimecmp word not ending in 0x73, which the Rust carries out: event 2 and error 3"),
+    (InjectedMode, "injected-mode", "an injected fetch fault with sstatus bit 8 clear: the bit, which the Rust leaves, is set"),
     (TrapCodes, "trap-codes", "a code on 01's list that the stand-ins don't have: the Rust's error 4 is error 3"),
     (Direction, "direction", "a load under 23 or a store under 21, which the Rust decodes: NestedPageFault, record unchanged"),
     (OtherWordFlags, "other-word-flags", "a word that is no load or store: the Rust's NestedPageFault gets READ or WRITE"),
@@ -52,6 +54,9 @@ pub const SWITCHES: [(Switch, &str, &str); 16] = [
     (VectorError, "vector-error", "an interrupt vector not allowed: the Rust's error 3 is refusal 1"),
     (SepcOverflow, "sepc-overflow", "with overflow checks, sepc passing 2^64: the Rust's panic is its outcome from 16 bytes lower, moved back"),
 ];
+
+/// sstatus bit 8: the mode that a return goes to.
+const SPP: u64 = 1 << 8;
 
 /// Which switches are on, and how often each was used.
 #[derive(Clone)]
@@ -153,6 +158,7 @@ pub fn adjust(board: &mut Board, input: &Input, rust: &mut Outcome) {
     adjust_console_a2(board, input, rust);
     adjust_timer_tick(board, input, rust);
     adjust_fetched_opcode(board, input, rust);
+    adjust_injected_mode(board, input, rust);
     if in_01_list(input.trap.scause) && board.takes(TrapCodes) {
         if rust.ending == Ending::error(4) {
             rust.ending = Ending::error(3);
@@ -235,6 +241,18 @@ fn adjust_fetched_opcode(board: &mut Board, input: &Input, rust: &mut Outcome) {
         rust.record.counts[1] = input.record.counts[1].wrapping_add(1);
     } else {
         not_shown(rust, FetchedOpcode);
+    }
+}
+
+fn adjust_injected_mode(board: &mut Board, input: &Input, rust: &mut Outcome) {
+    let before = input.record.sstatus;
+    if !injects(input) || before & SPP != 0 || !board.takes(InjectedMode) {
+        return;
+    }
+    if rust.record.sstatus == before {
+        rust.record.sstatus |= SPP;
+    } else {
+        not_shown(rust, InjectedMode);
     }
 }
 

@@ -3,8 +3,10 @@
 use scripted::Request;
 
 use crate::generate::CLASSES;
+use crate::input::Input;
 use crate::outcome::{Outcome, EXITS};
 use crate::switches::{Board, SWITCHES};
+use crate::words::injects;
 
 const ASKS: [&str; 9] = [
     "1 fetch",
@@ -18,6 +20,14 @@ const ASKS: [&str; 9] = [
     "9 forward",
 ];
 
+/// The causes under which a word may be fetched.
+const FETCHING: [u64; 3] = [21, 22, 23];
+
+/// Which code ran, by hstatus bit 8, and sstatus bit 8, in the order of both
+/// as a number.
+const RAN: [&str; 4] =
+    ["user, SPP clear", "user, SPP set", "supervisor, SPP clear", "supervisor, SPP set"];
+
 pub struct Tally {
     pub traps: u64,
     pub calls: u64,
@@ -29,6 +39,8 @@ pub struct Tally {
     asks: [u64; 9],
     exits: [u64; 11],
     errors: [u64; 8],
+    /// Injected fetch faults by scause and by what ran.
+    injected: [[u64; RAN.len()]; FETCHING.len()],
 }
 
 impl Tally {
@@ -43,6 +55,7 @@ impl Tally {
             asks: [0; 9],
             exits: [0; 11],
             errors: [0; 8],
+            injected: [[0; RAN.len()]; FETCHING.len()],
         }
     }
 
@@ -69,6 +82,33 @@ impl Tally {
             kind @ 0x100..=0x107 => self.errors[kind as usize - 0x100] += 1,
             _ => {}
         }
+    }
+
+    /// Counts a trap whose fetch fault is injected.
+    pub fn injection(&mut self, input: &Input) {
+        let cause = FETCHING.iter().position(|&scause| scause == input.trap.scause);
+        if let (Some(cause), true) = (cause, injects(input)) {
+            let bit_8 = |csr: u64| csr as usize >> 8 & 1;
+            let ran = 2 * bit_8(input.record.hstatus) + bit_8(input.record.sstatus);
+            self.injected[cause][ran] += 1;
+        }
+    }
+
+    /// Prints the counts of injected faults; gives the names of what was not
+    /// reached. Captures reach one of the four alone: they start from what
+    /// setup leaves, with both bits set.
+    pub fn print_injections(&self, only: &[bool]) -> Vec<String> {
+        let mut missed = Vec::new();
+        for (scause, counts) in FETCHING.iter().zip(self.injected) {
+            for (ran, count) in RAN.iter().zip(counts) {
+                let name = format!("{scause} {ran}");
+                println!("inject  {name:24}{count:>12}");
+                if only.iter().all(|&on| on) && count == 0 {
+                    missed.push(format!("inject {name}"));
+                }
+            }
+        }
+        missed
     }
 
     /// Prints the counts; gives the names of what was not reached.

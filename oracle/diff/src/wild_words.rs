@@ -30,6 +30,9 @@ const WAITING: u64 = 12;
 const ASKS: u64 = 9;
 /// The ask of each kind of what waits; 0 where none does.
 const ASK_OF: [u64; 13] = [0, 0, 1, 1, 2, 3, 4, 5, 6, 7, 7, 8, 9];
+/// The words of sstatus and hstatus.
+const SSTATUS: usize = 33;
+const HSTATUS: usize = 34;
 /// Numbers that are no ask's.
 const NO_ASKS: [u64; 3] = [0, 10, u64::MAX];
 
@@ -50,6 +53,8 @@ pub struct Tally {
     printed: u64,
     /// Loads and stores by a fetched 16-bit word.
     compressed: [u64; 2],
+    /// Injections that set sstatus bit 8, of user and of supervisor code.
+    injected: [u64; 2],
     /// Rows of posts by what waits, and by the refusal that stopped them, 0
     /// where none did.
     rows: [u64; WAITING as usize + 2],
@@ -76,7 +81,8 @@ impl Tally {
 
     /// Prints the counts; true if everything was reached.
     pub fn print(&self, entry: &Entry) -> bool {
-        let mut reached = self.printed != 0 && self.late != 0 && !self.compressed.contains(&0);
+        let pairs = [self.compressed, self.injected];
+        let mut reached = self.printed != 0 && self.late != 0 && !pairs.concat().contains(&0);
         for (what, row) in self.rows() {
             for (number, count) in row.iter().enumerate() {
                 // Asks and errors are from 1 on; kinds of call too, and to
@@ -93,6 +99,8 @@ impl Tally {
         println!("bytes to print{:>9}", self.printed);
         println!("16-bit loads{:>11}", self.compressed[0]);
         println!("16-bit stores{:>10}", self.compressed[1]);
+        println!("SPP set, user{:>10}", self.injected[0]);
+        println!("SPP set, kernel{:>8}", self.injected[1]);
         println!("stopped late{:>11}", self.late);
         if !reached {
             println!("a number was not reached");
@@ -158,6 +166,10 @@ fn one_call(r: &mut Random, entry: &Entry, tally: &mut Tally) -> Result<(), Stri
     tally.reply(kind, &due);
     if kind == 11 && numbers[1] & 3 != 3 && due.kind == 0 && matches!(due.number, 9 | 10) {
         tally.compressed[due.number as usize - 9] += 1;
+    }
+    // Of all answers, an injected fault alone changes sstatus.
+    if kind == 11 && due_words[SSTATUS] != before[SSTATUS] {
+        tally.injected[(before[HSTATUS] >> 8 & 1) as usize] += 1;
     }
     let same = is.kind == due.kind
         && is.number == due.number

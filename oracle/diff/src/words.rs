@@ -1,5 +1,6 @@
 //! Which instruction word a trap comes to, by 01's rules for stval, htinst
-//! and fetches. The switches decide by it.
+//! and fetches, and whether its fetch ends in a fault that is injected. The
+//! switches decide by it.
 
 use scripted::Fetched;
 
@@ -30,6 +31,18 @@ pub fn virtual_word(input: &Input) -> Option<(u32, bool)> {
         Fetched::Word(word) => Some((word, true)),
         _ => None,
     }
+}
+
+/// Whether the trap fetches its word and gets a fault that 01 injects: page,
+/// access or misaligned. A word that stval or htinst has is not fetched.
+pub fn injects(input: &Input) -> bool {
+    use Fetched::*;
+    let fetches = match input.trap.scause {
+        22 => input.trap.stval & 0x7f != 0x73,
+        21 | 23 => input.trap.htinst == 0,
+        _ => false,
+    };
+    fetches && matches!(input.script.fetch, Page(_) | Access(_) | Misaligned(_))
 }
 
 /// What a guest page fault's word is.
