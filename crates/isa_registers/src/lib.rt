@@ -46,12 +46,10 @@ pub fn sie(vsstatus: u64) -> bool
     vsstatus / 2 % 2 == 1
 }
 
-// The number with the bits of the mask set or cleared.
+// The number with the bits of the mask set or cleared. They are cleared first, so that what is chosen is a number or 0: on rv64gc,
+// which has no conditional move, that is a mask, and a choice of two numbers is a jump.
 pub fn with_bits(n: u64, mask: u64, on: bool) -> u64
     ensures { λ r. ⌜ r ≡ withBits n mask on ⌝ }
 {
-    if on {
-        return n | mask;
-    }
-    n & !mask
+    (n & !mask) | isa_types::select(on, mask, 0)
 }
