@@ -100,8 +100,9 @@ enum { VCPU_IPI_LEGACY = 0, VCPU_IPI_SBI_V02 = 1 };
 #define VCPU_IPI_INVALID_PARAMETER ((uint64_t)-3)
 #define VCPU_IPI_FAILED ((uint64_t)-1)
 
-/* The second number of the answer to VCPU_ASK_FETCH; the first is the word, or the fault's address. The guest takes the first three
- * faults itself, in supervisor mode: the exit is VCPU_EXIT_NOTHING, and sepc, sstatus and the VS CSRs are set for it. */
+/* The second number of the answer to VCPU_ASK_FETCH; the first is the word, or the fault's address. The guest takes
+ * VCPU_FETCH_PAGE, _ACCESS and _MISALIGNED itself, in supervisor mode: the exit is VCPU_EXIT_NOTHING, and sepc, sstatus and the VS CSRs
+ * are set for it. */
 enum {
     VCPU_FETCH_WORD = 0, /* of an instruction of 16 bits the upper half is not looked at */
     VCPU_FETCH_PAGE = 1,

@@ -173,12 +173,12 @@ impl Handler for Interface {
     }
     #[inline(always)]
     fn trap(&mut self, work: &Work, seen: &mut Vec<Reply>) -> u64 {
-        use curbizzolu::{Answer, Ask, Exit, Fetch, Step, Trap};
+        use curbizzolu::{Answer, Ask, Exit, Fetch, GuestVirtAddr, Step, Trap};
         let [error, value] = work.given;
         let [scause, stval, htval, htinst, room] = work.trap;
         let mut step = self.0.start(&Trap { scause, stval, htval, htinst, room });
         let words = |step: &Result<Step, curbizzolu::Error>| match step {
-            Ok(step) => reply_of_step!(*step, |addr: curbizzolu::GuestPhysAddr| addr.0, |at: curbizzolu::GuestVirtAddr| at.0),
+            Ok(step) => reply_of_step!(*step, |addr: curbizzolu::GuestPhysAddr| addr.0, |at: GuestVirtAddr| at.0),
             Err(_) => reply(0x1ff, &[0; 8]),
         };
         if SEE {
@@ -197,7 +197,7 @@ impl Handler for Interface {
                 }
                 Ask::Fetch { at, supervisor } => {
                     asked ^= at.0 ^ supervisor as u64;
-                    Answer::Fetched(Fetch::Word(error as u32))
+                    Answer::Fetched(if value == 0 { Fetch::Word(error as u32) } else { Fetch::Page(GuestVirtAddr(error)) })
                 }
                 _ => Answer::Emitted,
             };
@@ -342,6 +342,7 @@ impl<F: Forms> Handler for PlainEnums<F> {
         }
         let mut asked = 0;
         while let Step::Ask(ask) = step {
+            let faulted;
             let answer = match ask {
                 Ask::Forward { eid, fid, args } => {
                     asked ^= eid ^ fid ^ args[0];
@@ -353,7 +354,12 @@ impl<F: Forms> Handler for PlainEnums<F> {
                 }
                 Ask::Fetch { at, supervisor } => {
                     asked ^= at ^ supervisor as u64;
-                    &fetched
+                    if value == 0 {
+                        &fetched
+                    } else {
+                        faulted = Answer::Fetched(Fetch::Page(error));
+                        &faulted
+                    }
                 }
                 _ => &Answer::Emitted,
             };

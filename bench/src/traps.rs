@@ -2,8 +2,8 @@
 
 pub type Record = [u64; 58];
 
-/// What a trap needs: its registers, its numbers, what the host answers (an error and a value, or a fetched word and 0), and what a device
-/// gives.
+/// What a trap needs: its registers, its numbers, what the host answers (an error and a value, a fetched word and 0, or a page fault's
+/// address and 1), and what a device gives.
 #[derive(Clone, Copy)]
 pub struct Work {
     pub a0: u64,
@@ -52,6 +52,8 @@ struct Kind {
     in_stval: u64,
     /// All ones where the hart leaves the instruction to be fetched.
     fetched: u64,
+    /// What the fetch ends in, by the number of the library's boundary: 0 for the word, 1 for a page fault at any address.
+    fault: u64,
 }
 
 const ECALL: Kind = Kind {
@@ -67,6 +69,7 @@ const ECALL: Kind = Kind {
     forms: 1,
     in_stval: 0,
     fetched: 0,
+    fault: 0,
 };
 const RD: u64 = 31 << 7;
 const RS1: u64 = 31 << 15;
@@ -110,9 +113,9 @@ const STORE: Kind = Kind {
 /// c.ldsp have an rd. funct3 is of three bits and stands one higher than a 32-bit word's.
 const COMPRESSED: u64 = 0x1f7e;
 
-/// The last five are for a hart that leaves the instruction's place, stval or htinst, 0: stimecmp, the load, the store, then the load and
-/// the store of 16 bits.
-const KINDS: [Kind; 12] = [
+/// The last six are for a hart that leaves the instruction's place, stval or htinst, 0: stimecmp, the load, the store, the load and the
+/// store of 16 bits, and a load whose word has a page fault, which the guest takes.
+const KINDS: [Kind; 13] = [
     Kind { name: "TIME", share: 20, a7: 0x5449_4D45, ..ECALL },
     Kind { name: "legacy timer", share: 5, ..ECALL },
     Kind { name: "forward, with its answer", share: 10, a7: 0x10, a6_drawn: 7, ..ECALL },
@@ -125,6 +128,7 @@ const KINDS: [Kind; 12] = [
     Kind { name: "store, fetched", word: 0x23, word_drawn: RS1 | RS2, fetched: u64::MAX, ..STORE },
     Kind { name: "load of 16 bits, fetched", word: 1 << 7, word_drawn: COMPRESSED, funct3: [2 << 1, 3 << 1, 0, 0, 0, 0, 0, 0], forms: 2, fetched: u64::MAX, ..LOAD },
     Kind { name: "store of 16 bits, fetched", word: 1 << 7, word_drawn: COMPRESSED, funct3: [6 << 1, 7 << 1, 0, 0, 0, 0, 0, 0], forms: 2, fetched: u64::MAX, ..STORE },
+    Kind { name: "page fault, injected", word: 0, word_drawn: u64::MAX, forms: 1, fetched: u64::MAX, fault: 1, ..LOAD },
 ];
 /// Of the kinds of the mix the first that a hart may leave to be fetched, and where it stands then.
 const FIRST: usize = 4;
@@ -162,7 +166,7 @@ const fn alone(kind: usize) -> Row {
 /// the first to meet it, and is most often predicted wrongly. In the second the generator has jumped by the kind before, the
 /// processor has that in its history, and the wrong prediction is the generator's: what is left is the handler's work. The third
 /// is the first on a hart that leaves every instruction to be fetched.
-pub static ROWS: [Row; 15] = [
+pub static ROWS: [Row; 16] = [
     Row { name: "the mix", kinds: mixed(false), foreseen: false },
     Row { name: "the mix, the kind foreseen", kinds: mixed(false), foreseen: true },
     Row { name: "the mix, fetched", kinds: mixed(true), foreseen: false },
@@ -178,6 +182,7 @@ pub static ROWS: [Row; 15] = [
     alone(9),
     alone(10),
     alone(11),
+    alone(12),
 ];
 
 /// The shares of the mix, in words.
@@ -198,13 +203,13 @@ fn draw(kind: &Kind, n: u64, value: u64) -> Work {
         a6: kind.a6 | n & kind.a6_drawn,
         a7: kind.a7,
         trap: [kind.scause, stval, value >> 2, shown, 4096],
-        given: [word & kind.fetched | n & !kind.fetched, device & !kind.fetched],
+        given: [word & kind.fetched | n & !kind.fetched, device & !kind.fetched | kind.fault],
         device,
     }
 }
 
 /// In one place, so that a kind is found by an address.
-static TABLE: [Kind; 12] = KINDS;
+static TABLE: [Kind; 13] = KINDS;
 
 /// One function for each kind, to jump to.
 fn kind<const KIND: usize>() -> &'static Kind {
@@ -215,8 +220,10 @@ fn kind<const KIND: usize>() -> &'static Kind {
 /// says where in the table.
 #[inline(always)]
 pub fn work<const FORESEEN: bool>(row: &Row, r: &mut Random) -> Work {
-    static BY_KIND: [fn() -> &'static Kind; 12] =
-        [kind::<0>, kind::<1>, kind::<2>, kind::<3>, kind::<4>, kind::<5>, kind::<6>, kind::<7>, kind::<8>, kind::<9>, kind::<10>, kind::<11>];
+    static BY_KIND: [fn() -> &'static Kind; 13] = [
+        kind::<0>, kind::<1>, kind::<2>, kind::<3>, kind::<4>, kind::<5>, kind::<6>, kind::<7>, kind::<8>, kind::<9>, kind::<10>, kind::<11>,
+        kind::<12>,
+    ];
     let (n, value) = (r.number(), r.number());
     let place = row.kinds[((n >> 32) * 100 >> 32) as usize] as usize;
     draw(if FORESEEN { BY_KIND[place]() } else { &TABLE[place] }, n, value)

@@ -244,6 +244,7 @@ static struct call next_call(word *record) {
         record[57] = below(3);
         break;
     case 2:
+        record[33] = number();
         record[34] = number();
         record[35] = number();
         break;

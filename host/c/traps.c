@@ -21,6 +21,7 @@ static const struct kind {
     uint64_t word, word_drawn; /* the instruction, and its bits that are drawn */
     const char *funct3;        /* the legal ones */
     int fetched;               /* the hart leaves it to be fetched */
+    uint64_t fault;            /* the fetch ends in this one, at any address; 0: in the word */
 } kinds[] = {
     {"time", 0, 10, 0x54494D45, 0, 0, 0, 0, "0", 0}, /* TIME, fid 0 */
     {"legacy-timer", 0, 10, 0, 0, 0, 0, 0, "0", 0},  /* legacy 0 */
@@ -37,6 +38,9 @@ static const struct kind {
     {"c-sp-load-fetched", 9, 21, 0, 0, 0, 0x4082, 0x3f7c, "0", 1}, /* with an rd that is odd, and so not 0 */
     {"c-store-fetched", 10, 23, 0, 0, 0, 0xc000, 0x3ffc, "0", 1},
     {"c-sp-store-fetched", 10, 23, 0, 0, 0, 0xc002, 0x3ffc, "0", 1},
+    {"csr-page-fault", 0, 22, 0, 0, 0, 0, UINT64_MAX, "0", 1, VCPU_FETCH_PAGE},
+    {"load-page-fault", 0, 21, 0, 0, 0, 0, UINT64_MAX, "0", 1, VCPU_FETCH_PAGE},
+    {"store-page-fault", 0, 23, 0, 0, 0, 0, UINT64_MAX, "0", 1, VCPU_FETCH_PAGE},
     {"interrupt", 1, UINT64_C(1) << 63 | 9, 0, 0, 0, 0, 0, "0", 0},
 };
 
@@ -71,7 +75,7 @@ int main(int argc, char **argv) {
             struct vcpu_trap trap = {kind->scause, kind->scause == 22 ? shown : drawn(), drawn(), shown, 4096};
             uint64_t given = vcpu_start(&v, &trap, &out);
             while (given > VCPU_ASK && given < VCPU_DONE) {
-                struct vcpu_answer_words answer = {given - VCPU_ASK, kind->fetched ? word : drawn(), kind->fetched ? 0 : drawn()};
+                struct vcpu_answer_words answer = {given - VCPU_ASK, kind->fetched ? word : drawn(), kind->fetched ? kind->fault : drawn()};
                 given = vcpu_answer(&v, &answer, &out);
             }
             if (given != kind->ends || (given == VCPU_EXIT_MMIO_READ && vcpu_complete_load(&v, drawn()) != VCPU_DONE))

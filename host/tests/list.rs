@@ -14,7 +14,7 @@ const LIST: &str = concat!(env!("CARGO_MANIFEST_DIR"), "/../crates/test_call_lis
 const WRONG: &str = concat!(env!("CARGO_MANIFEST_DIR"), "/../crates/test_call_list/data/wrong");
 const CALLS: u64 = 700;
 /// Of the first 3,000 seeds the one whose calls reach everything and the most different outcomes (`search` finds it).
-const SEED: u64 = 952;
+const SEED: u64 = 2582;
 
 /// Each row of document 01's lists once, whatever the seed finds, and what the requests of document 02 changed in them: words of the
 /// record, and a call. tools/definitions.py says which wrong definitions no line notices; the rows are what those needed, and their
@@ -236,14 +236,14 @@ fn rows() -> Vec<(Vec<(usize, u64)>, Call)> {
         row(&waits, &post(1, 9));
         row(&waits, &post(2, bad));
     }
-    // W5, a fetch that fails, of a virtual instruction and of both guest page faults: of user and of supervisor code, with sstatus bit 8
-    // clear and set, each word zeros and ones beside it. Faults 1 to 3 are injected, 4 and 5 are not, 6 is no fault's number.
+    // W5, the answer to a fetch, of a virtual instruction and of both guest page faults: of user and of supervisor code, with sstatus
+    // bit 8 clear and set, each word zeros and ones beside it. Faults 1 to 3 are injected, 4 and 5 are not; 0 is a word, and 6 no number.
     for (kind, access) in [(2, 0), (3, 1), (3, 2)] {
         let mut fails = |fault: u64, hstatus: u64, sstatus: u64| {
             row(&[(33, sstatus), (34, hstatus), (54, kind), (55, 0x1000_0003), (56, access)], &[11, 1, 0x8000_1001, fault]);
         };
         for fault in 1..=3 {
-            for (hstatus, sstatus) in [(0x80, 0), (0x180, 0), (0x80, 0x100), (!0x100, !0x100), (u64::MAX, !0x100), (!0x100, u64::MAX)] {
+            for (hstatus, sstatus) in [(0x80, 0), (0x180, 0), (0x180, 0x100), (!0x100, !0x100), (u64::MAX, !0x100), (!0x100, u64::MAX)] {
                 fails(fault, hstatus, sstatus);
             }
         }

@@ -148,23 +148,30 @@ module _ (P : Effect → Type 0) where
     answer-row asked.GetChar word more = done (answered.Gives word)
     answer-row asked.Forward word more = done (answered.Returns word more)
 
--- every answer, with what waits for it
-module _ (P : Waiting → Effect → Type 0) (x : List ℕ) (c : Csrs) (csrs : (n : Waiting) (d : Stimecmp) → P n (stimecmpEffect c d)) (faults : (n : Waiting) (at : GuestPhysAddr) (k : Access) (d : Fault) → P n (faultEffect c at k d)) (answers : (n : Waiting) (d : Answered) → P n (answeredEffect c d)) (wrong : (n : Waiting) → P n (refusedOf c n error.WrongAnswer)) where
+-- what holds of the effects of the decisions behind an answer, for whatever waits
+pub record OfDecisions (P : Waiting → Effect → Type 0) (c : Csrs) : Type 0 where
+  pub csrs : (n : Waiting) (d : Stimecmp) → P n (stimecmpEffect c d)
+  pub faults : (n : Waiting) (at : GuestPhysAddr) (k : Access) (d : Fault) → P n (faultEffect c at k d)
+  pub answers : (n : Waiting) (d : Answered) → P n (answeredEffect c d)
+  pub wrong : (n : Waiting) → P n (refusedOf c n error.WrongAnswer)
+
+-- holds of every answer
+module _ (P : Waiting → Effect → Type 0) (x : List ℕ) (c : Csrs) (d : OfDecisions P c) where
   numbers : (n : Waiting) (word more : ℕ) → P n (numbersEffect c n word more)
   unfolding numbersEffect
-  numbers (waiting.Ecall a) word more = answer-row (P (waiting.Ecall a)) c (answers (waiting.Ecall a)) a word more
-  numbers waiting.Idle word more = wrong waiting.Idle
-  numbers (waiting.Load rd w s) word more = wrong (waiting.Load rd w s)
-  numbers waiting.FetchCsr word more = wrong waiting.FetchCsr
-  numbers (waiting.FetchFault at k) word more = wrong (waiting.FetchFault at k)
+  numbers (waiting.Ecall a) word more = answer-row (P (waiting.Ecall a)) c (d .answers (waiting.Ecall a)) a word more
+  numbers waiting.Idle word more = d .wrong waiting.Idle
+  numbers (waiting.Load rd w s) word more = d .wrong (waiting.Load rd w s)
+  numbers waiting.FetchCsr word more = d .wrong waiting.FetchCsr
+  numbers (waiting.FetchFault at k) word more = d .wrong (waiting.FetchFault at k)
 
   instruction : (n : Waiting) (w : ℕ) → P n (wordEffect x c n w)
   unfolding wordEffect mmioOf
-  instruction waiting.FetchCsr w = csrs waiting.FetchCsr _
-  instruction (waiting.FetchFault at k) w = faults (waiting.FetchFault at k) at k _
-  instruction waiting.Idle w = wrong waiting.Idle
-  instruction (waiting.Load rd l s) w = wrong (waiting.Load rd l s)
-  instruction (waiting.Ecall a) w = wrong (waiting.Ecall a)
+  instruction waiting.FetchCsr w = d .csrs waiting.FetchCsr _
+  instruction (waiting.FetchFault at k) w = d .faults (waiting.FetchFault at k) at k _
+  instruction waiting.Idle w = d .wrong waiting.Idle
+  instruction (waiting.Load rd l s) w = d .wrong (waiting.Load rd l s)
+  instruction (waiting.Ecall a) w = d .wrong (waiting.Ecall a)
 
   fetched : (n : Waiting) (f : Fetch) → P n (missedEffect c (missedOf f)) → P n (fetchEffect x c n f)
   unfolding fetchEffect
@@ -186,13 +193,13 @@ module _ (P : Waiting → Effect → Type 0) (x : List ℕ) (c : Csrs) (csrs : (
   fits n answer.Emitted m = numbers n _ _
   fits n (answer.Char number) m = numbers n _ _
   fits n (answer.Forwarded e value) m = numbers n _ _
-  fits n answer.Other m = wrong n
+  fits n answer.Other m = d .wrong n
 
   by-number : (n : Waiting) (a : Answer) (b : Bool) → eqb (waitingAsk n) (answerNumber a) ≡ b
       → ((f : Fetch) → a ≡ answer.Fetched f → eqb (waitingAsk n) 1 ≡ true → P n (missedEffect c (missedOf f))) → P n (pick b (fittingEffect x c n a) (refusedOf c n error.WrongAnswer))
   unfolding answerNumber
   by-number n a true e m = fits n a (λ f h. m f h (ap (λ (k : Answer). eqb (waitingAsk n) (answerNumber k)) (sym h) ∙ e))
-  by-number n a false e m = wrong n
+  by-number n a false e m = d .wrong n
 
   -- a fetch that failed is left to the caller, where one waits
   pub any-answer : (n : Waiting) (a : Answer)

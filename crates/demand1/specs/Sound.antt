@@ -143,7 +143,8 @@ start-sound x c n t = picked (isIdle n) (class-sound (classOf (t .scause)) x c n
 -- an answer
 pub answer-sound : (x : List ℕ) (c : Csrs) (n : Waiting) (a : Answer) → Sound c n (answerEffect x c n a)
 answer-sound x c n a =
-    any-answer (λ n e. Sound c n e) x c (csr-sound c) (fault-sound c) (answered-sound c) (wrong-sound c) n a (λ f h k. missed-sound c n _)
+    any-answer (Sound c) x c (record { csrs = csr-sound c; faults = fault-sound c; answers = answered-sound c; wrong = wrong-sound c }) n a
+    (λ f h k. missed-sound c n _)
 
 -- a load's completion
 pub completed-sound : (c : Csrs) (n : Waiting) (k : ℕ) → Sound c n (completedOf c n k)

@@ -39,6 +39,10 @@ below zero p h i l = absurd (omega arith)
 below (suc n) p h i l =
     below-by n p (first (p n) (allBelow n p) h) i l (below n p (second (p n) (allBelow n p) h) i) (eqb i n) refl
 
+-- two bits of a word, tried each with each
+each-two : (p : ℕ → ℕ → Bool) → allBelow 64 (λ k. allBelow 64 (p k)) ≡ true → (k i : ℕ) → k < 64 → i < 64 → p k i ≡ true
+each-two p h k i hk hi = below 64 (p k) (below 64 (λ k. allBelow 64 (p k)) h k hk) i hi
+
 -- a bit of two numbers' AND
 pub and-bit : (a b i : ℕ) → bitOf (bitAnd a b) i ≡ min (bitOf a i) (bitOf b i)
 unfolding bitOf
@@ -48,11 +52,9 @@ and-bit a b i =
     ∙ mod-eq-of-lt (lt-of-le-of-lt (min-le-left _ _) (mod-lt (a / 2 ^ i) (zero-lt-suc 1)))
 
 -- the bits of the mask that clears bit k: bit k is 0, each other 1
-masked : (k i : ℕ) → k < 64 → i < 64 → eqb (bitOf (2 ^ 64 - 1 - 2 ^ k) i) (pick (eqb i k) 0 1) ≡ true
+clearing-mask : (k i : ℕ) → k < 64 → i < 64 → eqb (bitOf (2 ^ 64 - 1 - 2 ^ k) i) (pick (eqb i k) 0 1) ≡ true
 unfolding bitOf
-masked k i hk hi =
-    below 64 (λ i. eqb (bitOf (2 ^ 64 - 1 - 2 ^ k) i) (pick (eqb i k) 0 1))
-    (below 64 (λ k. allBelow 64 (λ i. eqb (bitOf (2 ^ 64 - 1 - 2 ^ k) i) (pick (eqb i k) 0 1))) refl k hk) i hi
+clearing-mask k i hk hi = each-two (λ k i. eqb (bitOf (2 ^ 64 - 1 - 2 ^ k) i) (pick (eqb i k) 0 1)) refl k i hk hi
 
 min-by : (n : ℕ) (b : Bool) → n < 2 → min n (pick b 0 1) ≡ pick b 0 n
 min-by zero true h = refl
@@ -71,7 +73,7 @@ pub cleared-bit : (n k i : ℕ) → k < 64 → i < 64 → bitOf (withBits n (2 ^
 unfolding withBits
 cleared-bit n k i hk hi =
     and-bit n (2 ^ 64 - 1 - 2 ^ k) i
-    ∙ ap (λ (m : ℕ). min (bitOf n i) m) (eqb-true _ _ (masked k i hk hi))
+    ∙ ap (λ (m : ℕ). min (bitOf n i) m) (eqb-true _ _ (clearing-mask k i hk hi))
     ∙ min-by (bitOf n i) (eqb i k) (bit-lt n i)
 
 max-lt : (a b : ℕ) → a < 2 → b < 2 → max a b < 2
@@ -86,11 +88,9 @@ or-bit a b i =
     ∙ mod-eq-of-lt (max-lt _ _ (mod-lt (a / 2 ^ i) (zero-lt-suc 1)) (mod-lt (b / 2 ^ i) (zero-lt-suc 1)))
 
 -- the bits of the mask that sets bit k: bit k is 1, each other 0
-marked : (k i : ℕ) → k < 64 → i < 64 → eqb (bitOf (2 ^ k) i) (pick (eqb i k) 1 0) ≡ true
+setting-mask : (k i : ℕ) → k < 64 → i < 64 → eqb (bitOf (2 ^ k) i) (pick (eqb i k) 1 0) ≡ true
 unfolding bitOf
-marked k i hk hi =
-    below 64 (λ i. eqb (bitOf (2 ^ k) i) (pick (eqb i k) 1 0))
-    (below 64 (λ k. allBelow 64 (λ i. eqb (bitOf (2 ^ k) i) (pick (eqb i k) 1 0))) refl k hk) i hi
+setting-mask k i hk hi = each-two (λ k i. eqb (bitOf (2 ^ k) i) (pick (eqb i k) 1 0)) refl k i hk hi
 
 max-by : (n : ℕ) (b : Bool) → n < 2 → max n (pick b 1 0) ≡ pick b 1 n
 max-by zero true h = refl
@@ -104,7 +104,7 @@ pub set-bit : (n k i : ℕ) → k < 64 → i < 64 → bitOf (withBits n (2 ^ k) 
 unfolding withBits
 set-bit n k i hk hi =
     or-bit n (2 ^ k) i
-    ∙ ap (λ (m : ℕ). max (bitOf n i) m) (eqb-true _ _ (marked k i hk hi))
+    ∙ ap (λ (m : ℕ). max (bitOf n i) m) (eqb-true _ _ (setting-mask k i hk hi))
     ∙ max-by (bitOf n i) (eqb i k) (bit-lt n i)
 
 -- writing a bit m, 0 or 1, to bit k

@@ -72,19 +72,19 @@ steady : Steady hvipOf
 unfolding moved entryCsrs timed tableCsrs
 steady = record { moves = λ c n. refl; enters = λ c entry. refl; times = λ c d. refl; maps = λ c mode root. refl }
 
-abbrev KeepsIt : Csrs → Effect → Type 0
-KeepsIt c e = Keeps hvipOf c e
+abbrev KeepsHvip : Csrs → Effect → Type 0
+KeepsHvip c e = Keeps hvipOf c e
 
-one : {c : Csrs} (b : Bool) {e f : Effect} → KeepsIt c e → KeepsIt c f → KeepsIt c (pick b e f)
-one b k l = either hvipOf steady b k l
+one : {c : Csrs} (b : Bool) {e f : Effect} → KeepsHvip c e → KeepsHvip c f → KeepsHvip c (pick b e f)
+one b k l = either hvipOf b k l
 
 -- a test that fails
-past : {c : Csrs} (b : Bool) (e : Effect) {f : Effect} → b ≡ false → KeepsIt c f → KeepsIt c (pick b e f)
+past : {c : Csrs} (b : Bool) (e : Effect) {f : Effect} → b ≡ false → KeepsHvip c f → KeepsHvip c (pick b e f)
 past true e h k = never h
 past false e h k = k
 
 -- two that do not hold at once
-past-both : {c : Csrs} (b d : Bool) (e : Effect) {f g : Effect} → and b d ≡ false → KeepsIt c f → KeepsIt c g → KeepsIt c (pick b (pick d e f) g)
+past-both : {c : Csrs} (b d : Bool) (e : Effect) {f g : Effect} → and b d ≡ false → KeepsHvip c f → KeepsHvip c g → KeepsHvip c (pick b (pick d e f) g)
 past-both true true e h k l = never h
 past-both true false e h k l = k
 past-both false d e h k l = l
@@ -99,23 +99,23 @@ right false d h = h
 
 -- ecalls
 
-span-keeps : (c : Csrs) (write : Bool) (at : GuestPhysAddr) (n : ℕ) → KeepsIt c (spanEffect c write at n)
+span-keeps : (c : Csrs) (write : Bool) (at : GuestPhysAddr) (n : ℕ) → KeepsHvip c (spanEffect c write at n)
 unfolding spanEffect returnsOf asksOf finishedOf askingOf moved
 span-keeps c write at n =
     one (eqb n 0) (record { kept = refl }) (one write (record { kept = refl }) (record { kept = refl }))
 
-console-keeps : (c : Csrs) (write : Bool) (a : Args) (room : ℕ) → KeepsIt c (consoleEffect c write a room)
+console-keeps : (c : Csrs) (write : Bool) (a : Args) (room : ℕ) → KeepsHvip c (consoleEffect c write a room)
 unfolding consoleEffect returnsOf finishedOf moved
 console-keeps c write a room =
     one (eqb (a .a0) 0) (record { kept = refl }) (one (eqb (a .a2) 0) (span-keeps c write _ _) (record { kept = refl }))
 
-dbcn-keeps : (c : Csrs) (fid : ℕ) (a : Args) (room : ℕ) → KeepsIt c (dbcnEffect c fid a room)
+dbcn-keeps : (c : Csrs) (fid : ℕ) (a : Args) (room : ℕ) → KeepsHvip c (dbcnEffect c fid a room)
 unfolding dbcnEffect asksOf askingOf notSupportedEffect returnsOf finishedOf moved
 dbcn-keeps c fid a room =
     one (eqb fid 0) (console-keeps c true a room)
     (one (eqb fid 1) (console-keeps c false a room) (one (eqb fid 2) (record { kept = refl }) (record { kept = refl })))
 
-rfnc-keeps : (c : Csrs) (eid fid : ℕ) (a : Args) → KeepsIt c (rfncEffect c eid fid a)
+rfnc-keeps : (c : Csrs) (eid fid : ℕ) (a : Args) → KeepsHvip c (rfncEffect c eid fid a)
 unfolding rfncEffect forwardEffect askingOf
 rfnc-keeps c eid fid a =
     one (eqb fid 0) (record { kept = refl })
@@ -126,7 +126,7 @@ rfnc-keeps c eid fid a =
     (one (eqb fid 5) (record { kept = refl })
     (one (eqb fid 6) (record { kept = refl }) (record { kept = refl })))))))
 
-ecall-keeps : (c : Csrs) (eid fid : ℕ) (a : Args) (room : ℕ) → ecallTouches eid fid ≡ false → KeepsIt c (ecallEffect c eid fid a room)
+ecall-keeps : (c : Csrs) (eid fid : ℕ) (a : Args) (room : ℕ) → ecallTouches eid fid ≡ false → KeepsHvip c (ecallEffect c eid fid a room)
 unfolding ecallTouches ecallEffect asksOf askingOf movesOf staysOf finishedOf moved timeEffect spiEffect hsmEffect srstEffect hypercallOf forwardEffect notSupportedEffect returnsOf
 ecall-keeps c eid fid a room h =
     let rest = right (eqb eid legacySetTimer) _ h in
@@ -151,7 +151,7 @@ ecall-keeps c eid fid a room h =
 
 -- the other classes
 
-missed-keeps : (c : Csrs) (m : Missed) → KeepsIt c (missedEffect c m)
+missed-keeps : (c : Csrs) (m : Missed) → KeepsHvip c (missedEffect c m)
 unfolding missedEffect finishedOf failedOf injectedOf
 missed-keeps c (missed.Inject cause addr) = record { kept = refl }
 missed-keeps c (missed.Nested addr) = record { kept = refl }
@@ -168,11 +168,11 @@ classBehind scause =
     (pick (eqb scause supervisorExt) class.Interrupt
     (pick (knownCause scause) class.NotHandled class.Unknown))))))
 
-one-class : (x : List ℕ) (c : Csrs) (t : Trap) (b : Bool) (k l : Class) → KeepsIt c (classEffect k x c t) → KeepsIt c (classEffect l x c t) → KeepsIt c (classEffect (pick b k l) x c t)
+one-class : (x : List ℕ) (c : Csrs) (t : Trap) (b : Bool) (k l : Class) → KeepsHvip c (classEffect k x c t) → KeepsHvip c (classEffect l x c t) → KeepsHvip c (classEffect (pick b k l) x c t)
 one-class x c t true k l p q = p
 one-class x c t false k l p q = q
 
-behind-keeps : (x : List ℕ) (c : Csrs) (t : Trap) → KeepsIt c (classEffect (classBehind (t .scause)) x c t)
+behind-keeps : (x : List ℕ) (c : Csrs) (t : Trap) → KeepsHvip c (classEffect (classBehind (t .scause)) x c t)
 unfolding classBehind classEffect virtualEffect pageFaultOf mmioOf finishedOf failedOf
 behind-keeps x c t =
     one-class x c t (eqb (t .scause) virtualInstruction) _ _ (csr-keeps hvipOf steady c _)
@@ -184,25 +184,25 @@ behind-keeps x c t =
     (one-class x c t (knownCause (t .scause)) _ _ (record { kept = refl }) (record { kept = refl })))))))
 
 cause-keeps : (x : List ℕ) (c : Csrs) (t : Trap) (b : Bool) → and b (ecallTouches (getD x 17 0) (getD x 16 0)) ≡ false
-    → KeepsIt c (classEffect (pick b class.Ecall (classBehind (t .scause))) x c t)
+    → KeepsHvip c (classEffect (pick b class.Ecall (classBehind (t .scause))) x c t)
 unfolding classEffect
 cause-keeps x c t true h = ecall-keeps c (getD x 17 0) (getD x 16 0) (argumentsOf x) (t .room) h
 cause-keeps x c t false h = behind-keeps x c t
 
 start-by : (x : List ℕ) (c : Csrs) (n : Waiting) (t : Trap) (b : Bool) → and (eqb (t .scause) envCallFromVs) (and b (ecallTouches (getD x 17 0) (getD x 16 0))) ≡ false
-    → KeepsIt c (pick b (classEffect (classOf (t .scause)) x c t) (refusedOf c n error.BadState))
+    → KeepsHvip c (pick b (classEffect (classOf (t .scause)) x c t) (refusedOf c n error.BadState))
 unfolding classOf classBehind refusedOf leavesOf
 start-by x c n t true h = cause-keeps x c t (eqb (t .scause) envCallFromVs) h
 start-by x c n t false h = record { kept = refl }
 
 start-keeps : (x : List ℕ) (c : Csrs) (n : Waiting) (t : Trap) → and (eqb (t .scause) envCallFromVs) (and (isIdle n) (ecallTouches (getD x 17 0) (getD x 16 0))) ≡ false
-    → KeepsIt c (startEffect x c n t)
+    → KeepsHvip c (startEffect x c n t)
 unfolding startEffect
 start-keeps x c n t h = start-by x c n t (isIdle n) h
 
 -- every call
 
-effect-keeps : (v : Vcpu) (c : HostCall) → touchesHvip v c ≡ false → KeepsIt (v .csrs) (effectOf v c)
+effect-keeps : (v : Vcpu) (c : HostCall) → touchesHvip v c ≡ false → KeepsHvip (v .csrs) (effectOf v c)
 unfolding touchesHvip effectOf leavesOf
 effect-keeps v (hostCall.New hart tree) h = never h
 effect-keeps v hostCall.Setup h = never h
@@ -212,10 +212,10 @@ effect-keeps v (hostCall.Start t) h = start-keeps (v .x) (v .csrs) (v .waiting) 
 effect-keeps v (hostCall.SetEntry at) h = unless-keeps hvipOf steady v (entry-keeps hvipOf steady (v .csrs) at _ (v .waiting))
 effect-keeps v (hostCall.GetGpr index) h = record { kept = refl }
 effect-keeps v (hostCall.SetGpr index value) h = unless-keeps hvipOf steady v (write-keeps hvipOf steady (v .csrs) (v .waiting) index value)
-effect-keeps v (hostCall.SetReturnValue value) h = unless-keeps hvipOf steady v (done-keeps hvipOf steady (v .csrs) _ (v .waiting))
+effect-keeps v (hostCall.SetReturnValue value) h = unless-keeps hvipOf steady v (done-keeps hvipOf (v .csrs) _ (v .waiting))
 effect-keeps v (hostCall.SetNestedPageTable levels mode root) h =
     unless-keeps hvipOf steady v (paging-keeps hvipOf steady (v .csrs) (v .waiting) levels mode root)
-effect-keeps v (hostCall.CompleteIpi abi completion) h = unless-keeps hvipOf steady v (done-keeps hvipOf steady (v .csrs) _ (v .waiting))
+effect-keeps v (hostCall.CompleteIpi abi completion) h = unless-keeps hvipOf steady v (done-keeps hvipOf (v .csrs) _ (v .waiting))
 effect-keeps v (hostCall.Answer a) h = answer-keeps hvipOf steady (v .x) (v .csrs) (v .waiting) a (λ f e k. missed-keeps (v .csrs) _)
 effect-keeps v (hostCall.CompleteLoad n) h = completed-keeps hvipOf steady (v .csrs) (v .waiting) n
 effect-keeps v (hostCall.ToPrint length) h = record { kept = refl }

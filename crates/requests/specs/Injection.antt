@@ -41,14 +41,14 @@ use Rattle.words_call.specs.declared.CallWords.{CallWords}
 use Rattle.words_call.specs.declared.ReplyWords.{ReplyWords}
 use Rattle.words_call.specs.Words.{callOf, replyWordsOf}
 use Rattle.words_entry.specs.Words.{Exported, exportedOf}
-use Rattle.in_place_record.specs.View.{Made, viewOf}
+use Rattle.in_place_record.specs.View.{Done, Made, viewOf}
 use Rattle.demands_words.specs.Left.{Sized, left-shows}
 use Rattle.requests.specs.Meaning.{Nested}
 use Rattle.requests.specs.Mode.{ModeKept, mode-kept, resumesGuest, resumesIn, supervisorMode, touchesMode, trappedFrom}
 
 -- from record v, the guest takes an exception with this cause at this address
 pub record TakenInS (v : Vcpu) (o : Outcome) (cause : ℕ) (addr : GuestVirtAddr) : Type 0 where
-  -- it resumes in supervisor mode at its handler, vstvec with low two bits 0; in the guest as before
+  -- it resumes in supervisor mode at its handler, vstvec with low two bits 0; sret enters the guest if it did before (hstatus.SPV)
   pub mode : resumesIn (o .vcpu .csrs .guest) ≡ supervisorMode
   pub handler : o .vcpu .csrs .guest .sepc ≡ v .csrs .vs .vstvec / 4 * 4
   pub in-guest : resumesGuest (o .vcpu .csrs .guest) ≡ resumesGuest (v .csrs .guest)
@@ -74,7 +74,7 @@ pub record TakenInS (v : Vcpu) (o : Outcome) (cause : ℕ) (addr : GuestVirtAddr
   pub says : o .reply ≡ reply.Exit exit.Nothing
   pub beside : o .args ≡ listed noArgs
 
--- a trap that ends in error 6, with the record as it was
+-- a trap that ends in error 6: registers, CSRs and counts as they were, and nothing waits
 pub record NotFetched (v : Vcpu) (o : Outcome) : Type 0 where
   pub csrs : o .vcpu .csrs ≡ v .csrs
   pub registers : o .vcpu .x ≡ v .x
@@ -84,18 +84,18 @@ pub record NotFetched (v : Vcpu) (o : Outcome) : Type 0 where
   pub beside : o .args ≡ listed noArgs
 
 -- a fetch waits, of a virtual instruction or of a guest page fault, and c is the answer to it
-pub record Fetches (v : Vcpu) (c : HostCall) (f : Fetch) : Type 0 where
+pub record FetchAnswered (v : Vcpu) (c : HostCall) (f : Fetch) : Type 0 where
   pub asks : waitingAsk (v .waiting) ≡ 1
   pub answers : c ≡ hostCall.Answer (answer.Fetched f)
 
 -- the request, of call c on record v with this outcome: the three faults that are injected; the two that are not; and every other call
 -- leaves the mode alone, but those that `touchesMode` lists
 pub record W5 (v : Vcpu) (o : Outcome) (c : HostCall) : Type 0 where
-  pub page-fault : (a : GuestVirtAddr) → Fetches v c (fetch.Page a) → TakenInS v o instructionPageFault a
-  pub access-fault : (a : GuestVirtAddr) → Fetches v c (fetch.Access a) → TakenInS v o instructionAccessFault a
-  pub misaligned-fetch : (a : GuestVirtAddr) → Fetches v c (fetch.Misaligned a) → TakenInS v o instructionMisaligned a
-  pub guest-page-fault : (a : GuestPhysAddr) → Fetches v c (fetch.GuestPage a) → Nested v o a access.Execute
-  pub unhandled : Fetches v c fetch.Unhandled → NotFetched v o
+  pub page-fault : (a : GuestVirtAddr) → FetchAnswered v c (fetch.Page a) → TakenInS v o instructionPageFault a
+  pub access-fault : (a : GuestVirtAddr) → FetchAnswered v c (fetch.Access a) → TakenInS v o instructionAccessFault a
+  pub misaligned-fault : (a : GuestVirtAddr) → FetchAnswered v c (fetch.Misaligned a) → TakenInS v o instructionMisaligned a
+  pub guest-page-fault : (a : GuestPhysAddr) → FetchAnswered v c (fetch.GuestPage a) → Nested v o a access.Execute
+  pub unhandled : FetchAnswered v c fetch.Unhandled → NotFetched v o
   pub elsewhere : touchesMode v c ≡ false → ModeKept v (o .vcpu)
 
 -- vsstatus, bit by bit
@@ -162,35 +162,23 @@ unfolding applied missedEffect missedOf failedOf stored counted bumped eventNumb
 not-fetched v = record { csrs = refl; registers = refl; counts = refl; waits = refl; says = refl; beside = refl }
 
 -- the answer to a fetch that waits, whichever of the two classes asked
-answered : (v : Vcpu) (c : HostCall) (f : Fetch) → Fetches v c f → calledOf v c ≡ applied v (fetchEffect (v .x) (v .csrs) (v .waiting) f)
+answered : (v : Vcpu) (c : HostCall) (f : Fetch) → FetchAnswered v c f → calledOf v c ≡ applied v (fetchEffect (v .x) (v .csrs) (v .waiting) f)
 unfolding calledOf baseOf effectOf answerEffect fittingEffect answerNumber
 answered v c f h =
     ap (calledOf v) (h .answers)
     ∙ ap (λ (n : ℕ). applied v (pick (eqb n 1) (fetchEffect (v .x) (v .csrs) (v .waiting) f) (refusedOf (v .csrs) (v .waiting) error.WrongAnswer))) (h .asks)
 
-by-answer : (v : Vcpu) (c : HostCall) (f : Fetch) (P : Outcome → Type 0) → Fetches v c f → P (applied v (fetchEffect (v .x) (v .csrs) (v .waiting) f)) → P (calledOf v c)
+by-answer : (v : Vcpu) (c : HostCall) (f : Fetch) (P : Outcome → Type 0) → FetchAnswered v c f → P (applied v (fetchEffect (v .x) (v .csrs) (v .waiting) f)) → P (calledOf v c)
 by-answer v c f P h p = subst P (sym (answered v c f h)) p
-
-page-taken : (v : Vcpu) (a : GuestVirtAddr) → TakenInS v (applied v (fetchEffect (v .x) (v .csrs) (v .waiting) (fetch.Page a))) instructionPageFault a
-unfolding fetchEffect missedEffect missedOf
-page-taken v a = taken v instructionPageFault a
-
-access-taken : (v : Vcpu) (a : GuestVirtAddr) → TakenInS v (applied v (fetchEffect (v .x) (v .csrs) (v .waiting) (fetch.Access a))) instructionAccessFault a
-unfolding fetchEffect missedEffect missedOf
-access-taken v a = taken v instructionAccessFault a
-
-misaligned-taken : (v : Vcpu) (a : GuestVirtAddr) → TakenInS v (applied v (fetchEffect (v .x) (v .csrs) (v .waiting) (fetch.Misaligned a))) instructionMisaligned a
-unfolding fetchEffect missedEffect missedOf
-misaligned-taken v a = taken v instructionMisaligned a
 
 -- by value, for every record and call
 pub w5 : (v : Vcpu) (c : HostCall) → W5 v (calledOf v c) c
-unfolding fetchEffect
+unfolding fetchEffect missedEffect missedOf
 w5 v c =
     record {
-      page-fault = λ a h. by-answer v c (fetch.Page a) (λ (o : Outcome). TakenInS v o instructionPageFault a) h (page-taken v a);
-      access-fault = λ a h. by-answer v c (fetch.Access a) (λ (o : Outcome). TakenInS v o instructionAccessFault a) h (access-taken v a);
-      misaligned-fetch = λ a h. by-answer v c (fetch.Misaligned a) (λ (o : Outcome). TakenInS v o instructionMisaligned a) h (misaligned-taken v a);
+      page-fault = λ a h. by-answer v c (fetch.Page a) (λ (o : Outcome). TakenInS v o instructionPageFault a) h (taken v instructionPageFault a);
+      access-fault = λ a h. by-answer v c (fetch.Access a) (λ (o : Outcome). TakenInS v o instructionAccessFault a) h (taken v instructionAccessFault a);
+      misaligned-fault = λ a h. by-answer v c (fetch.Misaligned a) (λ (o : Outcome). TakenInS v o instructionMisaligned a) h (taken v instructionMisaligned a);
       guest-page-fault = λ a h. by-answer v c (fetch.GuestPage a) (λ (o : Outcome). Nested v o a access.Execute) h (nested v a);
       unhandled = λ h. by-answer v c fetch.Unhandled (λ (o : Outcome). NotFetched v o) h (not-fetched v);
       elsewhere = mode-kept v c;
@@ -212,3 +200,7 @@ w5-words r s c g z x = (w5 (unpackOf r) (callOf c), ap unpackOf (x .0) ∙ left-
 pub w5-place : (r s p : List ℕ) (c : HostCall) (w : ℕ) → Made r c s p w
     → (W5 (viewOf r) (calledOf (viewOf r) c) c) × (viewOf s ≡ calledOf (viewOf r) c .vcpu) × (w ≡ replyWord (calledOf (viewOf r) c .reply)) × (p ≡ outOf (calledOf (viewOf r) c .reply) (calledOf (viewOf r) c .args))
 w5-place r s p c w m = (w5 (viewOf r) c, m .shows, m .says, m .gives)
+
+-- in place, by the promise of a call that is lent no words for its reply: it leaves the mode alone
+pub w5-host : (r s : List ℕ) (c : HostCall) (w : ℕ) → Done r c s w → touchesMode (viewOf r) c ≡ false → ModeKept (viewOf r) (viewOf s)
+w5-host r s c w d h = subst (λ (u : Vcpu). ModeKept (viewOf r) u) (sym (d .shows)) (mode-kept (viewOf r) c h)

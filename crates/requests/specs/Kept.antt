@@ -45,7 +45,9 @@ pub record Steady (at : Csrs → ℕ) : Type 0 where
 pub record Keeps (at : Csrs → ℕ) (c : Csrs) (e : Effect) : Type 0 where
   pub kept : at (e .csrs) ≡ at c
 
-module _ (at : Csrs → ℕ) (s : Steady at) where
+-- where the CSRs stay it stays, whatever it is
+
+module _ (at : Csrs → ℕ) where
   pub either : {c : Csrs} (b : Bool) {e f : Effect} → Keeps at c e → Keeps at c f → Keeps at c (pick b e f)
   either {c} b k l = one-of (Keeps at c) b k l
 
@@ -53,6 +55,11 @@ module _ (at : Csrs → ℕ) (s : Steady at) where
   unfolding refusedOf leavesOf
   refused-keeps c n x = record { kept = refl }
 
+  pub done-keeps : (c : Csrs) (w : Writes) (n : Waiting) → Keeps at c (doneOf c w n)
+  unfolding doneOf
+  done-keeps c w n = record { kept = refl }
+
+module _ (at : Csrs → ℕ) (s : Steady at) where
   -- a virtual instruction, a guest page fault
 
   pub csr-keeps : (c : Csrs) (d : Stimecmp) → Keeps at c (stimecmpEffect c d)
@@ -84,21 +91,24 @@ module _ (at : Csrs → ℕ) (s : Steady at) where
   pub answer-keeps : (x : List ℕ) (c : Csrs) (n : Waiting) (a : Answer)
       → ((f : Fetch) → a ≡ answer.Fetched f → eqb (waitingAsk n) 1 ≡ true → Keeps at c (missedEffect c (missedOf f))) → Keeps at c (answerEffect x c n a)
   answer-keeps x c n a m =
-      any-answer (λ n e. Keeps at c e) x c (λ n. csr-keeps c) (λ n. fault-keeps c) (λ n. answered-keeps c) (λ n. refused-keeps c n error.WrongAnswer) n a m
+      any-answer (λ n e. Keeps at c e) x c
+      (record {
+        csrs = λ n. csr-keeps c;
+        faults = λ n. fault-keeps c;
+        answers = λ n. answered-keeps c;
+        wrong = λ n. refused-keeps at c n error.WrongAnswer;
+      })
+      n a m
 
   pub completed-keeps : (c : Csrs) (n : Waiting) (k : ℕ) → Keeps at c (completedOf c n k)
   unfolding completedOf doneOf
-  completed-keeps c waiting.Idle k = refused-keeps c waiting.Idle error.BadState
+  completed-keeps c waiting.Idle k = refused-keeps at c waiting.Idle error.BadState
   completed-keeps c (waiting.Load rd w signed) k = record { kept = refl }
-  completed-keeps c waiting.FetchCsr k = refused-keeps c waiting.FetchCsr error.BadState
-  completed-keeps c (waiting.FetchFault addr a) k = refused-keeps c (waiting.FetchFault addr a) error.BadState
-  completed-keeps c (waiting.Ecall a) k = refused-keeps c (waiting.Ecall a) error.BadState
+  completed-keeps c waiting.FetchCsr k = refused-keeps at c waiting.FetchCsr error.BadState
+  completed-keeps c (waiting.FetchFault addr a) k = refused-keeps at c (waiting.FetchFault addr a) error.BadState
+  completed-keeps c (waiting.Ecall a) k = refused-keeps at c (waiting.Ecall a) error.BadState
 
   -- the host's own calls
-
-  pub done-keeps : (c : Csrs) (w : Writes) (n : Waiting) → Keeps at c (doneOf c w n)
-  unfolding doneOf
-  done-keeps c w n = record { kept = refl }
 
   pub entry-keeps : (c : Csrs) (entry : GuestPhysAddr) (w : Writes) (n : Waiting) → Keeps at c (doneOf (entryCsrs c entry) w n)
   unfolding doneOf
@@ -106,7 +116,7 @@ module _ (at : Csrs → ℕ) (s : Steady at) where
 
   pub write-keeps : (c : Csrs) (n : Waiting) (index value : ℕ) → Keeps at c (writeEffect c n index value)
   unfolding writeEffect
-  write-keeps c n index value = either (ltb index 32) (done-keeps c _ n) (refused-keeps c n error.InvalidInput)
+  write-keeps c n index value = either at (ltb index 32) (done-keeps at c _ n) (refused-keeps at c n error.InvalidInput)
 
   table-keeps : (c : Csrs) (n : Waiting) (mode root : ℕ) (w : Writes) → Keeps at c (doneOf (tableCsrs c mode root) w n)
   unfolding doneOf
@@ -115,16 +125,16 @@ module _ (at : Csrs → ℕ) (s : Steady at) where
   paging-by-keeps : (c : Csrs) (n : Waiting) (wanted mode root : ℕ) → Keeps at c (pagingBy c n wanted mode root)
   unfolding pagingBy
   paging-by-keeps c n wanted mode root =
-      either (eqb mode wanted) (either (eqb (root % 2 ^ 14) 0) (table-keeps c n mode root _) (refused-keeps c n error.InvalidInput))
-      (refused-keeps c n error.InvalidInput)
+      either at (eqb mode wanted) (either at (eqb (root % 2 ^ 14) 0) (table-keeps c n mode root _) (refused-keeps at c n error.InvalidInput))
+      (refused-keeps at c n error.InvalidInput)
 
   pub paging-keeps : (c : Csrs) (n : Waiting) (levels mode root : ℕ) → Keeps at c (pagingEffect c n levels mode root)
   unfolding pagingEffect
   paging-keeps c n levels mode root =
-      either (eqb levels 3) (paging-by-keeps c n 8 mode root)
-      (either (eqb levels 4) (paging-by-keeps c n 9 mode root) (refused-keeps c n error.InvalidInput))
+      either at (eqb levels 3) (paging-by-keeps c n 8 mode root)
+      (either at (eqb levels 4) (paging-by-keeps c n 9 mode root) (refused-keeps at c n error.InvalidInput))
 
   -- and so with the guard of refusal 2 before them
   pub unless-keeps : (v : Vcpu) {e : Effect} → Keeps at (v .csrs) e → Keeps at (v .csrs) (unlessAsking v e)
   unfolding unlessAsking
-  unless-keeps v k = either (eqb (waitingAsk (v .waiting)) 0) k (refused-keeps (v .csrs) (v .waiting) error.BadState)
+  unless-keeps v k = either at (eqb (waitingAsk (v .waiting)) 0) k (refused-keeps at (v .csrs) (v .waiting) error.BadState)

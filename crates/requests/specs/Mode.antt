@@ -1,6 +1,6 @@
 -- The mode that the guest is resumed in, and which calls touch it: every other case of HostCall leaves sstatus and hstatus. (A row of
 -- posts touches hvip alone: Posts.antt.) PRIV, 'Supervisor-Level ISA', sstatus; 'Hypervisor Extension', hstatus and trap return. 02, W5.
-use Prim.Native.Nat.{ℕ}
+use Prim.Native.Nat.{ℕ, _^_}
 use mathlib.Core.Bool.{Bool, true, false}
 use mathlib.Core.List.{List}
 use mathlib.Core.Path.{_≡_, refl, ap₂, sym, _∙_}
@@ -12,7 +12,7 @@ use Rattle.scope.specs.Classes.{classEffect, classOf, startEffect}
 use Rattle.scope.specs.Decided.{callEffect}
 use Rattle.scope.specs.Ecalls.{asksOf, clearIpiOf, forwardEffect, hypercallOf, movesOf, returnsOf, setTimerOf, staysOf}
 use Rattle.scope.specs.GuestPageFault.{mmioOf, pageFaultOf}
-use Rattle.scope.specs.Host.{entryCsrs, hvipBitOf, pendingEffect, tableCsrs}
+use Rattle.scope.specs.Host.{entryCsrs, hvipBitOf, pendingEffect, setupCsrs, tableCsrs}
 use Rattle.scope.specs.Record.{applied, isIdle, moved, pended, timed, waitingAsk}
 use Rattle.scope.specs.Refusals.{askingOf, doneOf, failedOf, finishedOf, leavesOf}
 use Rattle.scope.specs.VirtualInstruction.{missedEffect, missedOf, virtualEffect}
@@ -53,7 +53,23 @@ resumesGuest g = bitOf (g .hstatus) 7
 unfoldable pub trappedFrom : GuestCsrs → ℕ
 trappedFrom g = bitOf (g .hstatus) 8
 
--- sstatus and hstatus are what they were, and so are these three
+-- setup's guest is entered in supervisor mode, and its asks are those of supervisor code. 01, The record: setup
+pub record Entered (g : GuestCsrs) : Type 0 where
+  pub guest : resumesGuest g ≡ 1
+  pub mode : resumesIn g ≡ supervisorMode
+  pub from : trappedFrom g ≡ supervisorMode
+
+pub setup-enters : (c : Csrs) → Entered (setupCsrs c .guest)
+unfolding setupCsrs resumesGuest resumesIn trappedFrom bitOf supervisorMode
+setup-enters c = record { guest = refl; mode = refl; from = refl }
+
+-- after a trap of user code SPV is set and SPVP clear: two bits
+pub user-resumes : (pc s : ℕ)
+    → let g : GuestCsrs = record { sepc = pc; sstatus = s; hstatus = 2 ^ 7 } in (resumesGuest g ≡ 1) × (trappedFrom g ≡ 0)
+unfolding resumesGuest trappedFrom bitOf
+user-resumes pc s = (refl, refl)
+
+-- sstatus and hstatus are what they were, and with them the three numbers above
 pub record ModeKept (v u : Vcpu) : Type 0 where
   pub sstatus : u .csrs .guest .sstatus ≡ v .csrs .guest .sstatus
   pub hstatus : u .csrs .guest .hstatus ≡ v .csrs .guest .hstatus
@@ -67,6 +83,7 @@ injects (fetch.GuestPage a) = false
 injects fetch.Unhandled = false
 injects (fetch.Word w) = false
 
+-- an answer that says so
 unfoldable pub answerInjects : Answer → Bool
 answerInjects (answer.Fetched f) = injects f
 answerInjects (answer.MaskCopied count bytes) = false
@@ -130,7 +147,7 @@ module _ (at : Csrs → ℕ) (s : Steady at) (pends : (c : Csrs) (n : ℕ) → a
 
   start-keeps : (x : List ℕ) (c : Csrs) (n : Waiting) (t : Trap) → Keeps at c (startEffect x c n t)
   unfolding startEffect
-  start-keeps x c n t = either at s (isIdle n) (class-keeps (classOf (t .scause)) x c t) (refused-keeps at s c n error.BadState)
+  start-keeps x c n t = either at (isIdle n) (class-keeps (classOf (t .scause)) x c t) (refused-keeps at c n error.BadState)
 
   missed-keeps : (c : Csrs) (f : Fetch) → injects f ≡ false → Keeps at c (missedEffect c (missedOf f))
   unfolding injects missedOf missedEffect finishedOf failedOf
@@ -152,7 +169,7 @@ module _ (at : Csrs → ℕ) (s : Steady at) (pends : (c : Csrs) (n : ℕ) → a
 
   pending-keeps : (c : Csrs) (n : Waiting) (vector : ℕ) (on : Bool) → Keeps at c (pendingEffect c n vector on)
   unfolding pendingEffect
-  pending-keeps c n vector on = either at s (eqb (hvipBitOf vector) 0) (refused-keeps at s c n error.InvalidInput) (pended-keeps c _ _ n)
+  pending-keeps c n vector on = either at (eqb (hvipBitOf vector) 0) (refused-keeps at c n error.InvalidInput) (pended-keeps c _ _ n)
 
   effect-keeps : (v : Vcpu) (c : HostCall) → touchesMode v c ≡ false → Keeps at (v .csrs) (effectOf v c)
   unfolding touchesMode effectOf leavesOf
@@ -164,12 +181,12 @@ module _ (at : Csrs → ℕ) (s : Steady at) (pends : (c : Csrs) (n : ℕ) → a
   effect-keeps v (hostCall.SetEntry entry) h = unless-keeps at s v (entry-keeps at s (v .csrs) entry _ (v .waiting))
   effect-keeps v (hostCall.GetGpr index) h = record { kept = refl }
   effect-keeps v (hostCall.SetGpr index value) h = unless-keeps at s v (write-keeps at s (v .csrs) (v .waiting) index value)
-  effect-keeps v (hostCall.SetReturnValue value) h = unless-keeps at s v (done-keeps at s (v .csrs) _ (v .waiting))
+  effect-keeps v (hostCall.SetReturnValue value) h = unless-keeps at s v (done-keeps at (v .csrs) _ (v .waiting))
   effect-keeps v (hostCall.SetNestedPageTable levels mode root) h =
       unless-keeps at s v (paging-keeps at s (v .csrs) (v .waiting) levels mode root)
   effect-keeps v (hostCall.SetPending vector level) h = unless-keeps at s v (pending-keeps (v .csrs) (v .waiting) vector level)
   effect-keeps v (hostCall.LatchHvip bits) h = unless-keeps at s v (pended-keeps (v .csrs) _ _ (v .waiting))
-  effect-keeps v (hostCall.CompleteIpi abi completion) h = unless-keeps at s v (done-keeps at s (v .csrs) _ (v .waiting))
+  effect-keeps v (hostCall.CompleteIpi abi completion) h = unless-keeps at s v (done-keeps at (v .csrs) _ (v .waiting))
   effect-keeps v (hostCall.CompleteLoad n) h = completed-keeps at s (v .csrs) (v .waiting) n
   effect-keeps v (hostCall.ToPrint length) h = record { kept = refl }
 

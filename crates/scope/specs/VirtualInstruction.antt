@@ -92,7 +92,7 @@ trapStatusOf vsstatus hstatus =
     withBits (withBits (withBits vsstatus (2 ^ 5) (sieOf vsstatus)) (2 ^ 1) false) (2 ^ 8) (spvpOf hstatus)
 
 -- vsepc = sepc, vscause, vstval = address, sepc = vstvec with low two bits 0; and sstatus SPP (bit 8) is set, so that the return goes to
--- supervisor mode, hstatus stays (02, W5; PRIV, 'Hypervisor Extension', trap return)
+-- supervisor mode; hstatus stays (02, W5; PRIV, 'Hypervisor Extension', trap return)
 unfoldable pub injectedOf : Csrs → ℕ → GuestVirtAddr → Csrs
 injectedOf c cause addr =
     record {

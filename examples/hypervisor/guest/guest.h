@@ -42,7 +42,7 @@ extern volatile u64 cause, epc, from, faults, ticks, ipis, externals;
 extern volatile enum off { BY_TIME, BY_STIMECMP, BY_LEGACY } off; /* how the handler ends a tick */
 
 /* start.S */
-extern char user_done[], user_load[], user_store[], user_amo[];
+extern char user_done[], user_load[], user_store[], user_amo[], user_csr[];
 u64 run_user(u64 pc, u64 a1); /* user code from pc on; a0 at its ecall */
 
 /* Loads from a1 into a0, which held 0x77 before, and stores. Where C is there the assembler makes lw, ld, sw, sd 16 bits long. */

@@ -52,7 +52,7 @@ static void crossing(void) {
 static const u64 injected[] = {0, 12, 1, 0}; /* the cause of each VCPU_FETCH_ that the guest takes itself */
 
 static void user(void) {
-    u64 code = USER_RAM(user_load), store = USER_RAM(user_store);
+    u64 code = USER_RAM(user_load), store = USER_RAM(user_store), csr = USER_RAM(user_csr);
     check("lw in user mode", run_user(code, USER_DEVICE), 0xffffffffbbaa9988), check("back by its ecall", cause, 8);
     run_user(USER_RAM(user_amo), USER_DEVICE);
     check("an AMO on the device in user mode: the guest takes the fault in S mode",
@@ -65,7 +65,12 @@ static void user(void) {
         check("the guest takes it in S mode", epc == code, 1), check("it came from user mode", from, 0);
         knob(KNOB_FAIL_FETCH, fault), run_user(store, USER_DEVICE);
         check("the same of a store", cause == injected[fault] && epc == store && from == 0, 1);
+        knob(KNOB_STCE, 0), knob(KNOB_FAIL_FETCH, fault), run_user(csr, 0), knob(KNOB_STCE, 1);
+        check("the same of a virtual instruction", cause == injected[fault] && epc == csr && from == 0, 1);
     }
+    /* PRIV keeps stimecmp from user code; 01 looks at no mode, and it comes to its ecall */
+    knob(KNOB_STCE, 0), run_user(csr, 0), knob(KNOB_STCE, 1);
+    known("stimecmp in user mode: the guest takes an illegal instruction", cause, 2, 8);
     knob(KNOB_HTINST_ZERO, 0);
 }
 

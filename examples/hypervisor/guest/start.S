@@ -30,7 +30,7 @@ trap:
     sret
 
 /* u64 run_user(u64 pc, u64 a1): the handler comes back to user_done, in S mode, with the user's a0. */
-    .globl  run_user, user_done, user_load, user_store, user_amo
+    .globl  run_user, user_done, user_load, user_store, user_amo, user_csr
 run_user:
     addi    sp, sp, -112
     .irp r, 0,1,2,3,4,5,6,7,8,9,10,11
@@ -67,6 +67,10 @@ user_store:
     .balign 4
 user_amo:
     amoadd.w a0, zero, (a1)
+    ecall
+    .balign 4
+user_csr:
+    csrr    a0, 0x14d /* stimecmp */
     ecall
 
     .section .bss

@@ -110,6 +110,7 @@ pub fn next_call(r: &mut Random, record: &mut Record) -> Call {
             record[57] = r.below(3);
         }
         2 => {
+            record[33] = r.number();
             record[34] = r.number();
             record[35] = r.number();
         }

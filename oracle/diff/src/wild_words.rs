@@ -99,8 +99,8 @@ impl Tally {
         println!("bytes to print{:>9}", self.printed);
         println!("16-bit loads{:>11}", self.compressed[0]);
         println!("16-bit stores{:>10}", self.compressed[1]);
-        println!("SPP set, user{:>10}", self.injected[0]);
-        println!("SPP set, kernel{:>8}", self.injected[1]);
+        println!("SPP for user{:>11}", self.injected[0]);
+        println!("SPP for supervisor{:>5}", self.injected[1]);
         println!("stopped late{:>11}", self.late);
         if !reached {
             println!("a number was not reached");

@@ -4,7 +4,7 @@
 use crate::call;
 use crate::record::*;
 use crate::reply::*;
-use crate::tests::{changed, check, each_hvip as each_bit, filled, nothing, with, TOP};
+use crate::tests::{changed, check, each_bit, filled, nothing, with, TOP};
 
 /// Bit 8. In sstatus: the return goes to supervisor mode. In hstatus: the trap
 /// came from there. In vsstatus: SPP.

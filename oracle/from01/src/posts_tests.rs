@@ -4,7 +4,7 @@
 
 use crate::record::*;
 use crate::reply::done;
-use crate::tests::{changed, each_hvip, filled, with, TOP};
+use crate::tests::{changed, each_bit, filled, with, TOP};
 use crate::{call, post, Post, Posted};
 
 const SOFTWARE: u64 = TOP + 1;
@@ -439,7 +439,7 @@ fn w4_one_post_is_the_call_for_one() {
         for level in LEVELS {
             // Each bit, and every pattern of the low bits up to the highest of
             // the three.
-            for hvip in each_hvip().chain(HVIPS).chain(0..0x800) {
+            for hvip in each_bit().chain(HVIPS).chain(0..0x800) {
                 let base = with(&[(HVIP, hvip)]);
                 let row = [[vector, level]];
                 let later = if level == 0 { hvip & !bit } else { hvip | bit };

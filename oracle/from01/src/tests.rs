@@ -1085,8 +1085,8 @@ const SET_TIMER: [(u64, u64); 4] = [(0, 0), (0, 1), (0, u64::MAX), (0x54494D45, 
 /// No tick and a tick, each alone and among all other bits.
 const HVIPS: [u64; 4] = [0, TICK, !TICK, u64::MAX];
 
-/// Each bit of hvip alone, and all bits but each.
-pub fn each_hvip() -> impl Iterator<Item = u64> {
+/// Each bit of a word alone, and all bits but each.
+pub fn each_bit() -> impl Iterator<Item = u64> {
     (0..64).flat_map(|bit| [1 << bit, !(1 << bit)])
 }
 
@@ -1132,7 +1132,7 @@ fn trap_keeps_hvip(mut w: [u64; 58], numbers: [u64; 5], fail: bool) {
 #[test]
 fn w1_set_timer_clears_bit_6_and_no_other() {
     for row in SET_TIMER {
-        for hvip in each_hvip().chain(HVIPS) {
+        for hvip in each_bit().chain(HVIPS) {
             set_timer(with(&[(HVIP, hvip)]), row, 5);
         }
     }
@@ -1183,7 +1183,7 @@ fn w1_set_timer_clears_whatever_else_the_record_holds() {
 
 #[test]
 fn w1_other_fids_of_time_keep_hvip() {
-    for hvip in each_hvip().chain(HVIPS) {
+    for hvip in each_bit().chain(HVIPS) {
         for fid in [1, 2, 6, TICK, 1 << 32, TOP, u64::MAX] {
             let mut w = changed(ecall_record(0x54494D45, fid, &[5]), &[(HVIP, hvip)]);
             let later = [(10, NOT_SUPPORTED), (11, 0), (SEPC, next(&w))];
@@ -1194,7 +1194,7 @@ fn w1_other_fids_of_time_keep_hvip() {
 
 #[test]
 fn w1_legacy_3_clears_bit_2_and_no_other() {
-    for hvip in each_hvip().chain(HVIPS) {
+    for hvip in each_bit().chain(HVIPS) {
         for fid in [0, 5, u64::MAX] {
             let mut w = changed(ecall_record(3, fid, &[5]), &[(HVIP, hvip)]);
             let later = [(HVIP, hvip & !4), (10, 0), (SEPC, next(&w))];
