@@ -2,14 +2,15 @@
 -- return: a trap into VS mode runs in VS mode.
 use Prim.Native.Nat.{ℕ, _*_, _/_, _^_, _<_}
 use native.Mathlib.Omega.{arith}
-use mathlib.Core.Bool.{Bool, false}
+use borrow.Author.Tests.{eqb-true}
+use mathlib.Core.Bool.{Bool, true, false}
 use mathlib.Core.List.{List}
 use mathlib.Core.Path.{_≡_, refl, ap, sym, subst, _∙_}
 use lib.Dec.{eqb}
 use Rattle.isa_consts.specs.Traps.{instructionAccessFault, instructionMisaligned, instructionPageFault}
 use Rattle.isa_registers.specs.BitLaws.{bit-lt, bitOf, cleared-bit, set-bit, written-bit}
 use Rattle.isa_registers.specs.Bits.{sieOf, spvpOf, withBits}
-use Rattle.isa_types.specs.Pick.{pick}
+use Rattle.isa_types.specs.Pick.{and, never, pick}
 use Rattle.isa_types.specs.declared.GuestPhysAddr.{GuestPhysAddr}
 use Rattle.isa_types.specs.declared.GuestVirtAddr.{GuestVirtAddr}
 use Rattle.scope.specs.Answers.{answerEffect, fetchEffect, fittingEffect}
@@ -30,6 +31,7 @@ use Rattle.scope.specs.declared.machine.Waiting.the-variants as waiting
 use Rattle.scope.specs.declared.machine.Writes.the-variants as writes
 use Rattle.scope.specs.declared.traps.Access.the-variants as access
 use Rattle.scope.specs.declared.traps.Answer.the-variants as answer
+use Rattle.scope.specs.declared.traps.Answer.{Answer}
 use Rattle.scope.specs.declared.traps.Error.the-variants as error
 use Rattle.scope.specs.declared.traps.Exit.the-variants as exit
 use Rattle.scope.specs.declared.traps.Fetch.the-variants as fetch
@@ -44,7 +46,7 @@ use Rattle.words_entry.specs.Words.{Exported, exportedOf}
 use Rattle.in_place_record.specs.View.{Done, Made, viewOf}
 use Rattle.demands_words.specs.Left.{Sized, left-shows}
 use Rattle.requests.specs.Meaning.{Nested}
-use Rattle.requests.specs.Mode.{ModeKept, mode-kept, resumesGuest, resumesIn, supervisorMode, touchesMode, trappedFrom}
+use Rattle.requests.specs.Mode.{ModeKept, answerInjects, injects, mode-kept, resumesGuest, resumesIn, supervisorMode, touchesMode, trappedFrom}
 
 -- from record v, the guest takes an exception with this cause at this address
 pub record TakenInS (v : Vcpu) (o : Outcome) (cause : ℕ) (addr : GuestVirtAddr) : Type 0 where
@@ -183,6 +185,63 @@ w5 v c =
       unhandled = λ h. by-answer v c fetch.Unhandled (λ (o : Outcome). NotFetched v o) h (not-fetched v);
       elsewhere = mode-kept v c;
     }
+
+both : (b d : Bool) → and b d ≡ true → (b ≡ true) × (d ≡ true)
+both true d h = (refl, h)
+both false d h = never (sym h)
+
+-- what follows of each of these: new, setup, the answer to a fetch that waits by one of the three faults
+pub record TouchedBy (P : Type 0) (v : Vcpu) (c : HostCall) : Type 0 where
+  pub new : (hart tree : ℕ) → c ≡ hostCall.New hart tree → P
+  pub setup : c ≡ hostCall.Setup → P
+  pub page : (a : GuestVirtAddr) → FetchAnswered v c (fetch.Page a) → P
+  pub access : (a : GuestVirtAddr) → FetchAnswered v c (fetch.Access a) → P
+  pub misaligned : (a : GuestVirtAddr) → FetchAnswered v c (fetch.Misaligned a) → P
+
+module _ (P : Type 0) (v : Vcpu) (c : HostCall) (t : TouchedBy P v c) where
+  by-fault : waitingAsk (v .waiting) ≡ 1 → (f : Fetch) → c ≡ hostCall.Answer (answer.Fetched f) → injects f ≡ true → P
+  unfolding injects
+  by-fault w (fetch.Page a) e h = t .page a (record { asks = w; answers = e })
+  by-fault w (fetch.Access a) e h = t .access a (record { asks = w; answers = e })
+  by-fault w (fetch.Misaligned a) e h = t .misaligned a (record { asks = w; answers = e })
+  by-fault w (fetch.GuestPage a) e h = never (sym h)
+  by-fault w fetch.Unhandled e h = never (sym h)
+  by-fault w (fetch.Word k) e h = never (sym h)
+
+  by-answers : waitingAsk (v .waiting) ≡ 1 → (a : Answer) → c ≡ hostCall.Answer a → answerInjects a ≡ true → P
+  unfolding answerInjects
+  by-answers w (answer.Fetched f) e h = by-fault w f e h
+  by-answers w (answer.MaskCopied count bytes) e h = never (sym h)
+  by-answers w (answer.CopiedIn count) e h = never (sym h)
+  by-answers w (answer.Printed k value) e h = never (sym h)
+  by-answers w (answer.ConsoleRead k value) e h = never (sym h)
+  by-answers w (answer.CopiedOut count) e h = never (sym h)
+  by-answers w answer.Emitted e h = never (sym h)
+  by-answers w (answer.Char number) e h = never (sym h)
+  by-answers w (answer.Forwarded k value) e h = never (sym h)
+  by-answers w answer.Other e h = never (sym h)
+
+  by-call : (d : HostCall) → c ≡ d → touchesMode v d ≡ true → P
+  unfolding touchesMode
+  by-call (hostCall.New hart tree) e h = t .new hart tree e
+  by-call hostCall.Setup e h = t .setup e
+  by-call (hostCall.Answer a) e h =
+      let k = both (eqb (waitingAsk (v .waiting)) 1) (answerInjects a) h in by-answers (eqb-true _ 1 (k .0)) a e (k .1)
+  by-call (hostCall.Start s) e h = never (sym h)
+  by-call (hostCall.SetEntry at) e h = never (sym h)
+  by-call (hostCall.GetGpr index) e h = never (sym h)
+  by-call (hostCall.SetGpr index value) e h = never (sym h)
+  by-call (hostCall.SetReturnValue value) e h = never (sym h)
+  by-call (hostCall.SetNestedPageTable levels mode root) e h = never (sym h)
+  by-call (hostCall.SetPending vector level) e h = never (sym h)
+  by-call (hostCall.LatchHvip bits) e h = never (sym h)
+  by-call (hostCall.CompleteIpi abi completion) e h = never (sym h)
+  by-call (hostCall.CompleteLoad n) e h = never (sym h)
+  by-call (hostCall.ToPrint length) e h = never (sym h)
+
+  -- follows of every call that `touchesMode` lists: it lists no other
+  pub touched-by : touchesMode v c ≡ true → P
+  touched-by h = by-call c refl h
 
 -- over a lent record, by its promise: what is left and given are such an outcome
 pub w5-lent : (v w : Vcpu) (c : HostCall) (g : Given) → Stored v c w g → W5 v (record { vcpu = w; reply = g .reply; args = g .args }) c
