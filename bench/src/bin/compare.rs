@@ -51,8 +51,8 @@ fn main() {
     let names = &NAMES[1..];
     let mut r = Random(1);
     for i in 0..traps {
-        // the mix, the mix that is fetched, and the loads and stores of 16 bits
-        let work = work::<false>(&ROWS[[0, 2, 13, 14][(i % 4) as usize]], &mut r);
+        // the mix, the mix that is fetched, the loads and stores of 16 bits, and the fault that is injected
+        let work = work::<false>(&ROWS[[0, 2, 13, 14, 15][(i % 5) as usize]], &mut r);
         let given = handlers.each_mut().map(|handler| handler(&work));
         // the plainest text is what the others are held to
         let plain = 2;
