@@ -61,5 +61,5 @@ fn trap_status(vsstatus: u64, hstatus: u64) -> u64
 {
     let kept = isa_registers::with_bits(vsstatus, 0x20, isa_registers::sie(vsstatus));
     let masked = isa_registers::with_bits(kept, 0x2, false);
-    isa_registers::with_bits(masked, 0x100, isa_registers::spvp(hstatus))
+    isa_registers::with_bits_straight(masked, 0x100, isa_registers::spvp(hstatus))
 }

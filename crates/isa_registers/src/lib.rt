@@ -46,9 +46,19 @@ pub fn sie(vsstatus: u64) -> bool
     vsstatus / 2 % 2 == 1
 }
 
-// The number with the bits of the mask set or cleared. They are cleared first, so that what is chosen is a number or 0: on rv64gc,
-// which has no conditional move, that is a mask, and a choice of two numbers is a jump.
+// The number with the bits of the mask set or cleared.
 pub fn with_bits(n: u64, mask: u64, on: bool) -> u64
+    ensures { λ r. ⌜ r ≡ withBits n mask on ⌝ }
+{
+    if on {
+        return n | mask;
+    }
+    n & !mask
+}
+
+// The same where nothing foretells `on`. The bits are cleared first, so that what is chosen is the mask or 0: on rv64gc, which has no
+// conditional move, that is an AND, and a choice of two numbers is a jump.
+pub fn with_bits_straight(n: u64, mask: u64, on: bool) -> u64
     ensures { λ r. ⌜ r ≡ withBits n mask on ⌝ }
 {
     (n & !mask) | isa_types::select(on, mask, 0)

@@ -16,12 +16,12 @@ with-bits-requires-2 c κs = search needs
 spvp-requires : tie.Need-spvp-requires
 spvp-requires c κs = search needs
 
-with-bits-requires-3 : tie.Need-with-bits-requires-3
-with-bits-requires-3 c κs = search needs
+with-bits-straight-requires : tie.Need-with-bits-straight-requires
+with-bits-straight-requires c κs = search needs
 
 returns : tie.Need-returns
 unfolding trapStatusOf
-returns c = simp (c .with-bits3 .ensures, c .before .spvp .ensures, c .before .before .with-bits2 .ensures, c .before .before .before .with-bits .ensures, c .before .before .before .before .sie .ensures)
+returns c = simp (c .with-bits-straight .ensures, c .before .spvp .ensures, c .before .before .with-bits2 .ensures, c .before .before .before .with-bits .ensures, c .before .before .before .before .sie .ensures)
 
 pub trap-status-spec : {M : Type 1} → statement M
 trap-status-spec =
@@ -31,5 +31,5 @@ trap-status-spec =
     with-bits-requires
     with-bits-requires-2
     spvp-requires
-    with-bits-requires-3
+    with-bits-straight-requires
     returns)

@@ -1,14 +1,15 @@
 -- `isa_registers::with_bits` meets its contract.
-use Rattle.isa_registers.proofs.Mask.{cleared-first}
-use borrow.Author.Needs.{needs}
+use Rattle.isa_registers.specs.Bits.{withBits}
 use Rattle.isa_registers.proofs.with_bits.Statement.{statement}
 use Rattle.isa_registers.proofs.with_bits.Tie as tie
 
-select-requires : tie.Need-select-requires
-select-requires c κs = search needs
-
 returns : tie.Need-returns
-returns c = simp (c .select .ensures, cleared-first _ _ (c .before .fits .n .fits) (c .before .fits .mask .fits))
+unfolding withBits
+returns c = simp (c .if1 .taken)
+
+returns-2 : tie.Need-returns-2
+unfolding withBits
+returns-2 c = simp (c .if1 .left)
 
 pub with-bits-spec : {M : Type 1} → statement M
-with-bits-spec = tie.close (tie.spec select-requires returns)
+with-bits-spec = tie.close (tie.spec returns returns-2)
