@@ -199,49 +199,49 @@ pub record TouchedBy (P : Type 0) (v : Vcpu) (c : HostCall) : Type 0 where
   pub misaligned : (a : GuestVirtAddr) → FetchAnswered v c (fetch.Misaligned a) → P
 
 module _ (P : Type 0) (v : Vcpu) (c : HostCall) (t : TouchedBy P v c) where
-  by-fault : waitingAsk (v .waiting) ≡ 1 → (f : Fetch) → c ≡ hostCall.Answer (answer.Fetched f) → injects f ≡ true → P
+  listed-fault : waitingAsk (v .waiting) ≡ 1 → (f : Fetch) → c ≡ hostCall.Answer (answer.Fetched f) → injects f ≡ true → P
   unfolding injects
-  by-fault w (fetch.Page a) e h = t .page a (record { asks = w; answers = e })
-  by-fault w (fetch.Access a) e h = t .access a (record { asks = w; answers = e })
-  by-fault w (fetch.Misaligned a) e h = t .misaligned a (record { asks = w; answers = e })
-  by-fault w (fetch.GuestPage a) e h = never (sym h)
-  by-fault w fetch.Unhandled e h = never (sym h)
-  by-fault w (fetch.Word k) e h = never (sym h)
+  listed-fault w (fetch.Page a) e h = t .page a (record { asks = w; answers = e })
+  listed-fault w (fetch.Access a) e h = t .access a (record { asks = w; answers = e })
+  listed-fault w (fetch.Misaligned a) e h = t .misaligned a (record { asks = w; answers = e })
+  listed-fault w (fetch.GuestPage a) e h = never (sym h)
+  listed-fault w fetch.Unhandled e h = never (sym h)
+  listed-fault w (fetch.Word k) e h = never (sym h)
 
-  by-answers : waitingAsk (v .waiting) ≡ 1 → (a : Answer) → c ≡ hostCall.Answer a → answerInjects a ≡ true → P
+  listed-answer : waitingAsk (v .waiting) ≡ 1 → (a : Answer) → c ≡ hostCall.Answer a → answerInjects a ≡ true → P
   unfolding answerInjects
-  by-answers w (answer.Fetched f) e h = by-fault w f e h
-  by-answers w (answer.MaskCopied count bytes) e h = never (sym h)
-  by-answers w (answer.CopiedIn count) e h = never (sym h)
-  by-answers w (answer.Printed k value) e h = never (sym h)
-  by-answers w (answer.ConsoleRead k value) e h = never (sym h)
-  by-answers w (answer.CopiedOut count) e h = never (sym h)
-  by-answers w answer.Emitted e h = never (sym h)
-  by-answers w (answer.Char number) e h = never (sym h)
-  by-answers w (answer.Forwarded k value) e h = never (sym h)
-  by-answers w answer.Other e h = never (sym h)
+  listed-answer w (answer.Fetched f) e h = listed-fault w f e h
+  listed-answer w (answer.MaskCopied count bytes) e h = never (sym h)
+  listed-answer w (answer.CopiedIn count) e h = never (sym h)
+  listed-answer w (answer.Printed k value) e h = never (sym h)
+  listed-answer w (answer.ConsoleRead k value) e h = never (sym h)
+  listed-answer w (answer.CopiedOut count) e h = never (sym h)
+  listed-answer w answer.Emitted e h = never (sym h)
+  listed-answer w (answer.Char number) e h = never (sym h)
+  listed-answer w (answer.Forwarded k value) e h = never (sym h)
+  listed-answer w answer.Other e h = never (sym h)
 
-  by-call : (d : HostCall) → c ≡ d → touchesMode v d ≡ true → P
+  listed-call : (d : HostCall) → c ≡ d → touchesMode v d ≡ true → P
   unfolding touchesMode
-  by-call (hostCall.New hart tree) e h = t .new hart tree e
-  by-call hostCall.Setup e h = t .setup e
-  by-call (hostCall.Answer a) e h =
-      let k = both (eqb (waitingAsk (v .waiting)) 1) (answerInjects a) h in by-answers (eqb-true _ 1 (k .0)) a e (k .1)
-  by-call (hostCall.Start s) e h = never (sym h)
-  by-call (hostCall.SetEntry at) e h = never (sym h)
-  by-call (hostCall.GetGpr index) e h = never (sym h)
-  by-call (hostCall.SetGpr index value) e h = never (sym h)
-  by-call (hostCall.SetReturnValue value) e h = never (sym h)
-  by-call (hostCall.SetNestedPageTable levels mode root) e h = never (sym h)
-  by-call (hostCall.SetPending vector level) e h = never (sym h)
-  by-call (hostCall.LatchHvip bits) e h = never (sym h)
-  by-call (hostCall.CompleteIpi abi completion) e h = never (sym h)
-  by-call (hostCall.CompleteLoad n) e h = never (sym h)
-  by-call (hostCall.ToPrint length) e h = never (sym h)
+  listed-call (hostCall.New hart tree) e h = t .new hart tree e
+  listed-call hostCall.Setup e h = t .setup e
+  listed-call (hostCall.Answer a) e h =
+      let k = both (eqb (waitingAsk (v .waiting)) 1) (answerInjects a) h in listed-answer (eqb-true _ 1 (k .0)) a e (k .1)
+  listed-call (hostCall.Start s) e h = never (sym h)
+  listed-call (hostCall.SetEntry at) e h = never (sym h)
+  listed-call (hostCall.GetGpr index) e h = never (sym h)
+  listed-call (hostCall.SetGpr index value) e h = never (sym h)
+  listed-call (hostCall.SetReturnValue value) e h = never (sym h)
+  listed-call (hostCall.SetNestedPageTable levels mode root) e h = never (sym h)
+  listed-call (hostCall.SetPending vector level) e h = never (sym h)
+  listed-call (hostCall.LatchHvip bits) e h = never (sym h)
+  listed-call (hostCall.CompleteIpi abi completion) e h = never (sym h)
+  listed-call (hostCall.CompleteLoad n) e h = never (sym h)
+  listed-call (hostCall.ToPrint length) e h = never (sym h)
 
   -- follows of every call that `touchesMode` lists: it lists no other
   pub touched-by : touchesMode v c ≡ true → P
-  touched-by h = by-call c refl h
+  touched-by h = listed-call c refl h
 
 -- over a lent record, by its promise: what is left and given are such an outcome
 pub w5-lent : (v w : Vcpu) (c : HostCall) (g : Given) → Stored v c w g → W5 v (record { vcpu = w; reply = g .reply; args = g .args }) c
