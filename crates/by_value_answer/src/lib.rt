@@ -1,15 +1,15 @@
 // How an answer carries a trap on. scope/specs/Answers.antt defines it.
 ghost use Rattle.std.specs.Prelude.{◌≡◌, eqb};
-ghost use Rattle.scope.specs.Refusals.{refusedOf};
+ghost use Rattle.scope.specs.Refusals.{refused_of};
 ghost use Rattle.scope.specs.declared.traps.Error.TheVariants as error;
 ghost use Rattle.isa_types.specs.Pick.{pick};
-ghost use Rattle.scope.specs.Answers.{answerEffect, fittingEffect, fetchEffect, numbersEffect, wordEffect};
+ghost use Rattle.scope.specs.Answers.{answer_effect, fitting_effect, fetch_effect, numbers_effect, word_effect};
 
 use scope::{Answer, Csrs, Effect, Error, Fetch, Waiting};
 
 // Carries a trap on with the host's answer.
 pub fn answer(x: [u64; 32], c: Csrs, w: Waiting, a: Answer) -> Effect
-    ensures { result ≡ answerEffect x c w a }
+    ensures { result ≡ answer_effect x c w a }
 {
     matched(
         decide_record::ask_of(w),
@@ -23,7 +23,7 @@ pub fn answer(x: [u64; 32], c: Csrs, w: Waiting, a: Answer) -> Effect
 
 // An answer of another ask's kind, or to no ask, is refused.
 fn matched(ask: u64, number: u64, x: [u64; 32], c: Csrs, w: Waiting, a: Answer) -> Effect
-    ensures { result ≡ pick (eqb ask number) (fittingEffect x c w a) (refusedOf c w error.WrongAnswer) }
+    ensures { result ≡ pick (eqb ask number) (fitting_effect x c w a) (refused_of c w error.WrongAnswer) }
 {
     if ask == number {
         return continued(x, c, w, a);
@@ -32,7 +32,7 @@ fn matched(ask: u64, number: u64, x: [u64; 32], c: Csrs, w: Waiting, a: Answer) 
 }
 
 fn continued(x: [u64; 32], c: Csrs, w: Waiting, a: Answer) -> Effect
-    ensures { result ≡ fittingEffect x c w a }
+    ensures { result ≡ fitting_effect x c w a }
 {
     match a {
         Answer::Fetched(f) => fetched(x, c, w, f),
@@ -50,7 +50,7 @@ fn continued(x: [u64; 32], c: Csrs, w: Waiting, a: Answer) -> Effect
 
 // The numbers of an answer go to the ecall that waits.
 fn numbers(c: Csrs, w: Waiting, word: u64, more: u64) -> Effect
-    ensures { result ≡ numbersEffect c w word more }
+    ensures { result ≡ numbers_effect c w word more }
 {
     match w {
         Waiting::Idle => decide_effects::refused(c, w, Error::WrongAnswer),
@@ -71,7 +71,7 @@ fn numbers(c: Csrs, w: Waiting, word: u64, more: u64) -> Effect
 
 // A fetch gave a word, or its fault is handled.
 fn fetched(x: [u64; 32], c: Csrs, w: Waiting, f: Fetch) -> Effect
-    ensures { result ≡ fetchEffect x c w f }
+    ensures { result ≡ fetch_effect x c w f }
 {
     let Fetch::Word(word) = f else {
         return by_value_classes::missed(c, decide_fetch::decide(f));
@@ -81,7 +81,7 @@ fn fetched(x: [u64; 32], c: Csrs, w: Waiting, f: Fetch) -> Effect
 
 // The trap goes on with the word that was fetched.
 fn resumed(x: [u64; 32], c: Csrs, w: Waiting, word: u32) -> Effect
-    ensures { result ≡ wordEffect x c w word }
+    ensures { result ≡ word_effect x c w word }
 {
     match w {
         Waiting::Idle => decide_effects::refused(c, w, Error::WrongAnswer),

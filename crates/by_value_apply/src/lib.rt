@@ -1,7 +1,7 @@
 // An effect applied to a record: the one place where a record changes. scope/specs/Record.antt defines it.
 ghost use Rattle.std.specs.Prelude.{◌≡◌};
-ghost use Rattle.scope.specs.Record.{bumped, counted, eventNumber, stored, applied};
-ghost use Rattle.scope.specs.Refusals.{unlessAsking};
+ghost use Rattle.scope.specs.Record.{bumped, counted, event_number, stored, applied};
+ghost use Rattle.scope.specs.Refusals.{unless_asking};
 
 use scope::{Effect, Event, Outcome, Vcpu, Writes};
 
@@ -35,7 +35,7 @@ pub fn apply(v: Vcpu, e: Effect) -> Outcome
 
 // The outcome of an effect, unless an ask waits: then refusal 2.
 pub fn unless_asking(v: Vcpu, e: Effect) -> Outcome
-    ensures { result ≡ applied v (unlessAsking v e) }
+    ensures { result ≡ applied v (unless_asking v e) }
 {
     let c = v.csrs;
     let w = v.waiting;
@@ -78,7 +78,7 @@ fn count(counts: [u64; 9], e: Event) -> [u64; 9]
 }
 
 fn event_number(e: Event) -> usize
-    ensures { result ≡ eventNumber e }
+    ensures { result ≡ event_number e }
 {
     match e {
         Event::Quiet => 0,

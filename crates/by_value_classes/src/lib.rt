@@ -1,7 +1,7 @@
 // The effects of a virtual instruction, a guest page fault and a failed fetch, each once it is decided, and of a load's completion.
 ghost use Rattle.std.specs.Prelude.{◌≡◌};
-ghost use Rattle.scope.specs.GuestPageFault.{completedOf, faultEffect};
-ghost use Rattle.scope.specs.VirtualInstruction.{askFetchOf, missedEffect, stimecmpEffect};
+ghost use Rattle.scope.specs.GuestPageFault.{completed_of, fault_effect};
+ghost use Rattle.scope.specs.VirtualInstruction.{ask_fetch_of, missed_effect, stimecmp_effect};
 
 use isa_types::{GuestPhysAddr, GuestVirtAddr};
 use scope::{
@@ -11,7 +11,7 @@ use scope::{
 
 // A load's number arrives: cut, extended, written.
 pub fn complete(c: Csrs, w: Waiting, n: u64) -> Effect
-    ensures { result ≡ completedOf c w n }
+    ensures { result ≡ completed_of c w n }
 {
     match w {
         Waiting::Idle => decide_effects::refused(c, w, Error::BadState),
@@ -28,7 +28,7 @@ pub fn complete(c: Csrs, w: Waiting, n: u64) -> Effect
 
 // Asks for the instruction at sepc, with the guest's rights.
 pub fn ask_fetch(c: Csrs, waiting: Waiting) -> Effect
-    ensures { result ≡ askFetchOf c waiting }
+    ensures { result ≡ ask_fetch_of c waiting }
 {
     let at = GuestVirtAddr(c.guest.sepc);
     let supervisor = isa_registers::spvp(c.guest.hstatus);
@@ -37,7 +37,7 @@ pub fn ask_fetch(c: Csrs, waiting: Waiting) -> Effect
 
 // The effect of a failed fetch.
 pub fn missed(c: Csrs, m: Missed) -> Effect
-    ensures { result ≡ missedEffect c m }
+    ensures { result ≡ missed_effect c m }
 {
     match m {
         Missed::Inject { cause, addr } => {
@@ -57,7 +57,7 @@ pub fn missed(c: Csrs, m: Missed) -> Effect
 
 // The effect of a virtual instruction.
 pub fn csr(c: Csrs, d: Stimecmp) -> Effect
-    ensures { result ≡ stimecmpEffect c d }
+    ensures { result ≡ stimecmp_effect c d }
 {
     match d {
         Stimecmp::Illegal => decide_effects::failed(c, Event::IllegalInsn, Error::Unsupported),
@@ -76,7 +76,7 @@ pub fn csr(c: Csrs, d: Stimecmp) -> Effect
 
 // The effect of a guest page fault.
 pub fn fault(c: Csrs, at: GuestPhysAddr, access: Access, d: Fault) -> Effect
-    ensures { result ≡ faultEffect c at access d }
+    ensures { result ≡ fault_effect c at access d }
 {
     match d {
         Fault::Fetch => ask_fetch(c, Waiting::FetchFault { at, access }),

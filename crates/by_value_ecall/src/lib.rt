@@ -1,7 +1,7 @@
 // SBI calls by value: the effect of each, and of the answer to its ask.
 ghost use Rattle.std.specs.Prelude.{◌≡◌};
-ghost use Rattle.scope.specs.Ecalls.{asksOf, clearIpiOf, hypercallOf, moves_of, returnsOf, setTimerOf, stays_of, givesOf};
-ghost use Rattle.scope.specs.Decided.{callEffect, answeredEffect};
+ghost use Rattle.scope.specs.Ecalls.{asks_of, clear_ipi_of, hypercall_of, moves_of, returns_of, set_timer_of, stays_of, gives_of};
+ghost use Rattle.scope.specs.Decided.{call_effect, answered_effect};
 
 use scope::{
     Answered, Args, Ask, Csrs, EcallAsk, Effect, Event, Exit, Reply, SbiCall, Waiting, Writes,
@@ -9,7 +9,7 @@ use scope::{
 
 // The effect of a call on the record.
 pub fn effect(c: Csrs, eid: u64, fid: u64, a: Args, call: SbiCall) -> Effect
-    ensures { result ≡ callEffect c eid fid a call }
+    ensures { result ≡ call_effect c eid fid a call }
 {
     match call {
         SbiCall::Returns(e, v) => returns(c, e, v),
@@ -51,7 +51,7 @@ pub fn effect(c: Csrs, eid: u64, fid: u64, a: Args, call: SbiCall) -> Effect
 
 // The effect of the answer to an ecall's ask.
 pub fn answered(c: Csrs, d: Answered) -> Effect
-    ensures { result ≡ answeredEffect c d }
+    ensures { result ≡ answered_effect c d }
 {
     match d {
         Answered::Moves => moves(c, Exit::Nothing),
@@ -67,7 +67,7 @@ pub fn answered(c: Csrs, d: Answered) -> Effect
 
 // "Return e, v" of document 01.
 fn returns(c: Csrs, error: u64, value: u64) -> Effect
-    ensures { result ≡ returnsOf c error value }
+    ensures { result ≡ returns_of c error value }
 {
     decide_effects::finished(
         decide_record::advance(c, 4),
@@ -91,7 +91,7 @@ fn moves(c: Csrs, exit: Exit) -> Effect
 
 // a0 is the number.
 fn gives(c: Csrs, n: u64) -> Effect
-    ensures { result ≡ givesOf c n }
+    ensures { result ≡ gives_of c n }
 {
     decide_effects::finished(
         decide_record::advance(c, 4),
@@ -110,14 +110,14 @@ fn stays(c: Csrs, exit: Exit) -> Effect
 
 // An ask, with what its answer needs.
 fn asks(c: Csrs, waiting: EcallAsk, ask: Ask) -> Effect
-    ensures { result ≡ asksOf c waiting ask }
+    ensures { result ≡ asks_of c waiting ask }
 {
     decide_effects::asking(c, Event::Quiet, Waiting::Ecall(waiting), ask)
 }
 
 // Both set-timer calls, which differ in the registers that they write.
 fn set_timer(c: Csrs, deadline: u64, writes: Writes) -> Effect
-    ensures { result ≡ setTimerOf c deadline writes }
+    ensures { result ≡ set_timer_of c deadline writes }
 {
     let armed = decide_record::with_timer(c, deadline);
     let hvip = isa_registers::with_bits(c.hs.hvip, isa_consts::VSTIP, false);
@@ -132,7 +132,7 @@ fn set_timer(c: Csrs, deadline: u64, writes: Writes) -> Effect
 
 // Legacy 3.
 fn clear_ipi(c: Csrs) -> Effect
-    ensures { result ≡ clearIpiOf c }
+    ensures { result ≡ clear_ipi_of c }
 {
     let hvip = isa_registers::with_bits(c.hs.hvip, isa_consts::VSSIP, false);
     let cleared = decide_record::with_hvip(c, hvip);
@@ -146,7 +146,7 @@ fn clear_ipi(c: Csrs) -> Effect
 
 // EID_HVC: the arguments stand beside the exit.
 fn hypercall(c: Csrs, fid: u64, a: Args) -> Effect
-    ensures { result ≡ hypercallOf c fid a }
+    ensures { result ≡ hypercall_of c fid a }
 {
     Effect {
         csrs: decide_record::advance(c, 4),

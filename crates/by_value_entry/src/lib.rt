@@ -1,13 +1,13 @@
 // Every call on a vCPU record behind one function, by value.
 ghost use Rattle.std.specs.Prelude.{◌≡◌};
 ghost use Rattle.scope.specs.declared.hosts.HostCall.TheVariants as hostCall;
-ghost use Rattle.scope.specs.Calls.{calledOf};
+ghost use Rattle.scope.specs.Calls.{called_of};
 
 use scope::{Answer, HostCall, Outcome, Reply, Vcpu};
 
 // Makes the call on a record that is handed over by value.
 pub fn call(v: Vcpu, c: HostCall) -> Outcome
-    ensures { result ≡ calledOf v c }
+    ensures { result ≡ called_of v c }
 {
     match c {
         HostCall::New { hart_id, dtb_addr } => fresh(v, hart_id, dtb_addr),
@@ -33,7 +33,7 @@ pub fn call(v: Vcpu, c: HostCall) -> Outcome
 
 // A register read as an outcome: the record stays.
 fn read(v: Vcpu, index: usize) -> Outcome
-    ensures { result ≡ calledOf v (hostCall.GetGpr index) }
+    ensures { result ≡ called_of v (hostCall.GetGpr index) }
 {
     let reply = by_value_gprs::get_gpr(v, index);
     Outcome {
@@ -45,7 +45,7 @@ fn read(v: Vcpu, index: usize) -> Outcome
 
 // A new record as an outcome.
 fn fresh(v: Vcpu, hart_id: u64, dtb_addr: u64) -> Outcome
-    ensures { result ≡ calledOf v (hostCall.New hart_id dtb_addr) }
+    ensures { result ≡ called_of v (hostCall.New hart_id dtb_addr) }
 {
     Outcome {
         vcpu: by_value_setup::new(hart_id, dtb_addr),
@@ -56,7 +56,7 @@ fn fresh(v: Vcpu, hart_id: u64, dtb_addr: u64) -> Outcome
 
 // How much is to be printed, as an outcome: the record stays.
 fn printing(v: Vcpu, length: u64) -> Outcome
-    ensures { result ≡ calledOf v (hostCall.ToPrint length) }
+    ensures { result ≡ called_of v (hostCall.ToPrint length) }
 {
     let w = v.waiting;
     Outcome {

@@ -1,13 +1,13 @@
 // The guest's general registers, read and written by the host.
 ghost use Rattle.std.specs.Prelude.{◌≡◌};
 ghost use Rattle.scope.specs.declared.hosts.HostCall.TheVariants as hostCall;
-ghost use Rattle.scope.specs.Calls.{calledOf, gprReply};
+ghost use Rattle.scope.specs.Calls.{called_of, gpr_reply};
 
 use scope::{Error, Outcome, Reply, Vcpu, Writes};
 
 // Reads a general register.
 pub fn get_gpr(v: Vcpu, index: usize) -> Reply
-    ensures { result ≡ gprReply v index }
+    ensures { result ≡ gpr_reply v index }
 {
     let x = v.x;
     if index < 32 {
@@ -18,7 +18,7 @@ pub fn get_gpr(v: Vcpu, index: usize) -> Reply
 
 // Writes a general register; x0 stays.
 pub fn set_gpr(v: Vcpu, index: usize, value: u64) -> Outcome
-    ensures { result ≡ calledOf v (hostCall.SetGpr index value) }
+    ensures { result ≡ called_of v (hostCall.SetGpr index value) }
 {
     let c = v.csrs;
     let w = v.waiting;
@@ -28,7 +28,7 @@ pub fn set_gpr(v: Vcpu, index: usize, value: u64) -> Outcome
 
 // Writes a0.
 pub fn set_return_value(v: Vcpu, value: u64) -> Outcome
-    ensures { result ≡ calledOf v (hostCall.SetReturnValue value) }
+    ensures { result ≡ called_of v (hostCall.SetReturnValue value) }
 {
     let c = v.csrs;
     let w = v.waiting;

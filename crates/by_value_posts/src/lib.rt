@@ -1,7 +1,7 @@
 // A row of posts in one call, on a record by value and on the host's record where it lies. 02, W4.
 ghost use Rattle.std.specs.Prelude.{◌≡◌};
-ghost use Rattle.scope.specs.Posts.{postedOf};
-ghost use Rattle.decide_posts.specs.Fold.{begunOf, ended_of};
+ghost use Rattle.scope.specs.Posts.{posted_of};
+ghost use Rattle.decide_posts.specs.Fold.{begun_of, ended_of};
 ghost use Rattle.by_value_posts.specs.Lent.{StoredRow};
 
 use decide_posts::Row;
@@ -9,7 +9,7 @@ use scope::{Post, Posted, RowOutcome, Vcpu};
 
 // Sets or clears pending interrupts of the guest in order, up to the first that is refused. A walk by hand proves it.
 pub fn post(v: Vcpu, posts: &[Post]) -> RowOutcome
-    ensures { result ≡ postedOf v posts.now }
+    ensures { result ≡ posted_of v posts.now }
 {
     let s = begin(v);
     let row = decide_posts::fold(s, posts);
@@ -27,7 +27,7 @@ pub fn post_in_place(v: &mut Vcpu, posts: &[Post]) -> Posted
 
 // hvip, and whether an ask waits.
 fn begin(v: Vcpu) -> Row
-    ensures { result ≡ begunOf v }
+    ensures { result ≡ begun_of v }
 {
     let w = v.waiting;
     decide_posts::begin(v.csrs.hs.hvip, decide_record::ask_of(w))

@@ -1,12 +1,12 @@
 // The part of the lent buffer that ask 4 prints. The buffer is lent to be read: no call writes it.
 ghost use Rattle.std.specs.Prelude.{◌≡◌, length, take};
-ghost use Rattle.scope.specs.Calls.{fitted, printedOf};
+ghost use Rattle.scope.specs.Calls.{fitted, printed_of};
 
 use scope::Vcpu;
 
 // The bytes to print: the first n of the lent buffer under ask 4, if it has n; else none.
 pub fn to_print<'a>(v: Vcpu, buffer: &'a [u8]) -> &'a [u8]
-    ensures { result.now ≡ printedOf v buffer.now }
+    ensures { result.now ≡ printed_of v buffer.now }
 {
     let w = v.waiting;
     first(buffer, decide_record::print_count(w))

@@ -1,14 +1,14 @@
 // What the host sets up before a guest runs: the record, its CSRs, where it starts, its page table.
 ghost use Rattle.std.specs.Prelude.{◌≡◌};
 ghost use Rattle.scope.specs.declared.hosts.HostCall.TheVariants as hostCall;
-ghost use Rattle.scope.specs.Calls.{newOf, calledOf};
+ghost use Rattle.scope.specs.Calls.{new_of, called_of};
 
 use isa_types::GuestPhysAddr;
 use scope::{Csrs, GuestCsrs, HsCsrs, Outcome, Vcpu, VsCsrs, Waiting, Writes};
 
 // A record of zeros but for what a guest finds at its start: a0 is its hart, a1 where the device tree lies.
 pub fn new(hart_id: u64, dtb_addr: u64) -> Vcpu
-    ensures { result ≡ newOf hart_id dtb_addr }
+    ensures { result ≡ new_of hart_id dtb_addr }
 {
     let mut x = [0u64; 32];
     x[10] = hart_id;
@@ -44,7 +44,7 @@ pub fn new(hart_id: u64, dtb_addr: u64) -> Vcpu
 
 // The state that a guest starts with.
 pub fn setup(v: Vcpu) -> Outcome
-    ensures { result ≡ calledOf v hostCall.Setup }
+    ensures { result ≡ called_of v hostCall.Setup }
 {
     let c = v.csrs;
     let w = v.waiting;
@@ -54,7 +54,7 @@ pub fn setup(v: Vcpu) -> Outcome
 
 // Where the guest starts.
 pub fn set_entry(v: Vcpu, entry: GuestPhysAddr) -> Outcome
-    ensures { result ≡ calledOf v (hostCall.SetEntry entry) }
+    ensures { result ≡ called_of v (hostCall.SetEntry entry) }
 {
     let c = v.csrs;
     let w = v.waiting;
@@ -64,7 +64,7 @@ pub fn set_entry(v: Vcpu, entry: GuestPhysAddr) -> Outcome
 
 // Sets the guest-stage page table: 3 levels with mode 8, or 4 with mode 9, and a root at a multiple of 16 KiB.
 pub fn set_nested_page_table(v: Vcpu, levels: u64, mode: u64, root: u64) -> Outcome
-    ensures { result ≡ calledOf v (hostCall.SetNestedPageTable levels mode root) }
+    ensures { result ≡ called_of v (hostCall.SetNestedPageTable levels mode root) }
 {
     let c = v.csrs;
     let w = v.waiting;

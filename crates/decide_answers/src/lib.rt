@@ -1,15 +1,15 @@
 // The host's answers to an ecall's asks, 2 to 9.
 ghost use Rattle.std.specs.Prelude.{◌≡◌};
-ghost use Rattle.scope.specs.Ecalls.{consoleReadEffect, copiedEffect, copiedOutEffect, ecallAnswer, maskEffect};
+ghost use Rattle.scope.specs.Ecalls.{console_read_effect, copied_effect, copied_out_effect, ecall_answer, mask_effect};
 ghost use Rattle.scope.specs.declared.machine.Csrs.{Csrs};
-ghost use Rattle.scope.specs.Decided.{answeredEffect};
+ghost use Rattle.scope.specs.Decided.{answered_effect};
 
 use isa_types::GuestPhysAddr;
 use scope::{Answered, EcallAsk, LegacyRequest};
 
 // What an answer's two numbers do to the ecall that waits.
 pub fn decide(a: EcallAsk, word: u64, more: u64) -> Answered
-    ensures { (c : Csrs) → answeredEffect c result ≡ ecallAnswer c a word more }
+    ensures { (c : Csrs) → answered_effect c result ≡ ecall_answer c a word more }
 {
     match a {
         EcallAsk::CopyMask => mask(decide_ipi::legacy_request(word, more)),
@@ -26,7 +26,7 @@ pub fn decide(a: EcallAsk, word: u64, more: u64) -> Answered
 
 // Legacy 4, ask 2.
 fn mask(q: LegacyRequest) -> Answered
-    ensures { (c : Csrs) → answeredEffect c result ≡ maskEffect c q }
+    ensures { (c : Csrs) → answered_effect c result ≡ mask_effect c q }
 {
     match q {
         LegacyRequest::Request(request) => Answered::SendIpi(request),
@@ -36,7 +36,7 @@ fn mask(q: LegacyRequest) -> Answered
 
 // DBCN fid 0, ask 3.
 fn copied(count: u64, got: u64) -> Answered
-    ensures { (c : Csrs) → answeredEffect c result ≡ copiedEffect c count got }
+    ensures { (c : Csrs) → answered_effect c result ≡ copied_effect c count got }
 {
     if got == count {
         return Answered::Print(count);
@@ -46,7 +46,7 @@ fn copied(count: u64, got: u64) -> Answered
 
 // DBCN fid 1, ask 5.
 fn read(count: u64, at: GuestPhysAddr, error: u64, value: u64) -> Answered
-    ensures { (c : Csrs) → answeredEffect c result ≡ consoleReadEffect c count at error value }
+    ensures { (c : Csrs) → answered_effect c result ≡ console_read_effect c count at error value }
 {
     if error == 0 {
         if value == 0 {
@@ -62,7 +62,7 @@ fn read(count: u64, at: GuestPhysAddr, error: u64, value: u64) -> Answered
 
 // DBCN fid 1, ask 6.
 fn copied_out(count: u64, got: u64) -> Answered
-    ensures { (c : Csrs) → answeredEffect c result ≡ copiedOutEffect c count got }
+    ensures { (c : Csrs) → answered_effect c result ≡ copied_out_effect c count got }
 {
     if got == count {
         return Answered::Returns(isa_consts::RET_SUCCESS, count);

@@ -2,15 +2,15 @@
 ghost use Rattle.std.specs.Prelude.{◌≡◌};
 ghost use Rattle.scope.specs.declared.machine.Csrs.{Csrs};
 ghost use Rattle.scope.specs.declared.traps.Args.{Args};
-ghost use Rattle.scope.specs.Decided.{callEffect};
-ghost use Rattle.scope.specs.Ecalls.{ecallEffect};
+ghost use Rattle.scope.specs.Decided.{call_effect};
+ghost use Rattle.scope.specs.Ecalls.{ecall_effect};
 
 use isa_types::GuestVirtAddr;
 use scope::{Args, Event, SbiCall};
 
 // What the call eid, fid does with these arguments and this much room in the console buffer.
 pub fn decide(eid: u64, fid: u64, a: Args, room: u64) -> SbiCall
-    ensures { (c : Csrs) → callEffect c eid fid a result ≡ ecallEffect c eid fid a room }
+    ensures { (c : Csrs) → call_effect c eid fid a result ≡ ecall_effect c eid fid a room }
 {
     match eid {
         isa_consts::LEGACY_SET_TIMER => SbiCall::LegacyTimer(a.a0),

@@ -2,14 +2,14 @@
 ghost use Rattle.std.specs.Prelude.{◌≡◌, ℕ};
 ghost use Rattle.scope.specs.declared.machine.Csrs.{Csrs};
 ghost use Rattle.scope.specs.declared.traps.Args.{Args};
-ghost use Rattle.scope.specs.Decided.{callEffect};
-ghost use Rattle.scope.specs.Ecalls.{consoleEffect, dbcnEffect, lesserOf, spanEffect};
+ghost use Rattle.scope.specs.Decided.{call_effect};
+ghost use Rattle.scope.specs.Ecalls.{console_effect, dbcn_effect, lesser_of, span_effect};
 
 use isa_types::GuestPhysAddr;
 use scope::{Args, SbiCall};
 
 pub fn dbcn(fid: u64, a: Args, room: u64) -> SbiCall
-    ensures { (c : Csrs) (eid : ℕ) → callEffect c eid fid a result ≡ dbcnEffect c fid a room }
+    ensures { (c : Csrs) (eid : ℕ) → call_effect c eid fid a result ≡ dbcn_effect c fid a room }
 {
     if fid == isa_consts::FID_CONSOLE_WRITE {
         return console(true, a, room);
@@ -25,7 +25,7 @@ pub fn dbcn(fid: u64, a: Args, room: u64) -> SbiCall
 
 // The checks that console write and read share.
 fn console(write: bool, a: Args, room: u64) -> SbiCall
-    ensures { (c : Csrs) (eid fid : ℕ) → callEffect c eid fid a result ≡ consoleEffect c write a room }
+    ensures { (c : Csrs) (eid fid : ℕ) → call_effect c eid fid a result ≡ console_effect c write a room }
 {
     if a.a0 == 0 {
         return SbiCall::Returns(isa_consts::RET_SUCCESS, 0);
@@ -37,7 +37,7 @@ fn console(write: bool, a: Args, room: u64) -> SbiCall
 }
 
 fn span(write: bool, at: GuestPhysAddr, count: u64) -> SbiCall
-    ensures { (c : Csrs) (eid fid : ℕ) (a : Args) → callEffect c eid fid a result ≡ spanEffect c write at count }
+    ensures { (c : Csrs) (eid fid : ℕ) (a : Args) → call_effect c eid fid a result ≡ span_effect c write at count }
 {
     if count == 0 {
         return SbiCall::Returns(isa_consts::RET_SUCCESS, 0);
@@ -49,7 +49,7 @@ fn span(write: bool, at: GuestPhysAddr, count: u64) -> SbiCall
 }
 
 pub fn lesser(a: u64, b: u64) -> u64
-    ensures { result ≡ lesserOf a b }
+    ensures { result ≡ lesser_of a b }
 {
     if a <= b {
         return a;

@@ -2,14 +2,14 @@
 ghost use Rattle.std.specs.Prelude.{◌≡◌, ℕ};
 ghost use Rattle.scope.specs.declared.machine.Csrs.{Csrs};
 ghost use Rattle.scope.specs.declared.traps.Args.{Args};
-ghost use Rattle.scope.specs.Decided.{callEffect};
-ghost use Rattle.scope.specs.Ecalls.{hsmEffect, notSupportedEffect, rfncEffect, spiEffect, srstEffect, timeEffect};
+ghost use Rattle.scope.specs.Decided.{call_effect};
+ghost use Rattle.scope.specs.Ecalls.{hsm_effect, not_supported_effect, rfnc_effect, spi_effect, srst_effect, time_effect};
 
 use isa_types::GuestPhysAddr;
 use scope::{Args, Event, SbiCall};
 
 pub fn time(fid: u64, a: Args) -> SbiCall
-    ensures { (c : Csrs) (eid : ℕ) → callEffect c eid fid a result ≡ timeEffect c fid a }
+    ensures { (c : Csrs) (eid : ℕ) → call_effect c eid fid a result ≡ time_effect c fid a }
 {
     if fid == isa_consts::FID_SET_TIMER {
         return SbiCall::SetTimer(a.a0);
@@ -18,7 +18,7 @@ pub fn time(fid: u64, a: Args) -> SbiCall
 }
 
 pub fn spi(fid: u64, a: Args) -> SbiCall
-    ensures { (c : Csrs) (eid : ℕ) → callEffect c eid fid a result ≡ spiEffect c fid a }
+    ensures { (c : Csrs) (eid : ℕ) → call_effect c eid fid a result ≡ spi_effect c fid a }
 {
     if fid == isa_consts::FID_SEND_IPI {
         return SbiCall::SendIpi(decide_ipi::standard_request(a.a0, a.a1));
@@ -27,7 +27,7 @@ pub fn spi(fid: u64, a: Args) -> SbiCall
 }
 
 pub fn hsm(fid: u64, a: Args) -> SbiCall
-    ensures { (c : Csrs) (eid : ℕ) → callEffect c eid fid a result ≡ hsmEffect c fid a }
+    ensures { (c : Csrs) (eid : ℕ) → call_effect c eid fid a result ≡ hsm_effect c fid a }
 {
     if fid == isa_consts::FID_HART_START {
         return SbiCall::CpuUp(a.a0, GuestPhysAddr(a.a1), a.a2);
@@ -42,7 +42,7 @@ pub fn hsm(fid: u64, a: Args) -> SbiCall
 }
 
 pub fn srst(fid: u64, a: Args) -> SbiCall
-    ensures { (c : Csrs) (eid : ℕ) → callEffect c eid fid a result ≡ srstEffect c fid a }
+    ensures { (c : Csrs) (eid : ℕ) → call_effect c eid fid a result ≡ srst_effect c fid a }
 {
     if fid == isa_consts::FID_SYSTEM_RESET {
         if a.a0 == isa_consts::RESET_TYPE_SHUTDOWN {
@@ -55,7 +55,7 @@ pub fn srst(fid: u64, a: Args) -> SbiCall
 
 // Remote fences are counted by their kind, and all are forwarded.
 pub fn rfnc(fid: u64) -> SbiCall
-    ensures { (c : Csrs) (eid : ℕ) (a : Args) → callEffect c eid fid a result ≡ rfncEffect c eid fid a }
+    ensures { (c : Csrs) (eid : ℕ) (a : Args) → call_effect c eid fid a result ≡ rfnc_effect c eid fid a }
 {
     match fid {
         0 => SbiCall::Forward(Event::FenceI),
@@ -70,7 +70,7 @@ pub fn rfnc(fid: u64) -> SbiCall
 }
 
 pub fn not_supported() -> SbiCall
-    ensures { (c : Csrs) (eid fid : ℕ) (a : Args) → callEffect c eid fid a result ≡ notSupportedEffect c }
+    ensures { (c : Csrs) (eid fid : ℕ) (a : Args) → call_effect c eid fid a result ≡ not_supported_effect c }
 {
     SbiCall::Returns(isa_consts::RET_ERR_NOT_SUPPORTED, 0)
 }

@@ -1,6 +1,6 @@
 // How a call ends: an effect for each kind of end, built in one place. scope/specs/Refusals.antt defines them.
 ghost use Rattle.std.specs.Prelude.{◌≡◌, eqb};
-ghost use Rattle.scope.specs.Refusals.{askingOf, done_of, failedOf, finishedOf, refusedOf};
+ghost use Rattle.scope.specs.Refusals.{asking_of, done_of, failed_of, finished_of, refused_of};
 ghost use Rattle.scope.specs.Record.{no_args};
 ghost use Rattle.isa_types.specs.Pick.{pick};
 ghost use Rattle.scope.specs.declared.traps.Error.TheVariants as error;
@@ -9,7 +9,7 @@ use scope::{Args, Ask, Csrs, Effect, Error, Event, Exit, Reply, Waiting, Writes}
 
 // The trap is finished with an exit.
 pub fn finished(csrs: Csrs, event: Event, writes: Writes, exit: Exit) -> Effect
-    ensures { result ≡ finishedOf csrs event writes exit }
+    ensures { result ≡ finished_of csrs event writes exit }
 {
     Effect {
         csrs,
@@ -23,7 +23,7 @@ pub fn finished(csrs: Csrs, event: Event, writes: Writes, exit: Exit) -> Effect
 
 // The trap waits for an answer. No register and no CSR changes.
 pub fn asking(csrs: Csrs, event: Event, waits: Waiting, ask: Ask) -> Effect
-    ensures { result ≡ askingOf csrs event waits ask }
+    ensures { result ≡ asking_of csrs event waits ask }
 {
     Effect {
         csrs,
@@ -37,7 +37,7 @@ pub fn asking(csrs: Csrs, event: Event, waits: Waiting, ask: Ask) -> Effect
 
 // The trap ends in an error. No register and no CSR changes.
 pub fn failed(csrs: Csrs, seen: Event, error: Error) -> Effect
-    ensures { result ≡ failedOf csrs seen error }
+    ensures { result ≡ failed_of csrs seen error }
 {
     Effect {
         csrs,
@@ -51,7 +51,7 @@ pub fn failed(csrs: Csrs, seen: Event, error: Error) -> Effect
 
 // The call is refused. Nothing changes.
 pub fn refused(csrs: Csrs, kept: Waiting, error: Error) -> Effect
-    ensures { result ≡ refusedOf csrs kept error }
+    ensures { result ≡ refused_of csrs kept error }
 {
     Effect {
         csrs,
@@ -79,7 +79,7 @@ pub fn done(csrs: Csrs, writes: Writes, still: Waiting) -> Effect
 
 // The effect, unless an ask waits: then refusal 2.
 pub fn guarded(ask: u64, csrs: Csrs, waiting: Waiting, e: Effect) -> Effect
-    ensures { result ≡ pick (eqb ask 0) e (refusedOf csrs waiting error.BadState) }
+    ensures { result ≡ pick (eqb ask 0) e (refused_of csrs waiting error.BadState) }
 {
     if ask == 0 {
         return e;

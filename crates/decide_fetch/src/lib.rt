@@ -1,13 +1,13 @@
 // What a failed fetch of the guest's instruction does, and injection into the guest.
 ghost use Rattle.std.specs.Prelude.{◌≡◌};
-ghost use Rattle.scope.specs.VirtualInstruction.{injectedOf, missedOf, trapStatusOf};
+ghost use Rattle.scope.specs.VirtualInstruction.{injected_of, missed_of, trap_status_of};
 
 use isa_types::GuestVirtAddr;
 use scope::{Access, Csrs, Fetch, GuestCsrs, Missed, VsCsrs};
 
 // What the fault in a fetch answer does. A word is no fault; callers take it out before.
 pub fn decide(f: Fetch) -> Missed
-    ensures { result ≡ missedOf f }
+    ensures { result ≡ missed_of f }
 {
     match f {
         Fetch::Word(_) => Missed::Unhandled,
@@ -30,7 +30,7 @@ pub fn decide(f: Fetch) -> Missed
 
 // The guest's CSRs after an exception that it takes in supervisor mode: sstatus.SPP says so to the return.
 pub fn inject(c: Csrs, cause: u64, addr: GuestVirtAddr) -> Csrs
-    ensures { result ≡ injectedOf c cause addr }
+    ensures { result ≡ injected_of c cause addr }
 {
     let sstatus = isa_registers::with_bits(c.guest.sstatus, 0x100, true);
     let vsstatus = trap_status(c.vs.vsstatus, c.guest.hstatus);
@@ -53,7 +53,7 @@ pub fn inject(c: Csrs, cause: u64, addr: GuestVirtAddr) -> Csrs
 
 // vsstatus as the hardware leaves it on a trap into the guest's supervisor mode.
 fn trap_status(vsstatus: u64, hstatus: u64) -> u64
-    ensures { result ≡ trapStatusOf vsstatus hstatus }
+    ensures { result ≡ trap_status_of vsstatus hstatus }
 {
     let kept = isa_registers::with_bits(vsstatus, 0x20, isa_registers::sie(vsstatus));
     let masked = isa_registers::with_bits(kept, 0x2, false);

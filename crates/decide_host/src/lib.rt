@@ -1,21 +1,21 @@
 // What the host's own calls do to a record: setup, entry, registers, page table, interrupts, IPI results.
 ghost use Rattle.std.specs.Prelude.{◌≡◌, eqb};
-ghost use Rattle.scope.specs.Host.{entryCsrs, ipiWrites, hvipBitOf, pagingBy, pagingEffect, pendingEffect, setupCsrs, tableCsrs, writeEffect};
+ghost use Rattle.scope.specs.Host.{entry_csrs, ipi_writes, hvip_bit_of, paging_by, paging_effect, pending_effect, setup_csrs, table_csrs, write_effect};
 ghost use Rattle.isa_types.specs.Pick.{pick};
 ghost use Rattle.isa_consts.specs.Csr.{vseip, vssip, vstip};
-ghost use Rattle.isa_consts.specs.Traps.{supervisorSoft, supervisorTimer};
+ghost use Rattle.isa_consts.specs.Traps.{supervisor_soft, supervisor_timer};
 ghost use Rattle.isa_registers.specs.Bits.{with_bits};
 ghost use Rattle.scope.specs.declared.machine.Writes.TheVariants as writes;
 ghost use Rattle.scope.specs.declared.traps.Error.TheVariants as error;
 ghost use Rattle.scope.specs.Record.{pended};
-ghost use Rattle.scope.specs.Refusals.{done_of, refusedOf};
+ghost use Rattle.scope.specs.Refusals.{done_of, refused_of};
 
 use isa_types::GuestPhysAddr;
 use scope::{Csrs, Effect, Error, GuestCsrs, HsCsrs, IpiAbi, Waiting, Writes};
 
 // The CSRs that a guest starts with.
 pub fn setup_csrs(c: Csrs) -> Csrs
-    ensures { result ≡ setupCsrs c }
+    ensures { result ≡ setup_csrs c }
 {
     let guest = GuestCsrs {
         sepc: c.guest.sepc,
@@ -35,7 +35,7 @@ pub fn setup_csrs(c: Csrs) -> Csrs
 
 // sepc is the entry.
 pub fn entry_csrs(c: Csrs, entry: GuestPhysAddr) -> Csrs
-    ensures { result ≡ entryCsrs c entry }
+    ensures { result ≡ entry_csrs c entry }
 {
     let mut n = c;
     n.guest.sepc = entry.0;
@@ -44,7 +44,7 @@ pub fn entry_csrs(c: Csrs, entry: GuestPhysAddr) -> Csrs
 
 // Writes a general register.
 pub fn write_effect(c: Csrs, w: Waiting, index: usize, value: u64) -> Effect
-    ensures { result ≡ writeEffect c w index value }
+    ensures { result ≡ write_effect c w index value }
 {
     if index < 32 {
         return decide_effects::done(c, Writes::One(index, value), w);
@@ -54,7 +54,7 @@ pub fn write_effect(c: Csrs, w: Waiting, index: usize, value: u64) -> Effect
 
 // Sets the guest-stage page table.
 pub fn paging_effect(c: Csrs, w: Waiting, levels: u64, mode: u64, root: u64) -> Effect
-    ensures { result ≡ pagingEffect c w levels mode root }
+    ensures { result ≡ paging_effect c w levels mode root }
 {
     match levels {
         3 => paging_by(c, w, 8, mode, root),
@@ -65,21 +65,21 @@ pub fn paging_effect(c: Csrs, w: Waiting, levels: u64, mode: u64, root: u64) -> 
 
 // Sets or clears a pending interrupt of the guest, by the host's vector.
 pub fn pending_effect(c: Csrs, w: Waiting, vector: u64, on: bool) -> Effect
-    ensures { result ≡ pendingEffect c w vector on }
+    ensures { result ≡ pending_effect c w vector on }
 {
     pending_by(c, w, line_of(vector), on)
 }
 
 // The bit of hvip that a vector stands for, or 0.
 fn line_of(vector: u64) -> u64
-    ensures { result ≡ hvipBitOf vector }
+    ensures { result ≡ hvip_bit_of vector }
 {
     line_by(vector, isa_consts::is_supervisor_external(vector))
 }
 
 // The registers that an IPI result goes to.
 pub fn ipi_writes(abi: IpiAbi, error: u64) -> Writes
-    ensures { result ≡ ipiWrites abi error }
+    ensures { result ≡ ipi_writes abi error }
 {
     match abi {
         IpiAbi::Legacy => Writes::One(10, error),
@@ -88,7 +88,7 @@ pub fn ipi_writes(abi: IpiAbi, error: u64) -> Writes
 }
 
 fn paging_by(c: Csrs, w: Waiting, wanted: u64, mode: u64, root: u64) -> Effect
-    ensures { result ≡ pagingBy c w wanted mode root }
+    ensures { result ≡ paging_by c w wanted mode root }
 {
     if mode == wanted {
         if root % 0x4000 == 0 {
@@ -100,7 +100,7 @@ fn paging_by(c: Csrs, w: Waiting, wanted: u64, mode: u64, root: u64) -> Effect
 }
 
 fn table_csrs(c: Csrs, mode: u64, root: u64) -> Csrs
-    ensures { result ≡ tableCsrs c mode root }
+    ensures { result ≡ table_csrs c mode root }
 {
     let hgatp = isa_registers::hgatp_value(mode, root);
     let mut n = c;
@@ -109,7 +109,7 @@ fn table_csrs(c: Csrs, mode: u64, root: u64) -> Csrs
 }
 
 fn pending_by(c: Csrs, w: Waiting, line: u64, on: bool) -> Effect
-    ensures { result ≡ pick (eqb line 0) (refusedOf c w error.InvalidInput) (done_of (pended c (with_bits c.hs.hvip line on)) writes.Keep w) }
+    ensures { result ≡ pick (eqb line 0) (refused_of c w error.InvalidInput) (done_of (pended c (with_bits c.hs.hvip line on)) writes.Keep w) }
 {
     if line == 0 {
         return decide_effects::refused(c, w, Error::InvalidInput);
@@ -119,7 +119,7 @@ fn pending_by(c: Csrs, w: Waiting, line: u64, on: bool) -> Effect
 }
 
 fn line_by(vector: u64, external: bool) -> u64
-    ensures { result ≡ pick (eqb vector supervisorSoft) vssip (pick (eqb vector supervisorTimer) vstip (pick external vseip 0)) }
+    ensures { result ≡ pick (eqb vector supervisor_soft) vssip (pick (eqb vector supervisor_timer) vstip (pick external vseip 0)) }
 {
     if vector == isa_consts::S_SOFT {
         return isa_consts::VSSIP;

@@ -1,12 +1,12 @@
 // Inter-processor interrupts: the requests that a guest makes through SBI, and the results that it gets back.
 ghost use Rattle.std.specs.Prelude.{◌≡◌};
-ghost use Rattle.scope.specs.Ecalls.{completionNumber, legacyRequest, standardRequest};
+ghost use Rattle.scope.specs.Ecalls.{completion_number, legacy_request, standard_request};
 
 use scope::{IpiAbi, IpiCompletion, IpiRequest, LegacyRequest};
 
 // The request of extension sPI: mask and base as given.
 pub fn standard_request(mask: u64, base: u64) -> IpiRequest
-    ensures { result ≡ standardRequest mask base }
+    ensures { result ≡ standard_request mask base }
 {
     IpiRequest {
         mask,
@@ -17,7 +17,7 @@ pub fn standard_request(mask: u64, base: u64) -> IpiRequest
 
 // The request of the legacy call, from how many bytes the host could copy and their number: base 0.
 pub fn legacy_request(count: u64, bytes: u64) -> LegacyRequest
-    ensures { result ≡ legacyRequest count bytes }
+    ensures { result ≡ legacy_request count bytes }
 {
     if count == isa_consts::HART_MASK_BYTES {
         return LegacyRequest::Request(IpiRequest {
@@ -31,7 +31,7 @@ pub fn legacy_request(count: u64, bytes: u64) -> LegacyRequest
 
 // The SBI error number that a completion gives the guest.
 pub fn completion_number(c: IpiCompletion) -> u64
-    ensures { result ≡ completionNumber c }
+    ensures { result ≡ completion_number c }
 {
     match c {
         IpiCompletion::Success => isa_consts::RET_SUCCESS,

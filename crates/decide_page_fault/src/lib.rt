@@ -1,6 +1,6 @@
 // A guest page fault: a load or store of a device, or a page that the host has to map.
 ghost use Rattle.std.specs.Prelude.{◌≡◌};
-ghost use Rattle.scope.specs.GuestPageFault.{faultOf, loadUnder, storeUnder};
+ghost use Rattle.scope.specs.GuestPageFault.{fault_of, load_under, store_under};
 
 use isa_decoder::{Decoded, Trapped};
 use isa_types::Width;
@@ -8,7 +8,7 @@ use scope::{Access, Fault};
 
 // What the instruction does under a read or a write, with the content of the register that a store moves.
 pub fn decide(access: Access, t: Trapped, source: u64) -> Fault
-    ensures { result ≡ faultOf access t source }
+    ensures { result ≡ fault_of access t source }
 {
     match t {
         Trapped::Absent => Fault::Fetch,
@@ -24,7 +24,7 @@ pub fn decide(access: Access, t: Trapped, source: u64) -> Fault
 
 // A load is taken under a read alone.
 fn load(access: Access, width: Width, signed: bool, rd: usize, length: u64) -> Fault
-    ensures { result ≡ loadUnder access width signed rd length }
+    ensures { result ≡ load_under access width signed rd length }
 {
     match access {
         Access::Read => Fault::Load {
@@ -40,7 +40,7 @@ fn load(access: Access, width: Width, signed: bool, rd: usize, length: u64) -> F
 
 // A store is taken under a write alone.
 fn store(access: Access, width: Width, source: u64, length: u64) -> Fault
-    ensures { result ≡ storeUnder access width source length }
+    ensures { result ≡ store_under access width source length }
 {
     match access {
         Access::Read => Fault::Nested,

@@ -6,36 +6,36 @@ use Rattle.scope.specs.declared.hosts.Post.{Post}
 use Rattle.scope.specs.declared.machine.RowOutcome.{RowOutcome}
 use Rattle.scope.specs.declared.machine.Vcpu.{Vcpu}
 use Rattle.scope.specs.declared.traps.Error.TheVariants as error
-use Rattle.scope.specs.Host.{hvipBitOf}
+use Rattle.scope.specs.Host.{hvip_bit_of}
 use Rattle.scope.specs.Posts.{row_of}
-use Rattle.scope.specs.PostsLaws.{withHvip}
-use Rattle.scope.specs.Record.{waitingAsk}
-use Rattle.scope.specs.Refusals.{errorNumber}
+use Rattle.scope.specs.PostsLaws.{with_hvip}
+use Rattle.scope.specs.Record.{waiting_ask}
+use Rattle.scope.specs.Refusals.{error_number}
 use Rattle.scope.specs.Words.{tested}
 use Rattle.decide_posts.specs.declared.Row.{Row}
 
 -- before the first post; ask is the number of the ask that waits, or 0
-unfoldable pub begunBy : ℕ → ℕ → Row
-begunBy hvip ask =
-    record { hvip = hvip; applied = 0; refusal = pick (eqb ask 0) 0 (errorNumber error.BadState) }
+unfoldable pub begun_by : ℕ → ℕ → Row
+begun_by hvip ask =
+    record { hvip = hvip; applied = 0; refusal = pick (eqb ask 0) 0 (error_number error.BadState) }
 
-unfoldable pub begunOf : Vcpu → Row
-begunOf v = begunBy v.csrs.hs.hvip (waitingAsk v.waiting)
+unfoldable pub begun_of : Vcpu → Row
+begun_of v = begun_by v.csrs.hs.hvip (waiting_ask v.waiting)
 
 -- one post, by its bit of hvip
-unfoldable pub appliedBy : Row → ℕ → Bool → Row
-appliedBy s line on =
-    pick (eqb line 0) (record { hvip = s.hvip; applied = s.applied; refusal = errorNumber error.InvalidInput })
+unfoldable pub applied_by : Row → ℕ → Bool → Row
+applied_by s line on =
+    pick (eqb line 0) (record { hvip = s.hvip; applied = s.applied; refusal = error_number error.InvalidInput })
     (record { hvip = with_bits s.hvip line on; applied = s.applied + 1; refusal = 0 })
 
 -- one post; a row that was stopped stays
-unfoldable pub postTaken : Row → Post → Row
-postTaken s p = pick (eqb s.refusal 0) (appliedBy s (hvipBitOf p.vector) (tested p.level)) s
+unfoldable pub post_taken : Row → Post → Row
+post_taken s p = pick (eqb s.refusal 0) (applied_by s (hvip_bit_of p.vector) (tested p.level)) s
 
 -- the row, in order
 unfoldable pub fold_of : Row → List Post → Row
 fold_of s [] = s
-fold_of s (p ∷ ps) = fold_of (postTaken s p) ps
+fold_of s (p ∷ ps) = fold_of (post_taken s p) ps
 
 -- the index after this one of n; the end where the row was stopped
 unfoldable pub next_of : Row → ℕ → ℕ → ℕ
@@ -43,4 +43,4 @@ next_of s i n = pick (eqb s.refusal 0) (i + 1) n
 
 -- the record with hvip as the row leaves it, and what the row gives
 unfoldable pub ended_of : Vcpu → Row → RowOutcome
-ended_of v s = row_of (withHvip v s.hvip) s.applied s.refusal
+ended_of v s = row_of (with_hvip v s.hvip) s.applied s.refusal

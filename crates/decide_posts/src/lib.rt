@@ -1,8 +1,8 @@
 // A row of posts, folded over hvip up to the first that is refused. 01, Which shape goes where; 02, W4.
 ghost use Rattle.std.specs.Prelude.{◌≡◌, ◌<◌, ◌-◌, ◌^◌, length, eqb};
 ghost use Rattle.isa_types.specs.Pick.{pick};
-ghost use Rattle.scope.specs.Host.{hvipBitOf};
-ghost use Rattle.decide_posts.specs.Fold.{appliedBy, begunBy, fold_of, next_of, postTaken};
+ghost use Rattle.scope.specs.Host.{hvip_bit_of};
+ghost use Rattle.decide_posts.specs.Fold.{applied_by, begun_by, fold_of, next_of, post_taken};
 
 use scope::Post;
 
@@ -16,7 +16,7 @@ pub struct Row {
 
 // Before the first post: while an ask waits the row is refused as a whole.
 pub fn begin(hvip: u64, ask: u64) -> Row
-    ensures { result ≡ begunBy hvip ask }
+    ensures { result ≡ begun_by hvip ask }
 {
     if ask == 0 {
         return Row {
@@ -49,7 +49,7 @@ pub fn fold(s: Row, posts: &[Post]) -> Row
 // One post. A row that was stopped stays as it is.
 fn step(s: Row, p: Post) -> Row
     requires { s.applied < 2 ^ 64 - 1 }
-    ensures { result ≡ postTaken s p }
+    ensures { result ≡ post_taken s p }
 {
     let stopped = s.refusal;
     if stopped == 0 {
@@ -62,7 +62,7 @@ fn step(s: Row, p: Post) -> Row
 // The bit of hvip that a vector stands for, or 0, as decide_host::line_of has it. In a row the next vector is not foretold, so here
 // the three are chosen from and not branched on.
 fn line_of(vector: u64) -> u64
-    ensures { result ≡ hvipBitOf vector }
+    ensures { result ≡ hvip_bit_of vector }
 {
     let soft = isa_types::select(vector == isa_consts::S_SOFT, isa_consts::VSSIP, 0);
     let timer = isa_types::select(vector == isa_consts::S_TIMER, isa_consts::VSTIP, 0);
@@ -77,7 +77,7 @@ fn line_of(vector: u64) -> u64
 // The bit of hvip set or cleared; a vector that stands for no bit stops the row.
 fn apply(s: Row, line: u64, on: bool) -> Row
     requires { s.applied < 2 ^ 64 - 1 }
-    ensures { result ≡ appliedBy s line on }
+    ensures { result ≡ applied_by s line on }
 {
     if line == 0 {
         return Row {

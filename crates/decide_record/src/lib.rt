@@ -1,8 +1,8 @@
 // The parts of a vCPU record, read and changed: sepc, the timer, hvip, a register, the ask that waits. Both entries use them.
 ghost use Rattle.std.specs.Prelude.{◌≡◌, ◌+◌};
 ghost use Rattle.isa_types.specs.Pick.{wrapped};
-ghost use Rattle.scope.specs.Calls.{askedCount, fitted, printCount, printable};
-ghost use Rattle.scope.specs.Record.{isIdle, moved, pended, timed, value_of, waitingAsk, ecallAskNumber};
+ghost use Rattle.scope.specs.Calls.{asked_count, fitted, print_count, printable};
+ghost use Rattle.scope.specs.Record.{is_idle, moved, pended, timed, value_of, waiting_ask, ecall_ask_number};
 
 use scope::{Csrs, EcallAsk, Waiting};
 
@@ -49,7 +49,7 @@ pub fn register(x: [u64; 32], i: usize) -> u64
 
 // The number of the ask that waits; 0 where none does.
 pub fn ask_of(w: Waiting) -> u64
-    ensures { result ≡ waitingAsk w }
+    ensures { result ≡ waiting_ask w }
 {
     match w {
         Waiting::Idle => 0,
@@ -66,7 +66,7 @@ pub fn ask_of(w: Waiting) -> u64
 
 // The number of an ecall's ask.
 pub fn ecall_ask(a: EcallAsk) -> u64
-    ensures { result ≡ ecallAskNumber a }
+    ensures { result ≡ ecall_ask_number a }
 {
     match a {
         EcallAsk::CopyMask => 2,
@@ -83,7 +83,7 @@ pub fn ecall_ask(a: EcallAsk) -> u64
 
 // Neither an ask nor a load waits.
 pub fn is_idle(w: Waiting) -> bool
-    ensures { result ≡ isIdle w }
+    ensures { result ≡ is_idle w }
 {
     match w {
         Waiting::Idle => true,
@@ -116,7 +116,7 @@ fn fit(n: u64, length: u64) -> u64
 
 // The n of ask 4, where it waits.
 pub fn print_count(w: Waiting) -> u64
-    ensures { result ≡ printCount w }
+    ensures { result ≡ print_count w }
 {
     match w {
         Waiting::Idle => 0,
@@ -132,7 +132,7 @@ pub fn print_count(w: Waiting) -> u64
 }
 
 fn asked_count(a: EcallAsk) -> u64
-    ensures { result ≡ askedCount a }
+    ensures { result ≡ asked_count a }
 {
     match a {
         EcallAsk::CopyMask => 0,

@@ -1,17 +1,17 @@
 // A virtual-instruction trap: the guest's CSR instruction on stimecmp, in its six forms.
 ghost use Rattle.std.specs.Prelude.{◌≡◌, eqb};
-ghost use Rattle.scope.specs.VirtualInstruction.{stimecmpWord, stimecmpStval, stimecmpBy};
-ghost use Rattle.decide_virtual_inst.specs.Straight.{timerOf};
+ghost use Rattle.scope.specs.VirtualInstruction.{stimecmp_word, stimecmp_stval, stimecmp_by};
+ghost use Rattle.decide_virtual_inst.specs.Straight.{timer_of};
 ghost use Rattle.isa_types.specs.Pick.{pick};
-ghost use Rattle.isa_consts.specs.Csr.{stimecmp, systemOpcode};
-ghost use Rattle.isa_fields.specs.Fields.{funct3Field, rdField, rs1Field};
+ghost use Rattle.isa_consts.specs.Csr.{stimecmp, system_opcode};
+ghost use Rattle.isa_fields.specs.Fields.{funct3_field, rd_field, rs1_field};
 ghost use Rattle.scope.specs.declared.decided.Stimecmp.TheVariants as csr;
 
 use scope::Stimecmp;
 
 // What the word in stval does, with the old timer and rs1's content.
 pub fn decide_stval(stval: u64, old: u64, rs1: u64) -> Stimecmp
-    ensures { result ≡ stimecmpStval stval old rs1 }
+    ensures { result ≡ stimecmp_stval stval old rs1 }
 {
     let word = stval % 0x1_0000_0000;
     stval_by(isa_fields::opcode(word), word, old, rs1)
@@ -19,7 +19,7 @@ pub fn decide_stval(stval: u64, old: u64, rs1: u64) -> Stimecmp
 
 // What a word that stval or a fetch gave does.
 pub fn decide(word: u64, old: u64, rs1: u64) -> Stimecmp
-    ensures { result ≡ stimecmpWord word old rs1 }
+    ensures { result ≡ stimecmp_word word old rs1 }
 {
     decide_by(
         isa_fields::opcode(word),
@@ -31,7 +31,7 @@ pub fn decide(word: u64, old: u64, rs1: u64) -> Stimecmp
 }
 
 fn stval_by(opcode: u64, word: u64, old: u64, rs1: u64) -> Stimecmp
-    ensures { result ≡ pick (eqb opcode systemOpcode) (stimecmpWord word old rs1) csr.Fetch }
+    ensures { result ≡ pick (eqb opcode system_opcode) (stimecmp_word word old rs1) csr.Fetch }
 {
     if opcode == isa_consts::SYSTEM_OPCODE {
         return decide(word, old, rs1);
@@ -40,7 +40,7 @@ fn stval_by(opcode: u64, word: u64, old: u64, rs1: u64) -> Stimecmp
 }
 
 fn decide_by(opcode: u64, number: u64, word: u64, old: u64, rs1: u64) -> Stimecmp
-    ensures { result ≡ pick (eqb opcode systemOpcode) (pick (eqb number stimecmp) (stimecmpBy (funct3Field word) (rdField word) (rs1Field word) old rs1) csr.Illegal) csr.Illegal }
+    ensures { result ≡ pick (eqb opcode system_opcode) (pick (eqb number stimecmp) (stimecmp_by (funct3_field word) (rd_field word) (rs1_field word) old rs1) csr.Illegal) csr.Illegal }
 {
     if opcode == isa_consts::SYSTEM_OPCODE {
         if number == isa_consts::CSR_STIMECMP {
@@ -59,7 +59,7 @@ fn decide_by(opcode: u64, number: u64, word: u64, old: u64, rs1: u64) -> Stimecm
 
 // The forms by funct3. `field` is the rs1 field, as a register's index or as a number.
 fn stimecmp(funct3: u64, rd: usize, field: u64, old: u64, rs1: u64) -> Stimecmp
-    ensures { result ≡ stimecmpBy funct3 rd field old rs1 }
+    ensures { result ≡ stimecmp_by funct3 rd field old rs1 }
 {
     if funct3 % 4 == 0 {
         return Stimecmp::Illegal;
@@ -78,7 +78,7 @@ fn stimecmp(funct3: u64, rd: usize, field: u64, old: u64, rs1: u64) -> Stimecmp
 // conditional move. (`writes` is only held against 0.) The field is multiplied and not chosen, since the compiler makes one choice
 // of two by the same test.
 fn timer(funct3: u64, field: u64, old: u64, rs1: u64) -> u64
-    ensures { result ≡ timerOf funct3 field old rs1 }
+    ensures { result ≡ timer_of funct3 field old rs1 }
 {
     let given = isa_types::select(funct3 < 4, rs1, 0) | funct3 / 4 % 2 * field;
     let writes = isa_types::select(funct3 % 4 == 1, 1, field);

@@ -11,14 +11,14 @@ use Rattle.scope.specs.declared.machine.Effect.{Effect}
 use Rattle.scope.specs.declared.machine.Event.TheVariants as event
 use Rattle.scope.specs.declared.machine.Vcpu.{Vcpu}
 use Rattle.scope.specs.declared.machine.Writes.TheVariants as writes
-use Rattle.scope.specs.Record.{bumped, counted, eventNumber, stored, applied}
-use Rattle.scope.specs.Calls.{base_of, calledOf, effect_of}
+use Rattle.scope.specs.Record.{bumped, counted, event_number, stored, applied}
+use Rattle.scope.specs.Calls.{base_of, called_of, effect_of}
 use Rattle.scope.specs.Refusals.{done_of, refusal, refuses}
 use Rattle.scope.specs.declared.hosts.HostCall.TheVariants as hostCall
 use Rattle.demand3_table.specs.Bases.{base_kept}
 use Rattle.demand3_table.specs.Runs.{renews}
 use Rattle.demand1.specs.Leaves.{Asked, Failed, ExitLeaves, Says, Unchanged, Waits}
-use Rattle.demand1.specs.Sound.{effect-sound}
+use Rattle.demand1.specs.Sound.{effect_sound}
 use Rattle.scope.specs.declared.hosts.HostCall.{HostCall}
 
 never : {A : Type 0} → false ≡ true → A
@@ -26,9 +26,9 @@ never h = let z : ◌≡◌ {A = ℕ} 0 1 = cc in absurd (omega arith)
 
 -- a refusal leaves the record as it was
 
-unchanged-record : (v : Vcpu) (e : Effect) → Unchanged v.csrs v.waiting e → (applied v e).vcpu ≡ v
-unfolding applied stored counted bumped eventNumber
-unchanged-record v e u =
+unchanged_record : (v : Vcpu) (e : Effect) → Unchanged v.csrs v.waiting e → (applied v e).vcpu ≡ v
+unfolding applied stored counted bumped event_number
+unchanged_record v e u =
     let same : ◌≡◌ {A = Vcpu} (record { x = stored v.x e.writes; csrs = e.csrs; counts = counted v.counts e.event; waiting = e.waiting })
     (record { x = v.x; csrs = v.csrs; counts = v.counts; waiting = v.waiting })
     = rw (u.writes, u.csrs, u.event, u.waiting)
@@ -40,48 +40,48 @@ kept v e (reply.Exit x) s h = never h
 kept v e (reply.Ask a) s h = never h
 kept v e reply.Done s h = never h
 kept v e (reply.Value n) s h = never h
-kept v e (reply.Error error.InvalidInput) s h = unchanged-record v e s
-kept v e (reply.Error error.BadState) s h = unchanged-record v e s
+kept v e (reply.Error error.InvalidInput) s h = unchanged_record v e s
+kept v e (reply.Error error.BadState) s h = unchanged_record v e s
 kept v e (reply.Error error.Unsupported) s h = never h
 kept v e (reply.Error error.InvalidTrap) s h = never h
 kept v e (reply.Error error.DecodeFailed) s h = never h
 kept v e (reply.Error error.GuestMemoryFault) s h = never h
-kept v e (reply.Error error.WrongAnswer) s h = unchanged-record v e s
+kept v e (reply.Error error.WrongAnswer) s h = unchanged_record v e s
 
 -- a new record is done
-renewed-done : (v : Vcpu) (c : HostCall) → renews c ≡ true → (calledOf v c).reply ≡ reply.Done
-unfolding calledOf base_of effect_of done_of applied renews
-renewed-done v (hostCall.New hart tree) h = refl
-renewed-done v hostCall.Setup h = never h
-renewed-done v (hostCall.SetEntry at) h = never h
-renewed-done v (hostCall.GetGpr index) h = never h
-renewed-done v (hostCall.SetGpr index value) h = never h
-renewed-done v (hostCall.SetReturnValue value) h = never h
-renewed-done v (hostCall.SetNestedPageTable levels mode root) h = never h
-renewed-done v (hostCall.SetPending vector level) h = never h
-renewed-done v (hostCall.LatchHvip bits) h = never h
-renewed-done v (hostCall.CompleteIpi abi completion) h = never h
-renewed-done v (hostCall.Start t) h = never h
-renewed-done v (hostCall.Answer a) h = never h
-renewed-done v (hostCall.CompleteLoad n) h = never h
-renewed-done v (hostCall.ToPrint length) h = never h
+renewed_done : (v : Vcpu) (c : HostCall) → renews c ≡ true → (called_of v c).reply ≡ reply.Done
+unfolding called_of base_of effect_of done_of applied renews
+renewed_done v (hostCall.New hart tree) h = refl
+renewed_done v hostCall.Setup h = never h
+renewed_done v (hostCall.SetEntry at) h = never h
+renewed_done v (hostCall.GetGpr index) h = never h
+renewed_done v (hostCall.SetGpr index value) h = never h
+renewed_done v (hostCall.SetReturnValue value) h = never h
+renewed_done v (hostCall.SetNestedPageTable levels mode root) h = never h
+renewed_done v (hostCall.SetPending vector level) h = never h
+renewed_done v (hostCall.LatchHvip bits) h = never h
+renewed_done v (hostCall.CompleteIpi abi completion) h = never h
+renewed_done v (hostCall.Start t) h = never h
+renewed_done v (hostCall.Answer a) h = never h
+renewed_done v (hostCall.CompleteLoad n) h = never h
+renewed_done v (hostCall.ToPrint length) h = never h
 
 -- a refusal of any call leaves the record as it was
 
-kept_by : (v : Vcpu) (c : HostCall) (b : Bool) → renews c ≡ b → refuses (calledOf v c).reply ≡ true → (calledOf v c).vcpu ≡ v
-unfolding calledOf applied refuses
-kept_by v c true h r = never (ap refuses (sym (renewed-done v c h)) ∙ r)
+kept_by : (v : Vcpu) (c : HostCall) (b : Bool) → renews c ≡ b → refuses (called_of v c).reply ≡ true → (called_of v c).vcpu ≡ v
+unfolding called_of applied refuses
+kept_by v c true h r = never (ap refuses (sym (renewed_done v c h)) ∙ r)
 kept_by v c false h r =
-    ap (λ (u : Vcpu). (applied u (effect_of v c)).vcpu) (base_kept v c h) ∙ kept v (effect_of v c) (effect_of v c).reply (effect-sound v c).says r
+    ap (λ (u : Vcpu). (applied u (effect_of v c)).vcpu) (base_kept v c h) ∙ kept v (effect_of v c) (effect_of v c).reply (effect_sound v c).says r
 
-pub refusal-keeps-the-record : (v : Vcpu) (c : HostCall) → refuses (calledOf v c).reply ≡ true → (calledOf v c).vcpu ≡ v
-refusal-keeps-the-record v c r = kept_by v c (renews c) refl r
+pub refusal_keeps_the_record : (v : Vcpu) (c : HostCall) → refuses (called_of v c).reply ≡ true → (called_of v c).vcpu ≡ v
+refusal_keeps_the_record v c r = kept_by v c (renews c) refl r
 
 -- nothing waits after an exit, but a load after MmioRead
-pub exit-leaves : (v : Vcpu) (c : HostCall) (x : Exit) → (calledOf v c).reply ≡ reply.Exit x → ExitLeaves x (calledOf v c).vcpu.waiting
-unfolding calledOf applied Says
-exit-leaves v c x r =
-    subst (λ (y : Reply). Says v.csrs v.waiting (effect_of v c) y) r (effect-sound v c).says
+pub exit_leaves : (v : Vcpu) (c : HostCall) (x : Exit) → (called_of v c).reply ≡ reply.Exit x → ExitLeaves x (called_of v c).vcpu.waiting
+unfolding called_of applied Says
+exit_leaves v c x r =
+    subst (λ (y : Reply). Says v.csrs v.waiting (effect_of v c) y) r (effect_sound v c).says
 
 -- an ask leaves exactly that ask waiting, and no register and no CSR changed
 pub record Pending (v : Vcpu) (a : Ask) (u : Vcpu) : Type 0 where
@@ -89,9 +89,9 @@ pub record Pending (v : Vcpu) (a : Ask) (u : Vcpu) : Type 0 where
   pub x : u.x ≡ v.x
   pub csrs : u.csrs ≡ v.csrs
 
-asked-pending : (v : Vcpu) (a : Ask) (e : Effect) → Asked v.csrs a e → Pending v a (applied v e).vcpu
+asked_pending : (v : Vcpu) (a : Ask) (e : Effect) → Asked v.csrs a e → Pending v a (applied v e).vcpu
 unfolding applied stored
-asked-pending v a e s = record { waits = s.waits; x = ap (λ w. stored v.x w) s.writes; csrs = s.csrs }
+asked_pending v a e s = record { waits = s.waits; x = ap (λ w. stored v.x w) s.writes; csrs = s.csrs }
 
 asks : Reply → Bool
 asks (reply.Exit x) = false
@@ -100,12 +100,12 @@ asks reply.Done = false
 asks (reply.Value n) = false
 asks (reply.Error e) = false
 
-asks-by : (v : Vcpu) (c : HostCall) (a : Ask) (b : Bool) → renews c ≡ b → (calledOf v c).reply ≡ reply.Ask a → Pending v a (calledOf v c).vcpu
-unfolding calledOf applied Says asks
-asks-by v c a true h r = never (ap asks (sym (renewed-done v c h) ∙ r))
-asks-by v c a false h r =
+asks_by : (v : Vcpu) (c : HostCall) (a : Ask) (b : Bool) → renews c ≡ b → (called_of v c).reply ≡ reply.Ask a → Pending v a (called_of v c).vcpu
+unfolding called_of applied Says asks
+asks_by v c a true h r = never (ap asks (sym (renewed_done v c h) ∙ r))
+asks_by v c a false h r =
     subst (λ (u : Vcpu). Pending v a (applied u (effect_of v c)).vcpu) (sym (base_kept v c h))
-    (asked-pending v a (effect_of v c) (subst (λ (y : Reply). Says v.csrs v.waiting (effect_of v c) y) r (effect-sound v c).says))
+    (asked_pending v a (effect_of v c) (subst (λ (y : Reply). Says v.csrs v.waiting (effect_of v c) y) r (effect_sound v c).says))
 
-pub ask-waits : (v : Vcpu) (c : HostCall) (a : Ask) → (calledOf v c).reply ≡ reply.Ask a → Pending v a (calledOf v c).vcpu
-ask-waits v c a r = asks-by v c a (renews c) refl r
+pub ask_waits : (v : Vcpu) (c : HostCall) (a : Ask) → (called_of v c).reply ≡ reply.Ask a → Pending v a (called_of v c).vcpu
+ask_waits v c a r = asks_by v c a (renews c) refl r

@@ -42,16 +42,16 @@ pub data AtMostIllegal : Event → Type 0 where
 
 -- the ask that waits is the one that was asked, with the numbers that its trap still needs
 pub data Waits : Ask → Waiting → Type 0 where
-  fetch-csr : (at : GuestVirtAddr) (s : Bool) → Waits (ask.Fetch at s) waiting.FetchCsr
-  fetch-fault : (at : GuestVirtAddr) (s : Bool) (a : GuestPhysAddr) (k : Access) → Waits (ask.Fetch at s) (waiting.FetchFault a k)
-  copy-mask : (at : GuestVirtAddr) → Waits (ask.CopyMask at) (waiting.Ecall asked.CopyMask)
-  copy-in : (at : GuestPhysAddr) (n : ℕ) → Waits (ask.CopyIn at n) (waiting.Ecall (asked.CopyIn n))
+  fetch_csr : (at : GuestVirtAddr) (s : Bool) → Waits (ask.Fetch at s) waiting.FetchCsr
+  fetch_fault : (at : GuestVirtAddr) (s : Bool) (a : GuestPhysAddr) (k : Access) → Waits (ask.Fetch at s) (waiting.FetchFault a k)
+  copy_mask : (at : GuestVirtAddr) → Waits (ask.CopyMask at) (waiting.Ecall asked.CopyMask)
+  copy_in : (at : GuestPhysAddr) (n : ℕ) → Waits (ask.CopyIn at n) (waiting.Ecall (asked.CopyIn n))
   print : (n : ℕ) → Waits (ask.Print n) (waiting.Ecall (asked.Print n))
-  read-console : (n : ℕ) (at : GuestPhysAddr) → Waits (ask.ReadConsole n) (waiting.Ecall (asked.ReadConsole n at))
-  copy-out : (at : GuestPhysAddr) (n : ℕ) → Waits (ask.CopyOut at n) (waiting.Ecall (asked.CopyOut n))
-  put-char : (n : ℕ) → Waits (ask.Emit n) (waiting.Ecall asked.PutChar)
+  read_console : (n : ℕ) (at : GuestPhysAddr) → Waits (ask.ReadConsole n) (waiting.Ecall (asked.ReadConsole n at))
+  copy_out : (at : GuestPhysAddr) (n : ℕ) → Waits (ask.CopyOut at n) (waiting.Ecall (asked.CopyOut n))
+  put_char : (n : ℕ) → Waits (ask.Emit n) (waiting.Ecall asked.PutChar)
   put_byte : (n : ℕ) → Waits (ask.Emit n) (waiting.Ecall asked.PutByte)
-  get-char : Waits ask.GetChar (waiting.Ecall asked.GetChar)
+  get_char : Waits ask.GetChar (waiting.Ecall asked.GetChar)
   forward : (eid fid : ℕ) (a : Args) → Waits (ask.Forward eid fid a) (waiting.Ecall asked.Forward)
 
 -- an ask: no CSR and no register changed, and exactly that ask waits

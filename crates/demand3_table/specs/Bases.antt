@@ -1,7 +1,7 @@
 -- The record that a call works on: a new one is the same whatever was there, and any other is the one that was there.
 use Rattle.std.specs.Prelude.{ℕ, true, false, ◌≡◌, refl, get_or}
 use Rattle.std.proofs.Common.{arith, sym}
-use Rattle.scope.specs.Calls.{base_of, newOf}
+use Rattle.scope.specs.Calls.{base_of, new_of}
 use Rattle.scope.specs.declared.hosts.HostCall.TheVariants as hostCall
 use Rattle.scope.specs.declared.hosts.HostCall.{HostCall}
 use Rattle.scope.specs.declared.machine.Vcpu.{Vcpu}
@@ -28,41 +28,41 @@ base_kept v (hostCall.Answer a) h = refl
 base_kept v (hostCall.CompleteLoad n) h = refl
 base_kept v (hostCall.ToPrint length) h = refl
 
-pub base-new : (v w : Vcpu) (c : HostCall) → renews c ≡ true → base_of v c ≡ base_of w c
+pub base_new : (v w : Vcpu) (c : HostCall) → renews c ≡ true → base_of v c ≡ base_of w c
 unfolding base_of renews
-base-new v w (hostCall.New hart tree) h = refl
-base-new v w hostCall.Setup h = never h
-base-new v w (hostCall.SetEntry at) h = never h
-base-new v w (hostCall.GetGpr index) h = never h
-base-new v w (hostCall.SetGpr index value) h = never h
-base-new v w (hostCall.SetReturnValue value) h = never h
-base-new v w (hostCall.SetNestedPageTable levels mode root) h = never h
-base-new v w (hostCall.SetPending vector level) h = never h
-base-new v w (hostCall.LatchHvip bits) h = never h
-base-new v w (hostCall.CompleteIpi abi completion) h = never h
-base-new v w (hostCall.Start t) h = never h
-base-new v w (hostCall.Answer a) h = never h
-base-new v w (hostCall.CompleteLoad n) h = never h
-base-new v w (hostCall.ToPrint length) h = never h
+base_new v w (hostCall.New hart tree) h = refl
+base_new v w hostCall.Setup h = never h
+base_new v w (hostCall.SetEntry at) h = never h
+base_new v w (hostCall.GetGpr index) h = never h
+base_new v w (hostCall.SetGpr index value) h = never h
+base_new v w (hostCall.SetReturnValue value) h = never h
+base_new v w (hostCall.SetNestedPageTable levels mode root) h = never h
+base_new v w (hostCall.SetPending vector level) h = never h
+base_new v w (hostCall.LatchHvip bits) h = never h
+base_new v w (hostCall.CompleteIpi abi completion) h = never h
+base_new v w (hostCall.Start t) h = never h
+base_new v w (hostCall.Answer a) h = never h
+base_new v w (hostCall.CompleteLoad n) h = never h
+base_new v w (hostCall.ToPrint length) h = never h
 
-new-alike : (r hart tree : ℕ) → Alike r (newOf hart tree) (newOf hart tree)
-unfolding newOf
-new-alike r hart tree =
+new_alike : (r hart tree : ℕ) → Alike r (new_of hart tree) (new_of hart tree)
+unfolding new_of
+new_alike r hart tree =
     record { files = record { long = refl; long' = refl; agree = λ i n. refl }; csrs = refl; counts = refl; waiting = refl }
 
-pub base-alike : (r : ℕ) (v w : Vcpu) (c : HostCall) → Alike r v w → Alike r (base_of v c) (base_of w c)
+pub base_alike : (r : ℕ) (v w : Vcpu) (c : HostCall) → Alike r v w → Alike r (base_of v c) (base_of w c)
 unfolding base_of
-base-alike r v w (hostCall.New hart tree) a = new-alike r hart tree
-base-alike r v w hostCall.Setup a = a
-base-alike r v w (hostCall.SetEntry at) a = a
-base-alike r v w (hostCall.GetGpr index) a = a
-base-alike r v w (hostCall.SetGpr index value) a = a
-base-alike r v w (hostCall.SetReturnValue value) a = a
-base-alike r v w (hostCall.SetNestedPageTable levels mode root) a = a
-base-alike r v w (hostCall.SetPending vector level) a = a
-base-alike r v w (hostCall.LatchHvip bits) a = a
-base-alike r v w (hostCall.CompleteIpi abi completion) a = a
-base-alike r v w (hostCall.Start t) a = a
-base-alike r v w (hostCall.Answer q) a = a
-base-alike r v w (hostCall.CompleteLoad n) a = a
-base-alike r v w (hostCall.ToPrint length) a = a
+base_alike r v w (hostCall.New hart tree) a = new_alike r hart tree
+base_alike r v w hostCall.Setup a = a
+base_alike r v w (hostCall.SetEntry at) a = a
+base_alike r v w (hostCall.GetGpr index) a = a
+base_alike r v w (hostCall.SetGpr index value) a = a
+base_alike r v w (hostCall.SetReturnValue value) a = a
+base_alike r v w (hostCall.SetNestedPageTable levels mode root) a = a
+base_alike r v w (hostCall.SetPending vector level) a = a
+base_alike r v w (hostCall.LatchHvip bits) a = a
+base_alike r v w (hostCall.CompleteIpi abi completion) a = a
+base_alike r v w (hostCall.Start t) a = a
+base_alike r v w (hostCall.Answer q) a = a
+base_alike r v w (hostCall.CompleteLoad n) a = a
+base_alike r v w (hostCall.ToPrint length) a = a

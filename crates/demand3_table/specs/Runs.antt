@@ -10,9 +10,9 @@ use Rattle.scope.specs.declared.traps.Reply.TheVariants as reply
 use Rattle.scope.specs.declared.machine.Vcpu.{Vcpu}
 use Rattle.scope.specs.declared.machine.Writes.{Writes}
 use Rattle.scope.specs.declared.machine.Writes.TheVariants as writes
-use Rattle.scope.specs.Posts.{postedOf}
+use Rattle.scope.specs.Posts.{posted_of}
 use Rattle.scope.specs.Record.{listed, no_args}
-use Rattle.scope.specs.Calls.{printedOf, calledOf, effect_of}
+use Rattle.scope.specs.Calls.{printed_of, called_of, effect_of}
 use Rattle.demand3_table.specs.Table.{names_of, reads_of}
 
 -- what a host sees of a turn: the exit, ask, refusal or register; the hypercall array; the bytes printed; how many posts of a row
@@ -24,20 +24,20 @@ pub record Sight : Type 0 where
   pub posted : Posted
 
 -- of a turn that is no row
-abbrev pub noPosts : Posted
-noPosts = record { applied = 0; refusal = 0 }
+abbrev pub no_posts : Posted
+no_posts = record { applied = 0; refusal = 0 }
 
 -- a call and a row by the one definition that their promises cite; printing gives bytes and leaves the record
 unfoldable pub sight_of : Vcpu → Turn → Sight
-sight_of v (call c) = record { reply = (calledOf v c).reply; args = (calledOf v c).args; bytes = []; posted = noPosts }
-sight_of v (print buffer) = record { reply = reply.Done; args = listed no_args; bytes = printedOf v buffer; posted = noPosts }
-sight_of v (post ps) = record { reply = reply.Done; args = listed no_args; bytes = []; posted = (postedOf v ps).posted }
+sight_of v (call c) = record { reply = (called_of v c).reply; args = (called_of v c).args; bytes = []; posted = no_posts }
+sight_of v (print buffer) = record { reply = reply.Done; args = listed no_args; bytes = printed_of v buffer; posted = no_posts }
+sight_of v (post ps) = record { reply = reply.Done; args = listed no_args; bytes = []; posted = (posted_of v ps).posted }
 
 -- the record after a turn
 unfoldable pub step_of : Vcpu → Turn → Vcpu
-step_of v (call c) = (calledOf v c).vcpu
+step_of v (call c) = (called_of v c).vcpu
 step_of v (print buffer) = v
-step_of v (post ps) = (postedOf v ps).vcpu
+step_of v (post ps) = (posted_of v ps).vcpu
 
 -- the record after a sequence
 unfoldable pub run_of : Vcpu → List Turn → Vcpu
@@ -45,9 +45,9 @@ run_of v [] = v
 run_of v (c ∷ cs) = run_of (step_of v c) cs
 
 -- all that the host sees of a sequence
-unfoldable pub seenOf : Vcpu → List Turn → List Sight
-seenOf v [] = []
-seenOf v (c ∷ cs) = sight_of v c ∷ seenOf (step_of v c) cs
+unfoldable pub seen_of : Vcpu → List Turn → List Sight
+seen_of v [] = []
+seen_of v (c ∷ cs) = sight_of v c ∷ seen_of (step_of v c) cs
 
 -- r is one of a list
 abbrev pub among : ℕ → List ℕ → Bool
@@ -87,22 +87,22 @@ wrote r (writes.One i n) = pick (eqb i 0) false (pick (ltb i 32) (eqb r i) false
 wrote r (writes.Pair e v) = or (eqb r 10) (eqb r 11)
 
 -- the turn writes r; a new record is written whole
-unfoldable pub wroteBy : ℕ → Vcpu → Turn → Bool
-wroteBy r v (call c) = or (renews c) (wrote r (effect_of v c).writes)
-wroteBy r v (print buffer) = false
-wroteBy r v (post ps) = false
+unfoldable pub wrote_by : ℕ → Vcpu → Turn → Bool
+wrote_by r v (call c) = or (renews c) (wrote r (effect_of v c).writes)
+wrote_by r v (print buffer) = false
+wrote_by r v (post ps) = false
 
 -- some turn of the sequence writes r
 unfoldable pub written : ℕ → Vcpu → List Turn → Bool
 written r v [] = false
-written r v (c ∷ cs) = or (wroteBy r v c) (written r (step_of v c) cs)
+written r v (c ∷ cs) = or (wrote_by r v c) (written r (step_of v c) cs)
 
 -- no turn of the sequence makes a new record
-unfoldable pub turnRenews : Turn → Bool
-turnRenews (call c) = renews c
-turnRenews (print buffer) = false
-turnRenews (post ps) = false
+unfoldable pub turn_renews : Turn → Bool
+turn_renews (call c) = renews c
+turn_renews (print buffer) = false
+turn_renews (post ps) = false
 
 unfoldable pub Lasting : List Turn → Type 0
 Lasting [] = Unit {0}
-Lasting (c ∷ cs) = (turnRenews c ≡ false) × (Lasting cs)
+Lasting (c ∷ cs) = (turn_renews c ≡ false) × (Lasting cs)

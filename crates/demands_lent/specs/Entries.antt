@@ -22,12 +22,12 @@ pub data Entries : Vcpu → List Turn → List Back → Vcpu → Type 0 where
   row : {v w u : Vcpu} {ps : List Post} {g : Posted} {cs : List Turn} {gs : List Back} → StoredRow v ps w g → Entries w cs gs u → Entries v (post ps ∷ cs) (posted g ∷ gs) u
 
 -- what the entry gives back, of what a host sees. (The bytes to print are told by another function.)
-unfoldable pub backOf : Turn → Sight → Back
-backOf (call c) s = replied (record { reply = s.reply; args = s.args })
-backOf (print buffer) s = replied (record { reply = s.reply; args = s.args })
-backOf (post ps) s = posted s.posted
+unfoldable pub back_of : Turn → Sight → Back
+back_of (call c) s = replied (record { reply = s.reply; args = s.args })
+back_of (print buffer) s = replied (record { reply = s.reply; args = s.args })
+back_of (post ps) s = posted s.posted
 
-unfoldable pub givenFor : List Turn → List Sight → List Back
-givenFor [] ss = []
-givenFor (c ∷ cs) [] = []
-givenFor (c ∷ cs) (s ∷ ss) = backOf c s ∷ givenFor cs ss
+unfoldable pub given_for : List Turn → List Sight → List Back
+given_for [] ss = []
+given_for (c ∷ cs) [] = []
+given_for (c ∷ cs) (s ∷ ss) = back_of c s ∷ given_for cs ss

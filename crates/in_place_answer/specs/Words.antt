@@ -2,5 +2,5 @@
 use Rattle.std.specs.Prelude.{ℕ, List, get_or}
 use Rattle.in_place_answer.specs.declared.AnswerWords.{AnswerWords}
 
-unfoldable pub answerWords : List ℕ → AnswerWords
-answerWords a = record { ask = get_or a 0 0; word = get_or a 1 0; more = get_or a 2 0 }
+unfoldable pub answer_words : List ℕ → AnswerWords
+answer_words a = record { ask = get_or a 0 0; word = get_or a 1 0; more = get_or a 2 0 }

@@ -1,19 +1,19 @@
 // An answer on the lent words, and a load's completion: how the host carries a trap on. The decisions are those of the
 // by-value step, and so is what is promised: Laid says it of the whole outcome.
 ghost use Rattle.std.specs.Prelude.{◌≡◌};
-ghost use Rattle.isa_fields.specs.Fields.{rs1Field};
-ghost use Rattle.isa_decoder.specs.Length.{fetchedOf};
+ghost use Rattle.isa_fields.specs.Fields.{rs1_field};
+ghost use Rattle.isa_decoder.specs.Length.{fetched_of};
 ghost use Rattle.scope.specs.declared.hosts.HostCall.TheVariants as hostCall;
 ghost use Rattle.scope.specs.declared.machine.Waiting.TheVariants as waiting;
-ghost use Rattle.scope.specs.Record.{ecallAskNumber, value_of, waitingAsk, applied};
-ghost use Rattle.scope.specs.VirtualInstruction.{stimecmpEffect, stimecmpWord};
-ghost use Rattle.scope.specs.GuestPageFault.{mmioOf};
-ghost use Rattle.scope.specs.Answers.{fetchEffect, wordEffect};
-ghost use Rattle.scope.specs.Calls.{calledOf};
-ghost use Rattle.scope.specs.OneTrap.{answerFor, fetchOf};
-ghost use Rattle.in_place_record.specs.Steps.{Laid, Settled, trapLeaves};
+ghost use Rattle.scope.specs.Record.{ecall_ask_number, value_of, waiting_ask, applied};
+ghost use Rattle.scope.specs.VirtualInstruction.{stimecmp_effect, stimecmp_word};
+ghost use Rattle.scope.specs.GuestPageFault.{mmio_of};
+ghost use Rattle.scope.specs.Answers.{fetch_effect, word_effect};
+ghost use Rattle.scope.specs.Calls.{called_of};
+ghost use Rattle.scope.specs.OneTrap.{answer_for, fetch_of};
+ghost use Rattle.in_place_record.specs.Steps.{Laid, Settled, trap_leaves};
 ghost use Rattle.in_place_record.specs.View.{view_of};
-ghost use Rattle.in_place_answer.specs.Words.{answerWords};
+ghost use Rattle.in_place_answer.specs.Words.{answer_words};
 
 use isa_types::GuestPhysAddr;
 use scope::{Access, EcallAsk, Waiting};
@@ -28,7 +28,7 @@ pub struct AnswerWords {
 
 // The answer of three words, read with no record in sight.
 pub fn answer_words(a: &[u64; 3]) -> AnswerWords
-    ensures { result ≡ answerWords a.now }
+    ensures { result ≡ answer_words a.now }
 {
     AnswerWords {
         ask: a[0],
@@ -39,7 +39,7 @@ pub fn answer_words(a: &[u64; 3]) -> AnswerWords
 
 // Answers the ask that waits.
 pub fn answer(r: &mut [u64; 58], out: &mut [u64; 8], a: AnswerWords) -> u64
-    ensures { Laid (trapLeaves r.old) out.old (calledOf (view_of r.old) (hostCall.Answer (answerFor a.ask a.word a.more))) r.new out.new result }
+    ensures { Laid (trap_leaves r.old) out.old (called_of (view_of r.old) (hostCall.Answer (answer_for a.ask a.word a.more))) r.new out.new result }
 {
     let w = in_place_read::waiting(r);
     waits(r, out, w, a.ask, a.word, a.more)
@@ -47,7 +47,7 @@ pub fn answer(r: &mut [u64; 58], out: &mut [u64; 8], a: AnswerWords) -> u64
 
 // Completes the load that waits.
 pub fn complete_load(r: &mut [u64; 58], n: u64) -> u64
-    ensures { Settled (trapLeaves r.old) (calledOf (view_of r.old) (hostCall.CompleteLoad n)) r.new result }
+    ensures { Settled (trap_leaves r.old) (called_of (view_of r.old) (hostCall.CompleteLoad n)) r.new result }
 {
     in_place_record::sized(r);
     let w = in_place_read::waiting(r);
@@ -56,7 +56,7 @@ pub fn complete_load(r: &mut [u64; 58], n: u64) -> u64
 
 // By what waits, and only then by the answer's number. Where no ask waits every answer is refused.
 fn waits(r: &mut [u64; 58], out: &mut [u64; 8], w: Waiting, ask: u64, word: u64, more: u64) -> u64
-    ensures { w ≡ (view_of r.old).waiting → Laid (trapLeaves r.old) out.old (calledOf (view_of r.old) (hostCall.Answer (answerFor ask word more))) r.new out.new result }
+    ensures { w ≡ (view_of r.old).waiting → Laid (trap_leaves r.old) out.old (called_of (view_of r.old) (hostCall.Answer (answer_for ask word more))) r.new out.new result }
 {
     match w {
         Waiting::Idle => 0x107,
@@ -80,7 +80,7 @@ fn fetch_waits(
     word: u64,
     more: u64,
 ) -> u64
-    ensures { w ≡ (view_of r.old).waiting → waitingAsk w ≡ 1 → Laid (trapLeaves r.old) out.old (calledOf (view_of r.old) (hostCall.Answer (answerFor ask word more))) r.new out.new result }
+    ensures { w ≡ (view_of r.old).waiting → waiting_ask w ≡ 1 → Laid (trap_leaves r.old) out.old (called_of (view_of r.old) (hostCall.Answer (answer_for ask word more))) r.new out.new result }
 {
     if ask == 1 {
         return fetched(r, out, w, word, more);
@@ -98,7 +98,7 @@ fn ecall_waits(
     word: u64,
     more: u64,
 ) -> u64
-    ensures { waiting.Ecall e ≡ (view_of r.old).waiting → Laid (trapLeaves r.old) out.old (calledOf (view_of r.old) (hostCall.Answer (answerFor ask word more))) r.new out.new result }
+    ensures { waiting.Ecall e ≡ (view_of r.old).waiting → Laid (trap_leaves r.old) out.old (called_of (view_of r.old) (hostCall.Answer (answer_for ask word more))) r.new out.new result }
 {
     match e {
         EcallAsk::CopyMask => answered(2, r, out, EcallAsk::CopyMask, ask, word, more),
@@ -139,7 +139,7 @@ fn answered(
     word: u64,
     more: u64,
 ) -> u64
-    ensures { waiting.Ecall e ≡ (view_of r.old).waiting → number ≡ ecallAskNumber e → Laid (trapLeaves r.old) out.old (calledOf (view_of r.old) (hostCall.Answer (answerFor ask word more))) r.new out.new result }
+    ensures { waiting.Ecall e ≡ (view_of r.old).waiting → number ≡ ecall_ask_number e → Laid (trap_leaves r.old) out.old (called_of (view_of r.old) (hostCall.Answer (answer_for ask word more))) r.new out.new result }
 {
     in_place_record::sized(r);
     if ask == number {
@@ -150,7 +150,7 @@ fn answered(
 
 // A fetch gave a word, or its fault is handled.
 fn fetched(r: &mut [u64; 58], out: &mut [u64; 8], w: Waiting, word: u64, more: u64) -> u64
-    ensures { w ≡ (view_of r.old).waiting → Laid (trapLeaves r.old) out.old (applied (view_of r.old) (fetchEffect (view_of r.old).x (view_of r.old).csrs w (fetchOf word more))) r.new out.new result }
+    ensures { w ≡ (view_of r.old).waiting → Laid (trap_leaves r.old) out.old (applied (view_of r.old) (fetch_effect (view_of r.old).x (view_of r.old).csrs w (fetch_of word more))) r.new out.new result }
 {
     in_place_record::sized(r);
     if more == 0 {
@@ -165,7 +165,7 @@ fn fetched(r: &mut [u64; 58], out: &mut [u64; 8], w: Waiting, word: u64, more: u
 
 // The trap goes on with the word that was fetched.
 fn resumed(r: &mut [u64; 58], out: &mut [u64; 8], w: Waiting, word: u32) -> u64
-    ensures { w ≡ (view_of r.old).waiting → Laid (trapLeaves r.old) out.old (applied (view_of r.old) (wordEffect (view_of r.old).x (view_of r.old).csrs w word)) r.new out.new result }
+    ensures { w ≡ (view_of r.old).waiting → Laid (trap_leaves r.old) out.old (applied (view_of r.old) (word_effect (view_of r.old).x (view_of r.old).csrs w word)) r.new out.new result }
 {
     match w {
         Waiting::Idle => 0x107,
@@ -188,7 +188,7 @@ fn mmio_word(
     access: Access,
     word: u32,
 ) -> u64
-    ensures { Laid (trapLeaves r.old) out.old (applied (view_of r.old) (mmioOf (view_of r.old).x (view_of r.old).csrs at access (fetchedOf word))) r.new out.new result }
+    ensures { Laid (trap_leaves r.old) out.old (applied (view_of r.old) (mmio_of (view_of r.old).x (view_of r.old).csrs at access (fetched_of word))) r.new out.new result }
 {
     in_place_record::sized(r);
     let i = isa_decoder::from_fetched(word);
@@ -204,7 +204,7 @@ fn mmio_word(
 
 // A CSR instruction that was fetched.
 fn stimecmp_word(r: &mut [u64; 58], out: &mut [u64; 8], word: u64) -> u64
-    ensures { Laid (trapLeaves r.old) out.old (applied (view_of r.old) (stimecmpEffect (view_of r.old).csrs (stimecmpWord word (view_of r.old).csrs.vs.vstimecmp (value_of (view_of r.old).x (rs1Field word))))) r.new out.new result }
+    ensures { Laid (trap_leaves r.old) out.old (applied (view_of r.old) (stimecmp_effect (view_of r.old).csrs (stimecmp_word word (view_of r.old).csrs.vs.vstimecmp (value_of (view_of r.old).x (rs1_field word))))) r.new out.new result }
 {
     in_place_record::sized(r);
     let rs1 = in_place_read::read(r, isa_fields::rs1(word));

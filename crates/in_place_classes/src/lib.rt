@@ -1,12 +1,12 @@
 // A virtual instruction, a guest page fault, a failed fetch and an answer, each done on the lent words once it is decided.
-ghost use Rattle.in_place_record.specs.Rows.{Leaves, answeredLeft, csrLeft, faultLeft, missedLeft};
+ghost use Rattle.in_place_record.specs.Rows.{Leaves, answered_left, csr_left, fault_left, missed_left};
 
 use isa_types::GuestPhysAddr;
 use scope::{Access, Answered, Fault, Missed, Stimecmp};
 
 // Does a virtual instruction.
 pub fn do_csr(r: &mut [u64; 58], out: &mut [u64; 8], d: Stimecmp) -> u64
-    ensures { Leaves (csrLeft r.old out.old d) r.new out.new result }
+    ensures { Leaves (csr_left r.old out.old d) r.new out.new result }
 {
     match d {
         Stimecmp::Illegal => {
@@ -37,7 +37,7 @@ pub fn do_fault(
     access: Access,
     d: Fault,
 ) -> u64
-    ensures { Leaves (faultLeft r.old out.old at access d) r.new out.new result }
+    ensures { Leaves (fault_left r.old out.old at access d) r.new out.new result }
 {
     match d {
         Fault::Fetch => {
@@ -93,7 +93,7 @@ pub fn do_fault(
 
 // Does a failed fetch.
 pub fn do_missed(r: &mut [u64; 58], out: &mut [u64; 8], d: Missed) -> u64
-    ensures { Leaves (missedLeft r.old out.old d) r.new out.new result }
+    ensures { Leaves (missed_left r.old out.old d) r.new out.new result }
 {
     match d {
         Missed::Inject { cause, addr } => {
@@ -116,7 +116,7 @@ pub fn do_missed(r: &mut [u64; 58], out: &mut [u64; 8], d: Missed) -> u64
 
 // Does the answer to an ecall's ask.
 pub fn do_answered(r: &mut [u64; 58], out: &mut [u64; 8], d: Answered) -> u64
-    ensures { Leaves (answeredLeft r.old out.old d) r.new out.new result }
+    ensures { Leaves (answered_left r.old out.old d) r.new out.new result }
 {
     match d {
         Answered::Moves => {

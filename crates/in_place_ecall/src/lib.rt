@@ -1,6 +1,6 @@
 // An SBI call, done on the lent words once it is decided.
 ghost use Rattle.std.specs.Prelude.{◌≡◌, set};
-ghost use Rattle.in_place_record.specs.Rows.{Leaves, callLeft, left, one, stepWords, three};
+ghost use Rattle.in_place_record.specs.Rows.{Leaves, call_left, left, one, step_words, three};
 ghost use Rattle.scope.specs.declared.decided.SbiCall.TheVariants as call;
 
 use isa_types::GuestPhysAddr;
@@ -8,7 +8,7 @@ use scope::{Event, SbiCall};
 
 // Does an SBI call.
 pub fn do_call(r: &mut [u64; 58], out: &mut [u64; 8], d: SbiCall) -> u64
-    ensures { Leaves (callLeft r.old out.old d) r.new out.new result }
+    ensures { Leaves (call_left r.old out.old d) r.new out.new result }
 {
     match d {
         SbiCall::Returns(e, v) => {
@@ -85,7 +85,7 @@ fn tells(r: &mut [u64; 58], out: &mut [u64; 8], n: u64, kind: u64, word: u64) ->
 
 // An exit with three numbers, and sepc moves on.
 fn passes(r: &mut [u64; 58], out: &mut [u64; 8], a: u64, b: u64, c: u64, word: u64) -> u64
-    ensures { Leaves (left (stepWords r.old 4) (three out.old a b c) word) r.new out.new result }
+    ensures { Leaves (left (step_words r.old 4) (three out.old a b c) word) r.new out.new result }
 {
     out[0] = a;
     out[1] = b;
@@ -95,7 +95,7 @@ fn passes(r: &mut [u64; 58], out: &mut [u64; 8], a: u64, b: u64, c: u64, word: u
 }
 
 fn hypercall(r: &mut [u64; 58], out: &mut [u64; 8]) -> u64
-    ensures { Leaves (callLeft r.old out.old call.Hypercall) r.new out.new result }
+    ensures { Leaves (call_left r.old out.old call.Hypercall) r.new out.new result }
 {
     out[0] = r[in_place_record::A6];
     in_place_read::six(r, out);
@@ -104,7 +104,7 @@ fn hypercall(r: &mut [u64; 58], out: &mut [u64; 8]) -> u64
 }
 
 fn copy_in(r: &mut [u64; 58], out: &mut [u64; 8], at: GuestPhysAddr, n: u64) -> u64
-    ensures { Leaves (callLeft r.old out.old (call.CopyIn at n)) r.new out.new result }
+    ensures { Leaves (call_left r.old out.old (call.CopyIn at n)) r.new out.new result }
 {
     out[0] = at.0;
     out[1] = n;
@@ -114,7 +114,7 @@ fn copy_in(r: &mut [u64; 58], out: &mut [u64; 8], at: GuestPhysAddr, n: u64) -> 
 }
 
 fn read_console(r: &mut [u64; 58], out: &mut [u64; 8], at: GuestPhysAddr, n: u64) -> u64
-    ensures { Leaves (callLeft r.old out.old (call.ReadConsole at n)) r.new out.new result }
+    ensures { Leaves (call_left r.old out.old (call.ReadConsole at n)) r.new out.new result }
 {
     out[0] = n;
     r[in_place_record::KIND] = 7;
@@ -124,7 +124,7 @@ fn read_console(r: &mut [u64; 58], out: &mut [u64; 8], at: GuestPhysAddr, n: u64
 }
 
 fn forward(r: &mut [u64; 58], out: &mut [u64; 8], event: Event) -> u64
-    ensures { Leaves (callLeft r.old out.old (call.Forward event)) r.new out.new result }
+    ensures { Leaves (call_left r.old out.old (call.Forward event)) r.new out.new result }
 {
     out[0] = r[in_place_record::A7];
     out[1] = r[in_place_record::A6];

@@ -1,7 +1,7 @@
 // The entry for cost, a row of posts: one call on a vCPU record of 58 words where it lies, exported. 02, W4. The promise is the
 // by-value outcome; `in_place_record/specs/View.antt` has the meaning of the words.
 ghost use Rattle.std.specs.Prelude.{◌≡◌, set};
-ghost use Rattle.decide_posts.specs.Fold.{begunOf};
+ghost use Rattle.decide_posts.specs.Fold.{begun_of};
 ghost use Rattle.in_place_entry_posts.specs.Row.{given_of};
 ghost use Rattle.in_place_record.specs.View.{MadeRow, view_of};
 
@@ -20,7 +20,7 @@ pub extern "C" fn vcpu_post_row(r: &mut [u64; 58], posts: &[Post]) -> Posted
 
 // hvip, and whether an ask waits.
 fn begin(r: &[u64; 58]) -> Row
-    ensures { result ≡ begunOf (view_of r.now) }
+    ensures { result ≡ begun_of (view_of r.now) }
 {
     in_place_record::sized(r);
     let w = in_place_read::waiting(r);

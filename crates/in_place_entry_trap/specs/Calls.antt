@@ -2,12 +2,12 @@
 use Rattle.std.specs.Prelude.{ℕ, List}
 use Rattle.scope.specs.declared.hosts.HostCall.{HostCall}
 use Rattle.scope.specs.declared.hosts.HostCall.TheVariants as hostCall
-use Rattle.scope.specs.OneTrap.{answerFor}
-use Rattle.in_place_start.specs.Words.{trapWords}
-use Rattle.in_place_answer.specs.Words.{answerWords}
+use Rattle.scope.specs.OneTrap.{answer_for}
+use Rattle.in_place_start.specs.Words.{trap_words}
+use Rattle.in_place_answer.specs.Words.{answer_words}
 
-unfoldable pub startCall : List ℕ → HostCall
-startCall t = hostCall.Start (trapWords t)
+unfoldable pub start_call : List ℕ → HostCall
+start_call t = hostCall.Start (trap_words t)
 
-unfoldable pub answerCall : List ℕ → HostCall
-answerCall a = hostCall.Answer (answerFor (answerWords a).ask (answerWords a).word (answerWords a).more)
+unfoldable pub answer_call : List ℕ → HostCall
+answer_call a = hostCall.Answer (answer_for (answer_words a).ask (answer_words a).word (answer_words a).more)

@@ -1,15 +1,15 @@
 // The host's own calls on the lent words, what they share: an effect written where the record lies, and the word of its reply.
 ghost use Rattle.std.specs.Prelude.{◌≡◌, ◌+◌};
-ghost use Rattle.scope.specs.OneTrap.{askNumber};
-ghost use Rattle.scope.specs.Refusals.{errorNumber};
-ghost use Rattle.scope.specs.ReplyWords.{replyWord};
-ghost use Rattle.in_place_host.specs.Host.{hostWords, writeWords};
+ghost use Rattle.scope.specs.OneTrap.{ask_number};
+ghost use Rattle.scope.specs.Refusals.{error_number};
+ghost use Rattle.scope.specs.ReplyWords.{reply_word};
+ghost use Rattle.in_place_host.specs.Host.{host_words, write_words};
 
 use scope::{Ask, Effect, Error, Reply, Writes};
 
 // Writes an effect that counts nothing and leaves what waits.
 pub fn host(r: &mut [u64; 58], e: Effect) -> u64
-    ensures { (r.new ≡ hostWords r.old e) × (result ≡ replyWord e.reply) }
+    ensures { (r.new ≡ host_words r.old e) × (result ≡ reply_word e.reply) }
 {
     let writes = e.writes;
     let reply = e.reply;
@@ -31,7 +31,7 @@ pub fn host(r: &mut [u64; 58], e: Effect) -> u64
 }
 
 fn write(r: &mut [u64; 58], w: Writes)
-    ensures { r.new ≡ writeWords r.old w }
+    ensures { r.new ≡ write_words r.old w }
 {
     match w {
         Writes::Keep => {}
@@ -44,7 +44,7 @@ fn write(r: &mut [u64; 58], w: Writes)
 }
 
 fn reply_word(p: Reply) -> u64
-    ensures { result ≡ replyWord p }
+    ensures { result ≡ reply_word p }
 {
     match p {
         Reply::Exit(e) => words_numbers::exit_number(e),
@@ -56,7 +56,7 @@ fn reply_word(p: Reply) -> u64
 }
 
 fn ask_word(a: Ask) -> u64
-    ensures { result ≡ 32 + askNumber a }
+    ensures { result ≡ 32 + ask_number a }
 {
     match a {
         Ask::Fetch {
@@ -79,7 +79,7 @@ fn ask_word(a: Ask) -> u64
 }
 
 fn error_word(e: Error) -> u64
-    ensures { result ≡ 256 + errorNumber e }
+    ensures { result ≡ 256 + error_number e }
 {
     match e {
         Error::InvalidInput => 0x101,

@@ -5,13 +5,13 @@ use Rattle.scope.specs.declared.machine.Csrs.{Csrs}
 use Rattle.scope.specs.declared.machine.Waiting.{Waiting}
 use Rattle.scope.specs.declared.machine.Writes.TheVariants as writes
 use Rattle.scope.specs.Record.{pended}
-use Rattle.scope.specs.Host.{hvipBitOf, pendingEffect}
+use Rattle.scope.specs.Host.{hvip_bit_of, pending_effect}
 use Rattle.isa_registers.specs.Bits.{with_bits}
 use Rattle.in_place_host.specs.Host.{Keeps}
-use Rattle.in_place_host.specs.Laws.{done-keeps, pick-keeps, refused-keeps}
+use Rattle.in_place_host.specs.Laws.{done_keeps, pick_keeps, refused_keeps}
 
-pub pending-keeps : (c : Csrs) (w : Waiting) (vector : ℕ) (on : Bool) → Keeps (pendingEffect c w vector on) w
-unfolding pendingEffect
-pending-keeps c w vector on =
-    pick-keeps (eqb (hvipBitOf vector) 0) (refused-keeps c w error.InvalidInput)
-    (done-keeps (pended c (with_bits c.hs.hvip (hvipBitOf vector) on)) writes.Keep w)
+pub pending_keeps : (c : Csrs) (w : Waiting) (vector : ℕ) (on : Bool) → Keeps (pending_effect c w vector on) w
+unfolding pending_effect
+pending_keeps c w vector on =
+    pick_keeps (eqb (hvip_bit_of vector) 0) (refused_keeps c w error.InvalidInput)
+    (done_keeps (pended c (with_bits c.hs.hvip (hvip_bit_of vector) on)) writes.Keep w)

@@ -1,11 +1,11 @@
 // The host's own calls on the lent words: setup, registers, page table, interrupts, IPI results.
 ghost use Rattle.std.specs.Prelude.{◌≡◌, drop, replicate};
 ghost use Rattle.scope.specs.declared.hosts.HostCall.TheVariants as hostCall;
-ghost use Rattle.scope.specs.Calls.{newOf, calledOf};
+ghost use Rattle.scope.specs.Calls.{new_of, called_of};
 ghost use Rattle.scope.specs.Record.{applied};
-ghost use Rattle.scope.specs.Refusals.{unlessAsking};
+ghost use Rattle.scope.specs.Refusals.{unless_asking};
 ghost use Rattle.in_place_host.specs.Host.{Keeps};
-ghost use Rattle.in_place_record.specs.Steps.{Laid, Settled, hostLeaves};
+ghost use Rattle.in_place_record.specs.Steps.{Laid, Settled, host_leaves};
 ghost use Rattle.in_place_record.specs.View.{view_of};
 
 use isa_types::GuestPhysAddr;
@@ -13,7 +13,7 @@ use scope::{Effect, IpiAbi, IpiCompletion, Waiting, Writes};
 
 // The state that a guest starts with.
 pub fn setup(r: &mut [u64; 58]) -> u64
-    ensures { Settled (hostLeaves r.old) (calledOf (view_of r.old) hostCall.Setup) r.new result }
+    ensures { Settled (host_leaves r.old) (called_of (view_of r.old) hostCall.Setup) r.new result }
 {
     let c = in_place_read::csrs(r);
     let w = in_place_read::waiting(r);
@@ -23,7 +23,7 @@ pub fn setup(r: &mut [u64; 58]) -> u64
 
 // Where the guest starts.
 pub fn set_entry(r: &mut [u64; 58], entry: GuestPhysAddr) -> u64
-    ensures { Settled (hostLeaves r.old) (calledOf (view_of r.old) (hostCall.SetEntry entry)) r.new result }
+    ensures { Settled (host_leaves r.old) (called_of (view_of r.old) (hostCall.SetEntry entry)) r.new result }
 {
     let c = in_place_read::csrs(r);
     let w = in_place_read::waiting(r);
@@ -33,7 +33,7 @@ pub fn set_entry(r: &mut [u64; 58], entry: GuestPhysAddr) -> u64
 
 // Sets the guest-stage page table.
 pub fn set_nested_page_table(r: &mut [u64; 58], levels: u64, mode: u64, root: u64) -> u64
-    ensures { Settled (hostLeaves r.old) (calledOf (view_of r.old) (hostCall.SetNestedPageTable levels mode root)) r.new result }
+    ensures { Settled (host_leaves r.old) (called_of (view_of r.old) (hostCall.SetNestedPageTable levels mode root)) r.new result }
 {
     let c = in_place_read::csrs(r);
     let w = in_place_read::waiting(r);
@@ -43,7 +43,7 @@ pub fn set_nested_page_table(r: &mut [u64; 58], levels: u64, mode: u64, root: u6
 
 // A record of zeros but for what a guest finds at its start.
 pub fn new(r: &mut [u64; 58], hart_id: u64, dtb_addr: u64)
-    ensures { (view_of r.new ≡ newOf hart_id dtb_addr) × (drop 54 r.new ≡ replicate 4 0) }
+    ensures { (view_of r.new ≡ new_of hart_id dtb_addr) × (drop 54 r.new ≡ replicate 4 0) }
 {
     *r = [0u64; 58];
     r[in_place_record::A0] = hart_id;
@@ -52,7 +52,7 @@ pub fn new(r: &mut [u64; 58], hart_id: u64, dtb_addr: u64)
 
 // Reads a general register.
 pub fn get_gpr(r: &[u64; 58], out: &mut [u64; 8], index: usize) -> u64
-    ensures { Laid (hostLeaves r.now) out.old (calledOf (view_of r.now) (hostCall.GetGpr index)) r.now out.new result }
+    ensures { Laid (host_leaves r.now) out.old (called_of (view_of r.now) (hostCall.GetGpr index)) r.now out.new result }
 {
     if index < 32 {
         out[0] = in_place_read::read(r, index);
@@ -63,7 +63,7 @@ pub fn get_gpr(r: &[u64; 58], out: &mut [u64; 8], index: usize) -> u64
 
 // Writes a general register; x0 stays.
 pub fn set_gpr(r: &mut [u64; 58], index: usize, value: u64) -> u64
-    ensures { Settled (hostLeaves r.old) (calledOf (view_of r.old) (hostCall.SetGpr index value)) r.new result }
+    ensures { Settled (host_leaves r.old) (called_of (view_of r.old) (hostCall.SetGpr index value)) r.new result }
 {
     let c = in_place_read::csrs(r);
     let w = in_place_read::waiting(r);
@@ -73,7 +73,7 @@ pub fn set_gpr(r: &mut [u64; 58], index: usize, value: u64) -> u64
 
 // Writes a0.
 pub fn set_return_value(r: &mut [u64; 58], value: u64) -> u64
-    ensures { Settled (hostLeaves r.old) (calledOf (view_of r.old) (hostCall.SetReturnValue value)) r.new result }
+    ensures { Settled (host_leaves r.old) (called_of (view_of r.old) (hostCall.SetReturnValue value)) r.new result }
 {
     let c = in_place_read::csrs(r);
     let w = in_place_read::waiting(r);
@@ -83,7 +83,7 @@ pub fn set_return_value(r: &mut [u64; 58], value: u64) -> u64
 
 // Sets or clears a pending interrupt of the guest.
 pub fn set_pending(r: &mut [u64; 58], vector: u64, level: bool) -> u64
-    ensures { Settled (hostLeaves r.old) (calledOf (view_of r.old) (hostCall.SetPending vector level)) r.new result }
+    ensures { Settled (host_leaves r.old) (called_of (view_of r.old) (hostCall.SetPending vector level)) r.new result }
 {
     let c = in_place_read::csrs(r);
     let w = in_place_read::waiting(r);
@@ -93,7 +93,7 @@ pub fn set_pending(r: &mut [u64; 58], vector: u64, level: bool) -> u64
 
 // Latches pending bits that the hardware raised.
 pub fn latch_hvip(r: &mut [u64; 58], bits: u64) -> u64
-    ensures { Settled (hostLeaves r.old) (calledOf (view_of r.old) (hostCall.LatchHvip bits)) r.new result }
+    ensures { Settled (host_leaves r.old) (called_of (view_of r.old) (hostCall.LatchHvip bits)) r.new result }
 {
     let c = in_place_read::csrs(r);
     let w = in_place_read::waiting(r);
@@ -107,7 +107,7 @@ pub fn latch_hvip(r: &mut [u64; 58], bits: u64) -> u64
 
 // Gives the guest the result of an IPI request.
 pub fn complete_ipi(r: &mut [u64; 58], abi: IpiAbi, completion: IpiCompletion) -> u64
-    ensures { Settled (hostLeaves r.old) (calledOf (view_of r.old) (hostCall.CompleteIpi abi completion)) r.new result }
+    ensures { Settled (host_leaves r.old) (called_of (view_of r.old) (hostCall.CompleteIpi abi completion)) r.new result }
 {
     let c = in_place_read::csrs(r);
     let w = in_place_read::waiting(r);
@@ -121,7 +121,7 @@ pub fn complete_ipi(r: &mut [u64; 58], abi: IpiAbi, completion: IpiCompletion) -
 
 // Writes the effect of a host's own call; while an ask waits the call is refused.
 fn unless_asking(r: &mut [u64; 58], w: Waiting, e: Effect) -> u64
-    ensures { w ≡ (view_of r.old).waiting → Keeps e w → Settled (hostLeaves r.old) (applied (view_of r.old) (unlessAsking (view_of r.old) e)) r.new result }
+    ensures { w ≡ (view_of r.old).waiting → Keeps e w → Settled (host_leaves r.old) (applied (view_of r.old) (unless_asking (view_of r.old) e)) r.new result }
 {
     in_place_record::sized(r);
     if decide_record::ask_of(w) == 0 {

@@ -2,7 +2,7 @@
 // reply that are read off it.
 ghost use Rattle.std.specs.Prelude.{◌≡◌};
 ghost use Rattle.in_place_record.specs.View.{view_of};
-ghost use Rattle.in_place_record.specs.Rows.{argsWords, fetchOut, readWord, sixWords};
+ghost use Rattle.in_place_record.specs.Rows.{args_words, fetch_out, read_word, six_words};
 
 use scope::{Args, Csrs, GuestCsrs, HsCsrs, VsCsrs, Waiting};
 
@@ -21,7 +21,7 @@ pub fn waiting(r: &[u64; 58]) -> Waiting
 
 // A general register; x0 reads 0.
 pub fn read(r: &[u64; 58], i: usize) -> u64
-    ensures { result ≡ readWord r.now i }
+    ensures { result ≡ read_word r.now i }
 {
     if i < 32 {
         return isa_types::select(i == 0, 0, r[i]);
@@ -31,7 +31,7 @@ pub fn read(r: &[u64; 58], i: usize) -> u64
 
 // a0 to a5.
 pub fn args(r: &[u64; 58]) -> Args
-    ensures { result ≡ argsWords r.now }
+    ensures { result ≡ args_words r.now }
 {
     Args {
         a0: r[in_place_record::A0],
@@ -45,7 +45,7 @@ pub fn args(r: &[u64; 58]) -> Args
 
 // a0 to a5 into the reply.
 pub fn six(r: &[u64; 58], out: &mut [u64; 8])
-    ensures { out.new ≡ sixWords r.now out.old }
+    ensures { out.new ≡ six_words r.now out.old }
 {
     out[2] = r[in_place_record::A0];
     out[3] = r[in_place_record::A1];
@@ -57,7 +57,7 @@ pub fn six(r: &[u64; 58], out: &mut [u64; 8])
 
 // Ask 1: at sepc, with the guest's rights.
 pub fn ask_fetch(r: &[u64; 58], out: &mut [u64; 8])
-    ensures { out.new ≡ fetchOut r.now out.old }
+    ensures { out.new ≡ fetch_out r.now out.old }
 {
     out[0] = r[in_place_record::SEPC];
     out[1] = words_record::flag(isa_registers::spvp(r[in_place_record::HSTATUS]));

@@ -2,7 +2,7 @@
 // in_place_write has the other writes. specs/View.antt gives the words their meaning; specs/Rows.antt says what each decision
 // does to them, and specs/Laws.antt that this is the effect of the same decision.
 ghost use Rattle.std.specs.Prelude.{◌≡◌, length};
-ghost use Rattle.in_place_record.specs.Rows.{completeWord, completeWords, giveWords, movedWords, putWord};
+ghost use Rattle.in_place_record.specs.Rows.{complete_word, complete_words, give_words, moved_words, put_word};
 
 use scope::Waiting;
 
@@ -66,7 +66,7 @@ pub fn sized(r: &[u64; 58]) -> usize
 
 // Writes a general register. x0's slot gets back what it held, so that no jump hangs on the register.
 pub fn put(r: &mut [u64; 58], i: usize, n: u64)
-    ensures { r.new ≡ putWord r.old i n }
+    ensures { r.new ≡ put_word r.old i n }
 {
     let slot = r[0];
     if i < 32 {
@@ -77,7 +77,7 @@ pub fn put(r: &mut [u64; 58], i: usize, n: u64)
 
 // Completes a load, where one waits.
 pub fn complete(r: &mut [u64; 58], w: Waiting, n: u64) -> u64
-    ensures { (r.new ≡ completeWords r.old w n) × (result ≡ completeWord w) }
+    ensures { (r.new ≡ complete_words r.old w n) × (result ≡ complete_word w) }
 {
     match w {
         Waiting::Idle => 0x102,
@@ -100,14 +100,14 @@ fn count(s: &[u64]) -> usize
 
 // sepc moves on.
 pub fn advance(r: &mut [u64; 58], by: u64)
-    ensures { r.new ≡ movedWords r.old by }
+    ensures { r.new ≡ moved_words r.old by }
 {
     r[SEPC] = decide_record::plus(r[SEPC], by);
 }
 
 // a0 is this, and the call is finished.
 pub fn give(r: &mut [u64; 58], n: u64)
-    ensures { r.new ≡ giveWords r.old n }
+    ensures { r.new ≡ give_words r.old n }
 {
     r[KIND] = 0;
     r[A0] = n;

@@ -2,19 +2,19 @@
 // step, and so is what is promised: Laid says it of the whole outcome.
 ghost use Rattle.std.specs.Prelude.{◌≡◌, ◌%◌, ◌^◌, get_or};
 ghost use Rattle.scope.specs.declared.hosts.HostCall.TheVariants as hostCall;
-ghost use Rattle.scope.specs.Refusals.{refusedOf};
+ghost use Rattle.scope.specs.Refusals.{refused_of};
 ghost use Rattle.scope.specs.declared.traps.Error.TheVariants as error;
 ghost use Rattle.isa_types.specs.Pick.{pick};
-ghost use Rattle.isa_fields.specs.Fields.{rs1Field};
+ghost use Rattle.isa_fields.specs.Fields.{rs1_field};
 ghost use Rattle.scope.specs.Record.{value_of, applied};
-ghost use Rattle.scope.specs.Classes.{argumentsOf, class_of, classEffect};
-ghost use Rattle.scope.specs.GuestPageFault.{mmioOf, pageFaultOf};
-ghost use Rattle.scope.specs.Ecalls.{ecallEffect};
-ghost use Rattle.scope.specs.VirtualInstruction.{virtualEffect};
-ghost use Rattle.scope.specs.Calls.{calledOf};
-ghost use Rattle.in_place_record.specs.Steps.{Laid, trapLeaves};
+ghost use Rattle.scope.specs.Classes.{arguments_of, class_of, class_effect};
+ghost use Rattle.scope.specs.GuestPageFault.{mmio_of, page_fault_of};
+ghost use Rattle.scope.specs.Ecalls.{ecall_effect};
+ghost use Rattle.scope.specs.VirtualInstruction.{virtual_effect};
+ghost use Rattle.scope.specs.Calls.{called_of};
+ghost use Rattle.in_place_record.specs.Steps.{Laid, trap_leaves};
 ghost use Rattle.in_place_record.specs.View.{view_of};
-ghost use Rattle.in_place_start.specs.Words.{trapWords};
+ghost use Rattle.in_place_start.specs.Words.{trap_words};
 
 use isa_decoder::Trapped;
 use isa_types::GuestPhysAddr;
@@ -22,7 +22,7 @@ use scope::{Access, Class, Trap};
 
 // The trap of five words, read with no record in sight.
 pub fn trap_of(t: &[u64; 5]) -> Trap
-    ensures { result ≡ trapWords t.now }
+    ensures { result ≡ trap_words t.now }
 {
     Trap {
         scause: t[0],
@@ -35,14 +35,14 @@ pub fn trap_of(t: &[u64; 5]) -> Trap
 
 // Starts a trap.
 pub fn start(r: &mut [u64; 58], out: &mut [u64; 8], t: Trap) -> u64
-    ensures { Laid (trapLeaves r.old) out.old (calledOf (view_of r.old) (hostCall.Start t)) r.new out.new result }
+    ensures { Laid (trap_leaves r.old) out.old (called_of (view_of r.old) (hostCall.Start t)) r.new out.new result }
 {
     let idle = decide_record::is_idle(in_place_read::waiting(r));
     started(idle, r, out, t)
 }
 
 fn started(idle: bool, r: &mut [u64; 58], out: &mut [u64; 8], t: Trap) -> u64
-    ensures { Laid (trapLeaves r.old) out.old (applied (view_of r.old) (pick idle (classEffect (class_of t.scause) (view_of r.old).x (view_of r.old).csrs t) (refusedOf (view_of r.old).csrs (view_of r.old).waiting error.BadState))) r.new out.new result }
+    ensures { Laid (trap_leaves r.old) out.old (applied (view_of r.old) (pick idle (class_effect (class_of t.scause) (view_of r.old).x (view_of r.old).csrs t) (refused_of (view_of r.old).csrs (view_of r.old).waiting error.BadState))) r.new out.new result }
 {
     if idle {
         return trapped(decide_class::class_of(t.scause), r, out, t);
@@ -52,7 +52,7 @@ fn started(idle: bool, r: &mut [u64; 58], out: &mut [u64; 8], t: Trap) -> u64
 
 // Each class at one place.
 fn trapped(class: Class, r: &mut [u64; 58], out: &mut [u64; 8], t: Trap) -> u64
-    ensures { Laid (trapLeaves r.old) out.old (applied (view_of r.old) (classEffect class (view_of r.old).x (view_of r.old).csrs t)) r.new out.new result }
+    ensures { Laid (trap_leaves r.old) out.old (applied (view_of r.old) (class_effect class (view_of r.old).x (view_of r.old).csrs t)) r.new out.new result }
 {
     in_place_record::sized(r);
     match class {
@@ -76,7 +76,7 @@ fn trapped(class: Class, r: &mut [u64; 58], out: &mut [u64; 8], t: Trap) -> u64
 }
 
 fn ecall(r: &mut [u64; 58], out: &mut [u64; 8], room: u64) -> u64
-    ensures { Laid (trapLeaves r.old) out.old (applied (view_of r.old) (ecallEffect (view_of r.old).csrs (get_or (view_of r.old).x 17 0) (get_or (view_of r.old).x 16 0) (argumentsOf (view_of r.old).x) room)) r.new out.new result }
+    ensures { Laid (trap_leaves r.old) out.old (applied (view_of r.old) (ecall_effect (view_of r.old).csrs (get_or (view_of r.old).x 17 0) (get_or (view_of r.old).x 16 0) (arguments_of (view_of r.old).x) room)) r.new out.new result }
 {
     in_place_record::sized(r);
     let a = in_place_read::args(r);
@@ -85,7 +85,7 @@ fn ecall(r: &mut [u64; 58], out: &mut [u64; 8], room: u64) -> u64
 }
 
 fn virtual_inst(r: &mut [u64; 58], out: &mut [u64; 8], stval: u64) -> u64
-    ensures { Laid (trapLeaves r.old) out.old (applied (view_of r.old) (virtualEffect (view_of r.old).csrs stval (value_of (view_of r.old).x (rs1Field (stval % 2 ^ 32))))) r.new out.new result }
+    ensures { Laid (trap_leaves r.old) out.old (applied (view_of r.old) (virtual_effect (view_of r.old).csrs stval (value_of (view_of r.old).x (rs1_field (stval % 2 ^ 32))))) r.new out.new result }
 {
     in_place_record::sized(r);
     let rs1 = in_place_read::read(r, isa_fields::rs1(stval % 0x1_0000_0000));
@@ -94,7 +94,7 @@ fn virtual_inst(r: &mut [u64; 58], out: &mut [u64; 8], stval: u64) -> u64
 }
 
 fn page_fault(r: &mut [u64; 58], out: &mut [u64; 8], t: Trap, access: Access) -> u64
-    ensures { Laid (trapLeaves r.old) out.old (applied (view_of r.old) (pageFaultOf (view_of r.old).x (view_of r.old).csrs t access)) r.new out.new result }
+    ensures { Laid (trap_leaves r.old) out.old (applied (view_of r.old) (page_fault_of (view_of r.old).x (view_of r.old).csrs t access)) r.new out.new result }
 {
     let at = isa_registers::guest_page_fault_addr(t.htval, t.stval);
     mmio(r, out, at, access, isa_decoder::from_htinst(t.htinst))
@@ -104,7 +104,7 @@ fn page_fault(r: &mut [u64; 58], out: &mut [u64; 8], t: Trap, access: Access) ->
 // same for the word of a fetch: a function with one caller is always put in its place, so that the instruction passes in
 // registers.
 fn mmio(r: &mut [u64; 58], out: &mut [u64; 8], at: GuestPhysAddr, access: Access, i: Trapped) -> u64
-    ensures { Laid (trapLeaves r.old) out.old (applied (view_of r.old) (mmioOf (view_of r.old).x (view_of r.old).csrs at access i)) r.new out.new result }
+    ensures { Laid (trap_leaves r.old) out.old (applied (view_of r.old) (mmio_of (view_of r.old).x (view_of r.old).csrs at access i)) r.new out.new result }
 {
     in_place_record::sized(r);
     let source = in_place_read::read(r, isa_decoder::store_source(i));

@@ -1,13 +1,13 @@
 // The small writes that change a vCPU record of 58 lent words where it lies, beside those of in_place_record.
 ghost use Rattle.std.specs.Prelude.{◌≡◌};
-ghost use Rattle.scope.specs.Record.{eventNumber};
-ghost use Rattle.in_place_record.specs.Rows.{bumpWords, injectWords, pairWords, stepWords, timerWords};
+ghost use Rattle.scope.specs.Record.{event_number};
+ghost use Rattle.in_place_record.specs.Rows.{bump_words, inject_words, pair_words, step_words, timer_words};
 
 use scope::{Csrs, Event};
 
 // Nothing waits, and sepc moves on.
 pub fn step(r: &mut [u64; 58], by: u64)
-    ensures { r.new ≡ stepWords r.old by }
+    ensures { r.new ≡ step_words r.old by }
 {
     r[in_place_record::KIND] = 0;
     in_place_record::advance(r, by);
@@ -15,7 +15,7 @@ pub fn step(r: &mut [u64; 58], by: u64)
 
 // a0 and a1 are these, and the call is finished.
 pub fn pair(r: &mut [u64; 58], e: u64, v: u64)
-    ensures { r.new ≡ pairWords r.old e v }
+    ensures { r.new ≡ pair_words r.old e v }
 {
     r[in_place_record::KIND] = 0;
     r[in_place_record::A0] = e;
@@ -25,7 +25,7 @@ pub fn pair(r: &mut [u64; 58], e: u64, v: u64)
 
 // The timer's pending bit is cleared, the timer set, and counted.
 pub fn timer(r: &mut [u64; 58], deadline: u64)
-    ensures { r.new ≡ timerWords r.old deadline }
+    ensures { r.new ≡ timer_words r.old deadline }
 {
     r[in_place_record::HVIP] = isa_registers::with_bits(
         r[in_place_record::HVIP],
@@ -38,7 +38,7 @@ pub fn timer(r: &mut [u64; 58], deadline: u64)
 
 // One more in the count of an event's number; 0 is no event.
 pub fn bump(r: &mut [u64; 58], number: usize)
-    ensures { r.new ≡ bumpWords r.old number }
+    ensures { r.new ≡ bump_words r.old number }
 {
     if number == 0 {
         return;
@@ -50,7 +50,7 @@ pub fn bump(r: &mut [u64; 58], number: usize)
 }
 
 pub fn event_number(e: Event) -> usize
-    ensures { result ≡ eventNumber e }
+    ensures { result ≡ event_number e }
 {
     match e {
         Event::Quiet => 0,
@@ -68,7 +68,7 @@ pub fn event_number(e: Event) -> usize
 
 // The CSRs that an injected exception changes.
 pub fn inject(r: &mut [u64; 58], c: Csrs)
-    ensures { r.new ≡ injectWords r.old c }
+    ensures { r.new ≡ inject_words r.old c }
 {
     r[in_place_record::KIND] = 0;
     r[in_place_record::VSSTATUS] = c.vs.vsstatus;

@@ -12,25 +12,25 @@ abbrev pub vseip : ℕ
 vseip = 2 ^ 10
 
 -- what setup leaves
-abbrev pub setupSstatus : ℕ
-setupSstatus = 0x2100
+abbrev pub setup_sstatus : ℕ
+setup_sstatus = 0x2100
 
-abbrev pub setupHstatus : ℕ
-setupHstatus = 0x2_0000_0180
+abbrev pub setup_hstatus : ℕ
+setup_hstatus = 0x2_0000_0180
 
-abbrev pub setupHie : ℕ
-setupHie = 0x444
+abbrev pub setup_hie : ℕ
+setup_hie = 0x444
 
-abbrev pub noTimer : ℕ
-noTimer = 2 ^ 64 - 1
+abbrev pub no_timer : ℕ
+no_timer = 2 ^ 64 - 1
 
 -- ISA, 'Zicsr': the opcode SYSTEM; PRIV, 'Sstc': the number of stimecmp
-abbrev pub systemOpcode : ℕ
-systemOpcode = 0x73
+abbrev pub system_opcode : ℕ
+system_opcode = 0x73
 
 abbrev pub stimecmp : ℕ
 stimecmp = 0x14d
 
 -- 01, One trap: console room above this counts as this
-abbrev pub consoleRoom : ℕ
-consoleRoom = 4096
+abbrev pub console_room : ℕ
+console_room = 4096

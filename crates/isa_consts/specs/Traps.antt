@@ -3,53 +3,53 @@ use Rattle.std.specs.Prelude.{ℕ, ◌+◌, ◌-◌, ◌^◌, Bool, true, false,
 use Rattle.isa_types.specs.Pick.{pick, or}
 
 -- scause: the interrupt bit
-abbrev pub interruptBit : ℕ
-interruptBit = 2 ^ 63
+abbrev pub interrupt_bit : ℕ
+interrupt_bit = 2 ^ 63
 
 -- interrupts with a host's exit: supervisor software 1, timer 5, external 9
-abbrev pub supervisorSoft : ℕ
-supervisorSoft = 2 ^ 63 + 1
+abbrev pub supervisor_soft : ℕ
+supervisor_soft = 2 ^ 63 + 1
 
-abbrev pub supervisorTimer : ℕ
-supervisorTimer = 2 ^ 63 + 5
+abbrev pub supervisor_timer : ℕ
+supervisor_timer = 2 ^ 63 + 5
 
-abbrev pub supervisorExt : ℕ
-supervisorExt = 2 ^ 63 + 9
+abbrev pub supervisor_ext : ℕ
+supervisor_ext = 2 ^ 63 + 9
 
 -- exceptions that are handled
-abbrev pub envCallFromVs : ℕ
-envCallFromVs = 10
+abbrev pub env_call_from_vs : ℕ
+env_call_from_vs = 10
 
-abbrev pub loadGuestPageFault : ℕ
-loadGuestPageFault = 21
+abbrev pub load_guest_page_fault : ℕ
+load_guest_page_fault = 21
 
-abbrev pub virtualInstruction : ℕ
-virtualInstruction = 22
+abbrev pub virtual_instruction : ℕ
+virtual_instruction = 22
 
-abbrev pub storeGuestPageFault : ℕ
-storeGuestPageFault = 23
+abbrev pub store_guest_page_fault : ℕ
+store_guest_page_fault = 23
 
 -- exceptions that are injected into the guest
-abbrev pub instructionMisaligned : ℕ
-instructionMisaligned = 0
+abbrev pub instruction_misaligned : ℕ
+instruction_misaligned = 0
 
-abbrev pub instructionAccessFault : ℕ
-instructionAccessFault = 1
+abbrev pub instruction_access_fault : ℕ
+instruction_access_fault = 1
 
-abbrev pub instructionPageFault : ℕ
-instructionPageFault = 12
+abbrev pub instruction_page_fault : ℕ
+instruction_page_fault = 12
 
 -- the vector is 9, with or without the interrupt bit
-unfoldable pub supervisorExternal : ℕ → Bool
-supervisorExternal v = or (eqb v 9) (eqb v supervisorExt)
+unfoldable pub supervisor_external : ℕ → Bool
+supervisor_external v = or (eqb v 9) (eqb v supervisor_ext)
 
 -- the known interrupt codes: 0 to 12
-unfoldable pub knownInterrupt : ℕ → Bool
-knownInterrupt code = leb code 12
+unfoldable pub known_interrupt : ℕ → Bool
+known_interrupt code = leb code 12
 
 -- the known exception codes that are not handled: 0 to 9, 11, 12, 13, 15 and 20
-unfoldable pub knownException : ℕ → Bool
-knownException code =
+unfoldable pub known_exception : ℕ → Bool
+known_exception code =
     pick (leb code 9) true
     (pick (eqb code 11) true
     (pick (eqb code 12) true
@@ -58,5 +58,5 @@ knownException code =
     (eqb code 20)))))
 
 -- scause is a known code, with the interrupt bit or without, of an exception that is not handled or of an interrupt
-unfoldable pub knownCause : ℕ → Bool
-knownCause scause = pick (ltb scause interruptBit) (knownException scause) (knownInterrupt (scause - interruptBit))
+unfoldable pub known_cause : ℕ → Bool
+known_cause scause = pick (ltb scause interrupt_bit) (known_exception scause) (known_interrupt (scause - interrupt_bit))

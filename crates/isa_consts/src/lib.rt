@@ -1,7 +1,7 @@
 // The numbers of the RISC-V privileged architecture and of SBI that the handler goes by, one place for each.
 // specs/ has the numbers that definitions go by; every function that uses a constant here is proved against those.
 ghost use Rattle.std.specs.Prelude.{◌≡◌};
-ghost use Rattle.isa_consts.specs.Traps.{knownCause, knownException, knownInterrupt, supervisorExternal};
+ghost use Rattle.isa_consts.specs.Traps.{known_cause, known_exception, known_interrupt, supervisor_external};
 
 // Traps: scause and interrupt vectors.
 
@@ -130,14 +130,14 @@ pub const RET_ERR_INVALID_PARAM: u64 = 0xffff_ffff_ffff_fffd;
 
 // Whether a vector is the supervisor external interrupt, with or without the interrupt bit.
 pub fn is_supervisor_external(vector: u64) -> bool
-    ensures { result ≡ supervisorExternal vector }
+    ensures { result ≡ supervisor_external vector }
 {
     vector == S_EXT_CODE || vector == S_EXT
 }
 
 // Whether scause is one of the causes that document 01 knows.
 pub fn is_known_cause(scause: u64) -> bool
-    ensures { result ≡ knownCause scause }
+    ensures { result ≡ known_cause scause }
 {
     if scause < INTC_IRQ_BASE {
         return is_known_exception(scause);
@@ -147,7 +147,7 @@ pub fn is_known_cause(scause: u64) -> bool
 
 // The codes of exceptions that are known and not handled.
 fn is_known_exception(code: u64) -> bool
-    ensures { result ≡ knownException code }
+    ensures { result ≡ known_exception code }
 {
     if code <= 9 {
         return true;
@@ -163,7 +163,7 @@ fn is_known_exception(code: u64) -> bool
 }
 
 fn is_known_interrupt(code: u64) -> bool
-    ensures { result ≡ knownInterrupt code }
+    ensures { result ≡ known_interrupt code }
 {
     if code <= LAST_INTERRUPT {
         return true;

@@ -4,7 +4,7 @@ use Rattle.isa_types.specs.Pick.{pick}
 use Rattle.isa_types.specs.declared.Width.TheVariants as width
 use Rattle.isa_decoder.specs.declared.Decoded.{Decoded}
 use Rattle.isa_decoder.specs.declared.Decoded.TheVariants as decoded
-use Rattle.isa_fields.specs.Fields.{opcodeField, rdField, funct3Field, rs2Field}
+use Rattle.isa_fields.specs.Fields.{opcode_field, rd_field, funct3_field, rs2_field}
 
 -- by funct3: LB, LH, LW, LD extend the sign; LBU, LHU, LWU don't; 7 is none
 unfoldable pub load_of : ℕ → ℕ → Decoded
@@ -28,12 +28,12 @@ store_of f rs2 =
     decoded.Neither)))
 
 -- LOAD and STORE by opcode
-unfoldable pub decodeBy : ℕ → ℕ → Decoded
-decodeBy opcode w =
-    pick (eqb opcode 0x03) (load_of (funct3Field w) (rdField w))
-    (pick (eqb opcode 0x23) (store_of (funct3Field w) (rs2Field w))
+unfoldable pub decode_by : ℕ → ℕ → Decoded
+decode_by opcode w =
+    pick (eqb opcode 0x03) (load_of (funct3_field w) (rd_field w))
+    (pick (eqb opcode 0x23) (store_of (funct3_field w) (rs2_field w))
     decoded.Neither)
 
 -- the load or store that the low 32 bits of a word are
-unfoldable pub decodeOf : ℕ → Decoded
-decodeOf w = decodeBy (opcodeField w) w
+unfoldable pub decode_of : ℕ → Decoded
+decode_of w = decode_by (opcode_field w) w

@@ -1,10 +1,10 @@
 // The instruction behind a guest page fault: its length, and whether it is a load or a store.
 // The handler knows this crate by its promises alone.
 ghost use Rattle.std.specs.Prelude.{◌≡◌};
-ghost use Rattle.isa_decoder.specs.Compressed.{compressedBy, compressedOf, quadrant0Of, quadrant2Of, spLoadOf};
-ghost use Rattle.isa_decoder.specs.Decode.{decodeBy, decodeOf, load_of, store_of};
+ghost use Rattle.isa_decoder.specs.Compressed.{compressed_by, compressed_of, quadrant0_of, quadrant2_of, sp_load_of};
+ghost use Rattle.isa_decoder.specs.Decode.{decode_by, decode_of, load_of, store_of};
 ghost use Rattle.isa_decoder.specs.Straight.{width_at};
-ghost use Rattle.isa_decoder.specs.Length.{fetchedOf, htinstOf, opSource, storeSource, transformedOf};
+ghost use Rattle.isa_decoder.specs.Length.{fetched_of, htinst_of, op_source, store_source, transformed_of};
 
 use isa_types::Width;
 
@@ -37,7 +37,7 @@ pub enum Trapped {
 
 // What htinst says.
 pub fn from_htinst(htinst: u64) -> Trapped
-    ensures { result ≡ htinstOf htinst }
+    ensures { result ≡ htinst_of htinst }
 {
     if htinst == 0 {
         return Trapped::Absent;
@@ -47,7 +47,7 @@ pub fn from_htinst(htinst: u64) -> Trapped
 
 // What the low 32 bits of htinst say, where it is not 0.
 fn transformed(word: u64) -> Trapped
-    ensures { result ≡ transformedOf word }
+    ensures { result ≡ transformed_of word }
 {
     if word == 0x3000 {
         return Trapped::Pseudo;
@@ -67,7 +67,7 @@ fn transformed(word: u64) -> Trapped
 
 // What a fetched word says.
 pub fn from_fetched(word: u32) -> Trapped
-    ensures { result ≡ fetchedOf word }
+    ensures { result ≡ fetched_of word }
 {
     let w = word as u64;
     if w % 4 == 3 {
@@ -87,13 +87,13 @@ pub fn from_fetched(word: u32) -> Trapped
 
 // The load or store that a 32-bit word is.
 pub fn decode(word: u64) -> Decoded
-    ensures { result ≡ decodeOf word }
+    ensures { result ≡ decode_of word }
 {
     decode_by(isa_fields::opcode(word), word)
 }
 
 fn decode_by(opcode: u64, word: u64) -> Decoded
-    ensures { result ≡ decodeBy opcode word }
+    ensures { result ≡ decode_by opcode word }
 {
     if opcode == 0x03 {
         return load(isa_fields::funct3(word), isa_fields::rd(word));
@@ -106,13 +106,13 @@ fn decode_by(opcode: u64, word: u64) -> Decoded
 
 // The load or store that a 16-bit word is.
 pub fn compressed(word: u64) -> Decoded
-    ensures { result ≡ compressedOf word }
+    ensures { result ≡ compressed_of word }
 {
     compressed_by(isa_fields::quadrant(word), word)
 }
 
 fn compressed_by(quadrant: u64, word: u64) -> Decoded
-    ensures { result ≡ compressedBy quadrant word }
+    ensures { result ≡ compressed_by quadrant word }
 {
     if quadrant == 0 {
         return quadrant0(isa_fields::c_funct3(word), isa_fields::prime(word));
@@ -130,7 +130,7 @@ fn compressed_by(quadrant: u64, word: u64) -> Decoded
 // C.LW, C.LD, C.SW, C.SD: bits 2 and 1 of funct3 are 01 in a load and 11 in a store, and its low two bits the width's place, as in a
 // 32-bit word. The width is taken before the tests: behind them the compiler knows that two are left, and makes a jump of it.
 fn quadrant0(funct3: u64, prime: usize) -> Decoded
-    ensures { result ≡ quadrant0Of funct3 prime }
+    ensures { result ≡ quadrant0_of funct3 prime }
 {
     let w = width(funct3 % 4);
     if funct3 / 2 == 1 {
@@ -151,7 +151,7 @@ fn quadrant0(funct3: u64, prime: usize) -> Decoded
 
 // C.LWSP, C.LDSP, C.SWSP, C.SDSP.
 fn quadrant2(funct3: u64, rd: usize, rs2: usize) -> Decoded
-    ensures { result ≡ quadrant2Of funct3 rd rs2 }
+    ensures { result ≡ quadrant2_of funct3 rd rs2 }
 {
     let w = width(funct3 % 4);
     if funct3 / 2 == 1 {
@@ -165,7 +165,7 @@ fn quadrant2(funct3: u64, rd: usize, rs2: usize) -> Decoded
 
 // A load into x0 is reserved here, where a 32-bit one is a load.
 fn sp_load(width: Width, rd: usize) -> Decoded
-    ensures { result ≡ spLoadOf width rd }
+    ensures { result ≡ sp_load_of width rd }
 {
     if rd == 0 {
         return Decoded::Neither;
@@ -179,7 +179,7 @@ fn sp_load(width: Width, rd: usize) -> Decoded
 
 // The register that a store moves; 0, which reads 0, where there is no store.
 pub fn store_source(t: Trapped) -> usize
-    ensures { result ≡ storeSource t }
+    ensures { result ≡ store_source t }
 {
     match t {
         Trapped::Absent => 0,
@@ -190,7 +190,7 @@ pub fn store_source(t: Trapped) -> usize
 }
 
 fn op_source(op: Decoded) -> usize
-    ensures { result ≡ opSource op }
+    ensures { result ≡ op_source op }
 {
     match op {
         Decoded::Load {

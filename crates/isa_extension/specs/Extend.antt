@@ -13,17 +13,17 @@ width_bits width.Double = 64
 
 -- a number below size, read as two's complement: from half of size on it stands for itself less size,
 -- and modulo 2^64 that is itself with `above` added
-unfoldable pub signedBy : ℕ → ℕ → ℕ → ℕ
-signedBy half above low = pick (nat_lt low half) low (low + above)
+unfoldable pub signed_by : ℕ → ℕ → ℕ → ℕ
+signed_by half above low = pick (nat_lt low half) low (low + above)
 
 -- cut to size; extended by the sign where signed, by zeros where not
-unfoldable pub extendBy : ℕ → ℕ → ℕ → Bool → ℕ → ℕ
-extendBy size half above s n = pick s (signedBy half above (n % size)) (n % size)
+unfoldable pub extend_by : ℕ → ℕ → ℕ → Bool → ℕ → ℕ
+extend_by size half above s n = pick s (signed_by half above (n % size)) (n % size)
 
 -- the low bits of a width
 unfoldable pub cut_of : Width → ℕ → ℕ
 cut_of w n = n % 2 ^ width_bits w
 
 -- a load of any width: LB, LH, LW, LD extend the top bit of what they read; LBU, LHU, LWU extend nothing
-unfoldable pub extendOf : Width → Bool → ℕ → ℕ
-extendOf w s n = extendBy (2 ^ width_bits w) (2 ^ (width_bits w - 1)) (2 ^ 64 - 2 ^ width_bits w) s n
+unfoldable pub extend_of : Width → Bool → ℕ → ℕ
+extend_of w s n = extend_by (2 ^ width_bits w) (2 ^ (width_bits w - 1)) (2 ^ 64 - 2 ^ width_bits w) s n

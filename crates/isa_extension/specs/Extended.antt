@@ -4,19 +4,19 @@ use Rattle.std.proofs.Common.{ap, ◌∙◌}
 use Rattle.std.proofs.Math.Nat.{mod-mod}
 use Rattle.isa_types.specs.Pick.{pick}
 use Rattle.isa_types.specs.declared.Width.{Width}
-use Rattle.isa_extension.specs.Extend.{cut_of, extendBy, extendOf, signedBy, width_bits}
+use Rattle.isa_extension.specs.Extend.{cut_of, extend_by, extend_of, signed_by, width_bits}
 
 -- an unsigned load extends nothing: it writes what was read, cut to its width
-pub unsigned-cuts : (w : Width) (n : ℕ) → extendOf w false n ≡ cut_of w n
-unfolding extendOf extendBy cut_of
-unsigned-cuts w n = refl
+pub unsigned_cuts : (w : Width) (n : ℕ) → extend_of w false n ≡ cut_of w n
+unfolding extend_of extend_by cut_of
+unsigned_cuts w n = refl
 
 -- a signed load whose top bit is 0 writes the same
-pub positive-cuts : (w : Width) (n : ℕ) → nat_lt (cut_of w n) (2 ^ (width_bits w - 1)) ≡ true → extendOf w true n ≡ cut_of w n
-unfolding extendOf extendBy signedBy cut_of
-positive-cuts w n h = simp (h)
+pub positive_cuts : (w : Width) (n : ℕ) → nat_lt (cut_of w n) (2 ^ (width_bits w - 1)) ≡ true → extend_of w true n ≡ cut_of w n
+unfolding extend_of extend_by signed_by cut_of
+positive_cuts w n h = simp (h)
 
 -- a signed load whose top bit is 1 writes that with every bit above the width set
-pub negative-fills : (w : Width) (n : ℕ) → nat_lt (cut_of w n) (2 ^ (width_bits w - 1)) ≡ false → extendOf w true n ≡ cut_of w n + (2 ^ 64 - 2 ^ width_bits w)
-unfolding extendOf extendBy signedBy cut_of
-negative-fills w n h = simp (h)
+pub negative_fills : (w : Width) (n : ℕ) → nat_lt (cut_of w n) (2 ^ (width_bits w - 1)) ≡ false → extend_of w true n ≡ cut_of w n + (2 ^ 64 - 2 ^ width_bits w)
+unfolding extend_of extend_by signed_by cut_of
+negative_fills w n h = simp (h)

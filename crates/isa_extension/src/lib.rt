@@ -1,7 +1,7 @@
 // A number cut to a width and extended from it. No branch hangs on the width or the sign: a guest's loads come in any order, and a
 // jump that follows them is often foretold wrong.
 ghost use Rattle.std.specs.Prelude.{◌≡◌, ◌-◌, ◌^◌};
-ghost use Rattle.isa_extension.specs.Extend.{cut_of, extendOf, width_bits};
+ghost use Rattle.isa_extension.specs.Extend.{cut_of, extend_of, width_bits};
 
 use isa_types::Width;
 
@@ -14,7 +14,7 @@ pub fn cut(width: Width, n: u64) -> u64
 
 // A number cut to a width and extended: what a load writes.
 pub fn extend(width: Width, signed: bool, n: u64) -> u64
-    ensures { result ≡ extendOf width signed n }
+    ensures { result ≡ extend_of width signed n }
 {
     let m = mask(width);
     let low = n & m;

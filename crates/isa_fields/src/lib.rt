@@ -1,40 +1,40 @@
 // The fields of an instruction word: of 32 bits, and of 16.
 ghost use Rattle.std.specs.Prelude.{◌≡◌};
-ghost use Rattle.isa_fields.specs.Compressed.{cFunct3Field, cRs2Field, primeField, quadrantField};
-ghost use Rattle.isa_fields.specs.Fields.{csrField, funct3Field, opcodeField, rdField, rs1Field, rs2Field};
+ghost use Rattle.isa_fields.specs.Compressed.{c_funct3_field, c_rs2_field, prime_field, quadrant_field};
+ghost use Rattle.isa_fields.specs.Fields.{csr_field, funct3_field, opcode_field, rd_field, rs1_field, rs2_field};
 
 pub fn opcode(word: u64) -> u64
-    ensures { result ≡ opcodeField word }
+    ensures { result ≡ opcode_field word }
 {
     word % 128
 }
 
 pub fn rd(word: u64) -> usize
-    ensures { result ≡ rdField word }
+    ensures { result ≡ rd_field word }
 {
     (word / 128 % 32) as usize
 }
 
 pub fn funct3(word: u64) -> u64
-    ensures { result ≡ funct3Field word }
+    ensures { result ≡ funct3_field word }
 {
     word / 4096 % 8
 }
 
 pub fn rs1(word: u64) -> usize
-    ensures { result ≡ rs1Field word }
+    ensures { result ≡ rs1_field word }
 {
     (word / 0x8000 % 32) as usize
 }
 
 pub fn rs2(word: u64) -> usize
-    ensures { result ≡ rs2Field word }
+    ensures { result ≡ rs2_field word }
 {
     (word / 0x10_0000 % 32) as usize
 }
 
 pub fn csr(word: u64) -> u64
-    ensures { result ≡ csrField word }
+    ensures { result ≡ csr_field word }
 {
     word / 0x10_0000 % 4096
 }
@@ -43,26 +43,26 @@ pub fn csr(word: u64) -> u64
 
 // The low two bits of any word.
 pub fn quadrant(word: u64) -> u64
-    ensures { result ≡ quadrantField word }
+    ensures { result ≡ quadrant_field word }
 {
     word % 4
 }
 
 pub fn c_funct3(word: u64) -> u64
-    ensures { result ≡ cFunct3Field word }
+    ensures { result ≡ c_funct3_field word }
 {
     word / 0x2000 % 8
 }
 
 // rd' or rs2': one of x8 to x15.
 pub fn prime(word: u64) -> usize
-    ensures { result ≡ primeField word }
+    ensures { result ≡ prime_field word }
 {
     (8 + word / 4 % 8) as usize
 }
 
 pub fn c_rs2(word: u64) -> usize
-    ensures { result ≡ cRs2Field word }
+    ensures { result ≡ c_rs2_field word }
 {
     (word / 4 % 32) as usize
 }

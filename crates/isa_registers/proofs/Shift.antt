@@ -3,5 +3,5 @@ use Prim.Native.Nat.{ℕ, ◌*◌, ◌%◌, ◌^◌}
 use native.Mathlib.Omega.{arith}
 use mathlib.Core.Path.{◌≡◌}
 
-pub cut-first : (h : ℕ) → h * 2 ^ 2 % 2 ^ 64 ≡ h % 2 ^ 62 * 4
-cut-first h = omega arith
+pub cut_first : (h : ℕ) → h * 2 ^ 2 % 2 ^ 64 ≡ h % 2 ^ 62 * 4
+cut_first h = omega arith

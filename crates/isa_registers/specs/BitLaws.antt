@@ -42,71 +42,71 @@ each_two : (p : ℕ → ℕ → Bool) → all_below 64 (λ k. all_below 64 (p k)
 each_two p h k i hk hi = below 64 (p k) (below 64 (λ k. all_below 64 (p k)) h k hk) i hi
 
 -- a bit of two numbers' AND
-pub and-bit : (a b i : ℕ) → bit_of (bit_and a b) i ≡ min (bit_of a i) (bit_of b i)
+pub and_bit : (a b i : ℕ) → bit_of (bit_and a b) i ≡ min (bit_of a i) (bit_of b i)
 unfolding bit_of
-and-bit a b i =
+and_bit a b i =
     ap (λ (n : ℕ). n % 2) (and_shr a b i ∙ and_step (a / 2 ^ i) (b / 2 ^ i))
     ∙ mul-add-mod_self_right _ 2 _
     ∙ mod-eq_of_lt (lt_of_le_of_lt (min-le_left _ _) (mod-lt (a / 2 ^ i) (zero-lt-suc 1)))
 
 -- the bits of the mask that clears bit k: bit k is 0, each other 1
-clearing-mask : (k i : ℕ) → k < 64 → i < 64 → eqb (bit_of (2 ^ 64 - 1 - 2 ^ k) i) (pick (eqb i k) 0 1) ≡ true
+clearing_mask : (k i : ℕ) → k < 64 → i < 64 → eqb (bit_of (2 ^ 64 - 1 - 2 ^ k) i) (pick (eqb i k) 0 1) ≡ true
 unfolding bit_of
-clearing-mask k i hk hi = each_two (λ k i. eqb (bit_of (2 ^ 64 - 1 - 2 ^ k) i) (pick (eqb i k) 0 1)) refl k i hk hi
+clearing_mask k i hk hi = each_two (λ k i. eqb (bit_of (2 ^ 64 - 1 - 2 ^ k) i) (pick (eqb i k) 0 1)) refl k i hk hi
 
-min-by : (n : ℕ) (b : Bool) → n < 2 → min n (pick b 0 1) ≡ pick b 0 n
-min-by zero true h = refl
-min-by zero false h = refl
-min-by (suc zero) true h = refl
-min-by (suc zero) false h = refl
-min-by (suc (suc n)) b h = absurd (omega arith)
+min_by : (n : ℕ) (b : Bool) → n < 2 → min n (pick b 0 1) ≡ pick b 0 n
+min_by zero true h = refl
+min_by zero false h = refl
+min_by (suc zero) true h = refl
+min_by (suc zero) false h = refl
+min_by (suc (suc n)) b h = absurd (omega arith)
 
 -- a bit is 0 or 1
-pub bit-lt : (n i : ℕ) → bit_of n i < 2
+pub bit_lt : (n i : ℕ) → bit_of n i < 2
 unfolding bit_of
-bit-lt n i = mod-lt (n / 2 ^ i) (zero-lt-suc 1)
+bit_lt n i = mod-lt (n / 2 ^ i) (zero-lt-suc 1)
 
 -- clearing bit k: bit k is 0, and every other bit is what it was
-pub cleared-bit : (n k i : ℕ) → k < 64 → i < 64 → bit_of (with_bits n (2 ^ k) false) i ≡ pick (eqb i k) 0 (bit_of n i)
+pub cleared_bit : (n k i : ℕ) → k < 64 → i < 64 → bit_of (with_bits n (2 ^ k) false) i ≡ pick (eqb i k) 0 (bit_of n i)
 unfolding with_bits
-cleared-bit n k i hk hi =
-    and-bit n (2 ^ 64 - 1 - 2 ^ k) i
-    ∙ ap (λ (m : ℕ). min (bit_of n i) m) (eqb-true _ _ (clearing-mask k i hk hi))
-    ∙ min-by (bit_of n i) (eqb i k) (bit-lt n i)
+cleared_bit n k i hk hi =
+    and_bit n (2 ^ 64 - 1 - 2 ^ k) i
+    ∙ ap (λ (m : ℕ). min (bit_of n i) m) (eqb-true _ _ (clearing_mask k i hk hi))
+    ∙ min_by (bit_of n i) (eqb i k) (bit_lt n i)
 
-max-lt : (a b : ℕ) → a < 2 → b < 2 → max a b < 2
-max-lt a b h k = suc-le-suc (max-le (le_of_suc-le-suc h) (le_of_suc-le-suc k))
+max_lt : (a b : ℕ) → a < 2 → b < 2 → max a b < 2
+max_lt a b h k = suc-le-suc (max-le (le_of_suc-le-suc h) (le_of_suc-le-suc k))
 
 -- a bit of two numbers' OR
-pub or-bit : (a b i : ℕ) → bit_of (bit_or a b) i ≡ max (bit_of a i) (bit_of b i)
+pub or_bit : (a b i : ℕ) → bit_of (bit_or a b) i ≡ max (bit_of a i) (bit_of b i)
 unfolding bit_of
-or-bit a b i =
+or_bit a b i =
     ap (λ (n : ℕ). n % 2) (or_shr a b i ∙ or_step (a / 2 ^ i) (b / 2 ^ i))
     ∙ mul-add-mod_self_right _ 2 _
-    ∙ mod-eq_of_lt (max-lt _ _ (mod-lt (a / 2 ^ i) (zero-lt-suc 1)) (mod-lt (b / 2 ^ i) (zero-lt-suc 1)))
+    ∙ mod-eq_of_lt (max_lt _ _ (mod-lt (a / 2 ^ i) (zero-lt-suc 1)) (mod-lt (b / 2 ^ i) (zero-lt-suc 1)))
 
 -- the bits of the mask that sets bit k: bit k is 1, each other 0
-setting-mask : (k i : ℕ) → k < 64 → i < 64 → eqb (bit_of (2 ^ k) i) (pick (eqb i k) 1 0) ≡ true
+setting_mask : (k i : ℕ) → k < 64 → i < 64 → eqb (bit_of (2 ^ k) i) (pick (eqb i k) 1 0) ≡ true
 unfolding bit_of
-setting-mask k i hk hi = each_two (λ k i. eqb (bit_of (2 ^ k) i) (pick (eqb i k) 1 0)) refl k i hk hi
+setting_mask k i hk hi = each_two (λ k i. eqb (bit_of (2 ^ k) i) (pick (eqb i k) 1 0)) refl k i hk hi
 
-max-by : (n : ℕ) (b : Bool) → n < 2 → max n (pick b 1 0) ≡ pick b 1 n
-max-by zero true h = refl
-max-by zero false h = refl
-max-by (suc zero) true h = refl
-max-by (suc zero) false h = refl
-max-by (suc (suc n)) b h = absurd (omega arith)
+max_by : (n : ℕ) (b : Bool) → n < 2 → max n (pick b 1 0) ≡ pick b 1 n
+max_by zero true h = refl
+max_by zero false h = refl
+max_by (suc zero) true h = refl
+max_by (suc zero) false h = refl
+max_by (suc (suc n)) b h = absurd (omega arith)
 
 -- setting bit k: bit k is 1, and every other bit is what it was
-pub set-bit : (n k i : ℕ) → k < 64 → i < 64 → bit_of (with_bits n (2 ^ k) true) i ≡ pick (eqb i k) 1 (bit_of n i)
+pub set_bit : (n k i : ℕ) → k < 64 → i < 64 → bit_of (with_bits n (2 ^ k) true) i ≡ pick (eqb i k) 1 (bit_of n i)
 unfolding with_bits
-set-bit n k i hk hi =
-    or-bit n (2 ^ k) i
-    ∙ ap (λ (m : ℕ). max (bit_of n i) m) (eqb-true _ _ (setting-mask k i hk hi))
-    ∙ max-by (bit_of n i) (eqb i k) (bit-lt n i)
+set_bit n k i hk hi =
+    or_bit n (2 ^ k) i
+    ∙ ap (λ (m : ℕ). max (bit_of n i) m) (eqb-true _ _ (setting_mask k i hk hi))
+    ∙ max_by (bit_of n i) (eqb i k) (bit_lt n i)
 
 -- writing a bit m, 0 or 1, to bit k
-pub written-bit : (n m k i : ℕ) → m < 2 → k < 64 → i < 64 → bit_of (with_bits n (2 ^ k) (eqb m 1)) i ≡ pick (eqb i k) m (bit_of n i)
-written-bit n zero k i hm hk hi = cleared-bit n k i hk hi
-written-bit n (suc zero) k i hm hk hi = set-bit n k i hk hi
-written-bit n (suc (suc m)) k i hm hk hi = absurd (omega arith)
+pub written_bit : (n m k i : ℕ) → m < 2 → k < 64 → i < 64 → bit_of (with_bits n (2 ^ k) (eqb m 1)) i ≡ pick (eqb i k) m (bit_of n i)
+written_bit n zero k i hm hk hi = cleared_bit n k i hk hi
+written_bit n (suc zero) k i hm hk hi = set_bit n k i hk hi
+written_bit n (suc (suc m)) k i hm hk hi = absurd (omega arith)

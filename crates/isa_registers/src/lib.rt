@@ -1,48 +1,48 @@
 // Values of hypervisor CSRs: the two delegation masks, hgatp, the address behind a guest page fault, single bits.
 ghost use Rattle.std.specs.Prelude.{◌≡◌};
-ghost use Rattle.isa_registers.specs.Values.{delegatedExceptions, delegatedInterrupts, guestPageFaultAddr, hgatpOf};
-ghost use Rattle.isa_registers.specs.Bits.{sieOf, spvpOf, with_bits};
+ghost use Rattle.isa_registers.specs.Values.{delegated_exceptions, delegated_interrupts, guest_page_fault_addr, hgatp_of};
+ghost use Rattle.isa_registers.specs.Bits.{sie_of, spvp_of, with_bits};
 
 use isa_types::GuestPhysAddr;
 
 // hgatp from a translation mode and the address of the root page table.
 pub fn hgatp_value(mode: u64, root: u64) -> u64
-    ensures { result ≡ hgatpOf mode root }
+    ensures { result ≡ hgatp_of mode root }
 {
     mode % 16 * 0x1000_0000_0000_0000 + root / 4096 % 0x1000_0000_0000
 }
 
 // The guest physical address of a guest page fault.
 pub fn guest_page_fault_addr(htval: u64, stval: u64) -> GuestPhysAddr
-    ensures { result ≡ guestPageFaultAddr htval stval }
+    ensures { result ≡ guest_page_fault_addr htval stval }
 {
     GuestPhysAddr((htval % 0x4000_0000_0000_0000 * 4) | (stval % 4))
 }
 
 // hedeleg: the exceptions that go straight to the guest.
 pub fn delegated_exception_bits() -> u64
-    ensures { result ≡ delegatedExceptions }
+    ensures { result ≡ delegated_exceptions }
 {
     0xb10d
 }
 
 // hideleg: the interrupts that go straight to the guest.
 pub fn delegated_interrupt_bits() -> u64
-    ensures { result ≡ delegatedInterrupts }
+    ensures { result ≡ delegated_interrupts }
 {
     0x444
 }
 
 // hstatus.SPVP: whether the guest ran in supervisor mode.
 pub fn spvp(hstatus: u64) -> bool
-    ensures { result ≡ spvpOf hstatus }
+    ensures { result ≡ spvp_of hstatus }
 {
     hstatus / 256 % 2 == 1
 }
 
 // vsstatus.SIE: whether the guest takes interrupts.
 pub fn sie(vsstatus: u64) -> bool
-    ensures { result ≡ sieOf vsstatus }
+    ensures { result ≡ sie_of vsstatus }
 {
     vsstatus / 2 % 2 == 1
 }

@@ -1,10 +1,10 @@
 // A capture replayed: its bytes are fed to a state in pieces, and what they give is written to a buffer
-// (01, Replay program). Its meaning is one definition, replayOf in replay_scope's specs/Output.antt, from all bytes to
+// (01, Replay program). Its meaning is one definition, replay_of in replay_scope's specs/Output.antt, from all bytes to
 // all output; the record lies in 58 lent words.
 ghost use Rattle.std.specs.Prelude.{◌≡◌, ◌+◌, ◌≤◌, length};
 ghost use Rattle.replay_output.specs.Put.{Put};
 ghost use Rattle.replay_scope.specs.Output.{text_of};
-ghost use Rattle.replay_traps.specs.InPlace.{stateIn, stepIn};
+ghost use Rattle.replay_traps.specs.InPlace.{state_in, step_in};
 ghost use Rattle.replay_capture.specs.Feeds.{Feeds, Fills};
 
 use replay_scope::{Gives, Progress};
@@ -29,7 +29,7 @@ pub struct Filled {
 // Feeds bytes, and writes what they give to the buffer, until the bytes are over or the buffer has no room for another
 // trap. A buffer of 84 bytes or more takes some of them.
 pub fn fill(p: Progress, r: &mut [u64; 58], bytes: &[u8], out: &mut [u8]) -> Filled
-    ensures { Fills (stateIn r.old p) bytes.now (length out.old) out.new (stateIn r.new result.progress) result.next result.end }
+    ensures { Fills (state_in r.old p) bytes.now (length out.old) out.new (state_in r.new result.progress) result.next result.end }
 {
     let mut q = p;
     let mut i: usize = 0;
@@ -57,7 +57,7 @@ pub fn fill(p: Progress, r: &mut [u64; 58], bytes: &[u8], out: &mut [u8]) -> Fil
 
 // Feeds bytes to the end of a line or of the bytes.
 fn feed(p: Progress, r: &mut [u64; 58], bytes: &[u8]) -> Fed
-    ensures { Feeds (stateIn r.old p) bytes.now (stepIn r.new result.turn) result.next }
+    ensures { Feeds (state_in r.old p) bytes.now (step_in r.new result.turn) result.next }
 {
     if p.over {
         let turn = Next {

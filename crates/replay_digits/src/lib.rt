@@ -1,9 +1,9 @@
 // Lowercase hex digits read (01, Replay program; 02, W3). Sixteen of them are read here and nowhere else: `read` promises
 // what they are, and who calls it knows nothing of how it finds that out.
 ghost use Rattle.std.specs.Prelude.{◌≡◌, ◌+◌, ◌≤◌, ◌<◌, drop, length, take};
-ghost use Rattle.replay_scope.specs.Lines.{nibbleOf, pushOf};
-ghost use Rattle.replay_digits.specs.Hex.{hexOf};
-ghost use Rattle.replay_digits.specs.Words.{glyphsOf, of_bytes, packOf, values_of};
+ghost use Rattle.replay_scope.specs.Lines.{nibble_of, push_of};
+ghost use Rattle.replay_digits.specs.Hex.{hex_of};
+ghost use Rattle.replay_digits.specs.Words.{glyphs_of, of_bytes, pack_of, values_of};
 
 // What sixteen bytes are as hex digits.
 #[derive(Drop)]
@@ -14,7 +14,7 @@ pub enum Digits {
 
 // The number of the sixteen digits at a place of a slice.
 pub fn read(s: &[u8], at: usize) -> Digits
-    ensures { result ≡ hexOf (take 16 (drop at s.now)) }
+    ensures { result ≡ hex_of (take 16 (drop at s.now)) }
 {
     if s.len() < at {
         return Digits::Bad;
@@ -30,7 +30,7 @@ pub fn read(s: &[u8], at: usize) -> Digits
 // then the digits with these values must be the bytes that were read.
 fn sixteen(s: &[u8]) -> Digits
     requires { length s.now ≡ 16 }
-    ensures { result ≡ hexOf s.now }
+    ensures { result ≡ hex_of s.now }
 {
     let a = eight(s, 0);
     let h = values(a);
@@ -79,7 +79,7 @@ fn values(w: u64) -> u64
 
 // The digits of eight values, each of its low four bits. What writes digits (replay_output) calls it too.
 pub fn glyphs(v: u64) -> u64
-    ensures { result ≡ glyphsOf v }
+    ensures { result ≡ glyphs_of v }
 {
     let d = v & 0x0f0f0f0f0f0f0f0f;
     d + 0x3030303030303030 + ((d + 0x0606060606060606) & 0x1010101010101010) / 16 * 39
@@ -87,7 +87,7 @@ pub fn glyphs(v: u64) -> u64
 
 // The number that eight values make, the first of them in front, each of its low four bits.
 fn pack(v: u64) -> u64
-    ensures { result ≡ packOf v }
+    ensures { result ≡ pack_of v }
 {
     let d = v & 0x0f0f0f0f0f0f0f0f;
     let pairs = (d * 16 + d / 256) & 0x00ff00ff00ff00ff;
@@ -97,7 +97,7 @@ fn pack(v: u64) -> u64
 
 // A byte as a lowercase hex digit; 16 if it is none.
 pub fn nibble(b: u8) -> u64
-    ensures { result ≡ nibbleOf b }
+    ensures { result ≡ nibble_of b }
 {
     if b < 48 {
         return 16;
@@ -116,7 +116,7 @@ pub fn nibble(b: u8) -> u64
 
 // One digit more behind a number, in 64 bits; of d its low four.
 pub fn push(v: u64, d: u64) -> u64
-    ensures { result ≡ pushOf v d }
+    ensures { result ≡ push_of v d }
 {
     v % 0x1000000000000000 * 16 + d % 16
 }

@@ -3,7 +3,7 @@ use Rattle.std.specs.Prelude.{ℕ, zero, suc, ◌+◌, ◌-◌, ◌*◌, ◌≤�
 use Rattle.std.proofs.Common.{add-one, arith, sym, ap, ◌∙◌, subst, drop_of_length-le, drop-cons}
 use Rattle.replay_scope.specs.declared.Got.{Got}
 use Rattle.replay_scope.specs.declared.Got.TheVariants as got
-use Rattle.replay_scope.specs.Lines.{fourAt, line_of}
+use Rattle.replay_scope.specs.Lines.{four_at, line_of}
 use Rattle.replay_lines.specs.declared.Part.{Part}
 use Rattle.replay_lines.specs.Read.{Read, Taken, after, taken_of}
 
@@ -17,18 +17,18 @@ taken_next key s a w i g h e =
     ∙ ap (λ (n : ℕ). after g (λ b y. taken_of key b y (drop n s)) (drop n s)) (sym (add-one i))
 
 -- no byte is left
-pub taken-end : (key s : List ℕ) (a w i : ℕ) → length s ≤ i → taken_of key a w (drop i s) ≡ record { got = got.More a w; left = drop i s }
+pub taken_end : (key s : List ℕ) (a w i : ℕ) → length s ≤ i → taken_of key a w (drop i s) ≡ record { got = got.More a w; left = drop i s }
 unfolding taken_of
-taken-end key s a w i h = rw (drop_of_length-le s h)
+taken_end key s a w i h = rw (drop_of_length-le s h)
 
 -- the four bytes from i * 4 up to i * 4 + 4
-pub read-four : (keys : List ℕ) (i at v : ℕ) (s : List ℕ) (r : Part) → Read (take (i * 4 + 4 - i * 4) (drop (i * 4) keys)) at v s r → Read (fourAt keys i) at v s r
-read-four keys i at v s r h =
+pub read_four : (keys : List ℕ) (i at v : ℕ) (s : List ℕ) (r : Part) → Read (take (i * 4 + 4 - i * 4) (drop (i * 4) keys)) at v s r → Read (four_at keys i) at v s r
+read_four keys i at v s r h =
     let n : i * 4 + 4 - i * 4 ≡ 4 = omega arith in
     subst (λ (k : ℕ). Read (take k (drop (i * 4) keys)) at v s r) n h
 
 -- none are left past the last key
-pub read_none : (keys : List ℕ) (i at v : ℕ) (s : List ℕ) (r : Part) → length keys ≡ 124 → 31 ≤ i → Read [] at v s r → Read (fourAt keys i) at v s r
+pub read_none : (keys : List ℕ) (i at v : ℕ) (s : List ℕ) (r : Part) → length keys ≡ 124 → 31 ≤ i → Read [] at v s r → Read (four_at keys i) at v s r
 read_none keys i at v s r n h p =
     let m : length keys ≤ i * 4 = omega arith in
     subst (λ (k : List ℕ). Read (take 4 k) at v s r) (sym (drop_of_length-le keys m)) p

@@ -2,7 +2,7 @@
 // nowhere else. A line that lies whole in the slice is read at once, its digits by crate replay_digits; byte by byte
 // only one that the slice's end cuts, that began in the slice before, or that has a byte that does not fit.
 ghost use Rattle.std.specs.Prelude.{◌≡◌, ◌+◌, ◌≤◌, length};
-ghost use Rattle.replay_scope.specs.Lines.{fourAt, headerKey, key_of, line_of};
+ghost use Rattle.replay_scope.specs.Lines.{four_at, header_key, key_of, line_of};
 ghost use Rattle.replay_lines.specs.Read.{Read, Spelled, begins as beginsWith};
 
 use replay_digits::Digits;
@@ -63,7 +63,7 @@ fn spell(place: Place, s: &[u8]) -> usize
 
 // The same for line i of the header.
 fn spell_header(i: usize, s: &[u8]) -> usize
-    ensures { Spelled (headerKey i) s.now result }
+    ensures { Spelled (header_key i) s.now result }
 {
     match i {
         0 => spell_by(b"sepc=", s),
@@ -79,7 +79,7 @@ fn spell_header(i: usize, s: &[u8]) -> usize
 // The same for the line of a general register, whose key is the four bytes at i * 4.
 fn spell_register(keys: &[u8], i: usize, s: &[u8]) -> usize
     requires { length keys.now ≡ 124 }
-    ensures { Spelled (fourAt keys.now i) s.now result }
+    ensures { Spelled (four_at keys.now i) s.now result }
 {
     if i < 31 {
         let a = i * 4;
@@ -138,7 +138,7 @@ fn scan_at(place: Place, at: usize, v: u64, s: &[u8]) -> Part
 
 // The same for line i of the header.
 fn scan_header(i: usize, at: usize, v: u64, s: &[u8]) -> Part
-    ensures { Read (headerKey i) at v s.now result }
+    ensures { Read (header_key i) at v s.now result }
 {
     match i {
         0 => scan(b"sepc=", at, v, s),
@@ -156,7 +156,7 @@ fn scan_header(i: usize, at: usize, v: u64, s: &[u8]) -> Part
 // The same for the line of a general register.
 fn scan_register(keys: &[u8], i: usize, at: usize, v: u64, s: &[u8]) -> Part
     requires { length keys.now ≡ 124 }
-    ensures { Read (fourAt keys.now i) at v s.now result }
+    ensures { Read (four_at keys.now i) at v s.now result }
 {
     if i < 31 {
         let a = i * 4;

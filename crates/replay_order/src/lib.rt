@@ -2,8 +2,8 @@
 // 58 lent words, takes what was read of its line.
 ghost use Rattle.std.specs.Prelude.{◌≡◌};
 ghost use Rattle.in_place_record.specs.View.{view_of};
-ghost use Rattle.replay_scope.specs.Output.{afterHeader, begun, endGives, followedBy, gotOf, headedOf, keeping, lineDoes, mayEnd, readTo};
-ghost use Rattle.replay_traps.specs.InPlace.{stateIn, stepIn};
+ghost use Rattle.replay_scope.specs.Output.{after_header, begun, end_gives, followed_by, got_of, headed_of, keeping, line_does, may_end, read_to};
+ghost use Rattle.replay_traps.specs.InPlace.{state_in, step_in};
 
 use isa_types::GuestPhysAddr;
 use replay_scope::{Gives, Got, Kept, Line, Place, Progress};
@@ -11,7 +11,7 @@ use replay_traps::Next;
 
 // Before the first byte: a zero record after setup.
 pub fn begin(r: &mut [u64; 58]) -> Progress
-    ensures { stateIn r.new result ≡ begun }
+    ensures { state_in r.new result ≡ begun }
 {
     in_place_host_calls::new(r, 0, 0);
     in_place_host_calls::setup(r);
@@ -37,7 +37,7 @@ pub fn begin(r: &mut [u64; 58]) -> Progress
 
 // What a reading of the line gave.
 pub fn take(p: Progress, r: &mut [u64; 58], g: Got) -> Next
-    ensures { stepIn r.new result ≡ gotOf (stateIn r.old p) g }
+    ensures { step_in r.new result ≡ got_of (state_in r.old p) g }
 {
     match g {
         Got::More(at, value) => Next {
@@ -55,7 +55,7 @@ pub fn take(p: Progress, r: &mut [u64; 58], g: Got) -> Next
 
 // What the end of the capture gives: nothing where a trap may begin, else the missing line.
 pub fn end(p: Progress) -> Gives
-    ensures { result ≡ endGives p }
+    ensures { result ≡ end_gives p }
 {
     if p.over {
         return Gives::Nothing;
@@ -73,7 +73,7 @@ pub fn end(p: Progress) -> Gives
 
 // Whether a capture may end before the line at this place.
 fn may_end(place: Place) -> bool
-    ensures { result ≡ mayEnd place }
+    ensures { result ≡ may_end place }
 {
     match place {
         Place::Header(_) => false,
@@ -88,7 +88,7 @@ fn may_end(place: Place) -> bool
 
 // More is read of the same line.
 fn go_on(p: Progress, at: usize, value: u64) -> Progress
-    ensures { result ≡ readTo p at value }
+    ensures { result ≡ read_to p at value }
 {
     let old = p.line;
     let place = old.place;
@@ -105,7 +105,7 @@ fn go_on(p: Progress, at: usize, value: u64) -> Progress
 
 // The number n of the line at each place.
 fn do_line(place: Place, p: Progress, r: &mut [u64; 58], n: u64) -> Next
-    ensures { stepIn r.new result ≡ lineDoes place (stateIn r.old p) n }
+    ensures { step_in r.new result ≡ line_does place (state_in r.old p) n }
 {
     let mut kept = p.kept;
     match place {
@@ -139,7 +139,7 @@ fn do_line(place: Place, p: Progress, r: &mut [u64; 58], n: u64) -> Next
 
 // These numbers are kept, and the line at the place follows.
 fn keep(p: Progress, kept: Kept, place: Place) -> Next
-    ensures { (result.progress ≡ followedBy (keeping p kept) place) × (result.gives ≡ Gives.Nothing) }
+    ensures { (result.progress ≡ followed_by (keeping p kept) place) × (result.gives ≡ Gives.Nothing) }
 {
     let line = p.line;
     let q = Progress {
@@ -157,7 +157,7 @@ fn keep(p: Progress, kept: Kept, place: Place) -> Next
 
 // Behind line i of the header: its next line, or behind the last the first trap.
 fn after_header(i: usize) -> Place
-    ensures { result ≡ afterHeader i }
+    ensures { result ≡ after_header i }
 {
     if i < 32 {
         return Place::Header(i + 1);
@@ -167,7 +167,7 @@ fn after_header(i: usize) -> Place
 
 // The record with a header line's number: sepc, vstimecmp, or the register of that line.
 fn head(r: &mut [u64; 58], i: usize, n: u64)
-    ensures { view_of r.new ≡ headedOf (view_of r.old) i n }
+    ensures { view_of r.new ≡ headed_of (view_of r.old) i n }
 {
     in_place_record::sized(r);
     if i == 0 {

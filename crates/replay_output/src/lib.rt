@@ -1,6 +1,6 @@
 // A line of a replay's output written: a key, sixteen lowercase hex digits, LF (01, Replay program).
 ghost use Rattle.std.specs.Prelude.{◌≡◌, ◌+◌, ◌≤◌, length};
-ghost use Rattle.replay_scope.specs.Lines.{lastDigits, lineText, sixteen};
+ghost use Rattle.replay_scope.specs.Lines.{last_digits, line_text, sixteen};
 ghost use Rattle.replay_output.specs.Eight.{bytes_of, spread_of};
 ghost use Rattle.replay_output.specs.Put.{Put, PutLine, put_at};
 
@@ -25,7 +25,7 @@ pub fn put(key: &[u8], v: u64, out: &mut [u8], at: usize) -> usize
 // The same where it has room.
 fn put_line(key: &[u8], v: u64, out: &mut [u8], at: usize) -> usize
     requires { at + length key.now + 17 ≤ length out.old }
-    ensures { Put out.old at (lineText key.now v) result out.new }
+    ensures { Put out.old at (line_text key.now v) result out.new }
 {
     put_key(key, out, at);
     let a = at + key.len();
@@ -61,7 +61,7 @@ fn put_digits(v: u64, out: &mut [u8], at: usize)
 // Its last eight digits, by one number that has a byte for each.
 fn put_eight(v: u64, out: &mut [u8], at: usize)
     requires { at + 8 ≤ length out.old }
-    ensures { out.new ≡ put_at out.old at (lastDigits 8 v) }
+    ensures { out.new ≡ put_at out.old at (last_digits 8 v) }
 {
     put_bytes(replay_digits::glyphs(spread(v)), out, at);
 }

@@ -10,27 +10,27 @@ tabled f zero = []
 tabled f (suc n) = tabled f n ++ (f n ∷ [])
 
 -- there are n of them
-pub tabled-length : (f : ℕ → ℕ) (n : ℕ) → length (tabled f n) ≡ n
+pub tabled_length : (f : ℕ → ℕ) (n : ℕ) → length (tabled f n) ≡ n
 unfolding tabled
-tabled-length f zero = refl
-tabled-length f (suc n) = length-append (tabled f n) (f n ∷ []) ∙ rw (tabled-length f n, add-one)
+tabled_length f zero = refl
+tabled_length f (suc n) = length-append (tabled f n) (f n ∷ []) ∙ rw (tabled_length f n, add-one)
 
 at_last : (f : ℕ → ℕ) (n b : ℕ) → b ≡ n → get_or (tabled f n ++ (f n ∷ [])) b 0 ≡ f b
 at_last f n b e =
-    ap (λ (k : ℕ). get_or (tabled f n ++ (f n ∷ [])) k 0) (e ∙ sym (tabled-length f n))
+    ap (λ (k : ℕ). get_or (tabled f n ++ (f n ∷ [])) k 0) (e ∙ sym (tabled_length f n))
     ∙ get_or-append_seam (tabled f n) (f n) [] 0
     ∙ ap f (sym e)
 
-tabled-by : (f : ℕ → ℕ) (n b : ℕ) → b < suc n → (t : Bool) → ltb b n ≡ t → (b < n → get_or (tabled f n) b 0 ≡ f b) → get_or (tabled f n ++ (f n ∷ [])) b 0 ≡ f b
-tabled-by f n b h true e on =
+tabled_by : (f : ℕ → ℕ) (n b : ℕ) → b < suc n → (t : Bool) → ltb b n ≡ t → (b < n → get_or (tabled f n) b 0 ≡ f b) → get_or (tabled f n ++ (f n ∷ [])) b 0 ≡ f b
+tabled_by f n b h true e on =
     let k : b < n = ltb-true b n e in
-    let l : length (tabled f n) ≡ n = tabled-length f n in
+    let l : length (tabled f n) ≡ n = tabled_length f n in
     let m : b < length (tabled f n) = omega arith in
     get_or-append (tabled f n) (f n ∷ []) 0 b m ∙ on k
-tabled-by f n b h false e on = at_last f n b (let k : n ≤ b = ltb-false b n e in omega arith)
+tabled_by f n b h false e on = at_last f n b (let k : n ≤ b = ltb-false b n e in omega arith)
 
 -- and what is looked up is the value
-pub tabled-at : (f : ℕ → ℕ) (n b : ℕ) → b < n → get_or (tabled f n) b 0 ≡ f b
+pub tabled_at : (f : ℕ → ℕ) (n b : ℕ) → b < n → get_or (tabled f n) b 0 ≡ f b
 unfolding tabled
-tabled-at f zero b h = absurd (not-suc-le-zero h)
-tabled-at f (suc n) b h = tabled-by f n b h (ltb b n) refl (tabled-at f n b)
+tabled_at f zero b h = absurd (not-suc-le-zero h)
+tabled_at f (suc n) b h = tabled_by f n b h (ltb b n) refl (tabled_at f n b)

@@ -7,9 +7,9 @@ use Rattle.replay_scope.specs.declared.Step.{Step}
 use Rattle.replay_traps.specs.declared.Next.{Next}
 
 -- the state that 58 words and a progress stand for
-unfoldable pub stateIn : List ℕ → Progress → State
-stateIn r p = record { vcpu = view_of r; progress = p }
+unfoldable pub state_in : List ℕ → Progress → State
+state_in r p = record { vcpu = view_of r; progress = p }
 
 -- the step that leaves these words
-unfoldable pub stepIn : List ℕ → Next → Step
-stepIn r t = record { state = stateIn r t.progress; gives = t.gives }
+unfoldable pub step_in : List ℕ → Next → Step
+step_in r t = record { state = state_in r t.progress; gives = t.gives }

@@ -2,12 +2,12 @@
 // changed where it lies, as 58 lent words, and the output gets a trap's four lines or the number of the unfit one.
 ghost use Rattle.std.specs.Prelude.{◌≡◌};
 ghost use Rattle.scope.specs.declared.machine.Outcome.{Outcome};
-ghost use Rattle.scope.specs.Record.{isIdle, waitingAsk};
+ghost use Rattle.scope.specs.Record.{is_idle, waiting_ask};
 ghost use Rattle.in_place_record.specs.View.{view_of};
-ghost use Rattle.scope.specs.ReplyWords.{replyWord};
-ghost use Rattle.replay_scope.specs.Output.{followedBy, overAt, pairTaken, saying, settledBy, settled_of, trapStarted, unfitOf};
-ghost use Rattle.replay_traps.specs.InPlace.{stateIn, stepIn};
-ghost use Rattle.replay_traps.specs.Laws.{exitBy};
+ghost use Rattle.scope.specs.ReplyWords.{reply_word};
+ghost use Rattle.replay_scope.specs.Output.{followed_by, over_at, pair_taken, saying, settled_by, settled_of, trap_started, unfit_of};
+ghost use Rattle.replay_traps.specs.InPlace.{state_in, step_in};
+ghost use Rattle.replay_traps.specs.Laws.{exit_by};
 
 use in_place_answer::AnswerWords;
 use replay_scope::{Gives, Kept, Line, Place, Progress};
@@ -22,7 +22,7 @@ pub struct Next {
 
 // The line at a place follows.
 pub fn follow(p: Progress, place: Place) -> Progress
-    ensures { result ≡ followedBy p place }
+    ensures { result ≡ followed_by p place }
 {
     let kept = p.kept;
     let line = Line {
@@ -41,7 +41,7 @@ pub fn follow(p: Progress, place: Place) -> Progress
 
 // The line is unfit.
 pub fn unfit(p: Progress, r: &[u64; 58]) -> Next
-    ensures { stepIn r.now result ≡ unfitOf (stateIn r.now p) }
+    ensures { step_in r.now result ≡ unfit_of (state_in r.now p) }
 {
     let line = p.line;
     let place = line.place;
@@ -66,7 +66,7 @@ pub fn unfit(p: Progress, r: &[u64; 58]) -> Next
 
 // The trap's last number starts it.
 pub fn start(p: Progress, r: &mut [u64; 58], htinst: u64) -> Next
-    ensures { stepIn r.new result ≡ trapStarted (stateIn r.old p) htinst }
+    ensures { step_in r.new result ≡ trap_started (state_in r.old p) htinst }
 {
     let kept = p.kept;
     let t = Trap {
@@ -83,7 +83,7 @@ pub fn start(p: Progress, r: &mut [u64; 58], htinst: u64) -> Next
 
 // An answer's or load completion's second number.
 pub fn pair(p: Progress, r: &mut [u64; 58], more: u64) -> Next
-    ensures { stepIn r.new result ≡ pairTaken (stateIn r.old p) more }
+    ensures { step_in r.new result ≡ pair_taken (state_in r.old p) more }
 {
     let kept = p.kept;
     let word = kept.word;
@@ -107,7 +107,7 @@ pub fn pair(p: Progress, r: &mut [u64; 58], more: u64) -> Next
 
 // After a call on the record, by the word that it returned.
 fn settle(p: Progress, r: &[u64; 58], word: u64) -> Next
-    ensures { (o : Outcome) → view_of r.now ≡ o.vcpu → word ≡ replyWord o.reply → stepIn r.now result ≡ settled_of p o }
+    ensures { (o : Outcome) → view_of r.now ≡ o.vcpu → word ≡ reply_word o.reply → step_in r.now result ≡ settled_of p o }
 {
     settled(
         p,
@@ -119,7 +119,7 @@ fn settle(p: Progress, r: &[u64; 58], word: u64) -> Next
 
 // The same: where nothing waits the trap is over, otherwise `word` follows.
 fn settled(p: Progress, r: &[u64; 58], exit: u64, idle: bool) -> Next
-    ensures { idle ≡ isIdle (view_of r.now).waiting → stepIn r.now result ≡ settledBy (view_of r.now) (saying p exit) }
+    ensures { idle ≡ is_idle (view_of r.now).waiting → step_in r.now result ≡ settled_by (view_of r.now) (saying p exit) }
 {
     in_place_record::sized(r);
     let mut q = p;
@@ -144,7 +144,7 @@ fn settled(p: Progress, r: &[u64; 58], exit: u64, idle: bool) -> Next
 // What the `exit` line says after a call, by the word that it returned: an exit's number or an error's, else what was to
 // be said.
 fn said(before: u64, word: u64) -> u64
-    ensures { result ≡ exitBy before word }
+    ensures { result ≡ exit_by before word }
 {
     if word < 32 {
         return word;

@@ -1,19 +1,19 @@
 -- Which calls touch hvip: every other case of HostCall leaves it. (A row of posts touches nothing else: Posts.antt.) 01, The record and
 -- Ecalls; 02, W1.
 use Rattle.std.specs.Prelude.{ℕ, Bool, true, false, List, ◌≡◌, refl, eqb, get_or}
-use Rattle.isa_consts.specs.Csr.{consoleRoom}
-use Rattle.isa_consts.specs.Sbi.{eidDbcn, eidHsm, eidHvc, eidRfnc, eidSpi, eidSrst, eidTime, legacyClearIpi, legacyFenceI, legacyGetchar, legacyPutchar, legacySendIpi, legacySetTimer, legacySfenceVma, legacySfenceVmaAsid, legacyShutdown}
-use Rattle.isa_consts.specs.Traps.{envCallFromVs, knownCause, loadGuestPageFault, storeGuestPageFault, supervisorExt, supervisorSoft, supervisorTimer, virtualInstruction}
+use Rattle.isa_consts.specs.Csr.{console_room}
+use Rattle.isa_consts.specs.Sbi.{eid_dbcn, eid_hsm, eid_hvc, eid_rfnc, eid_spi, eid_srst, eid_time, legacy_clear_ipi, legacy_fence_i, legacy_getchar, legacy_putchar, legacy_send_ipi, legacy_set_timer, legacy_sfence_vma, legacy_sfence_vma_asid, legacy_shutdown}
+use Rattle.isa_consts.specs.Traps.{env_call_from_vs, known_cause, load_guest_page_fault, store_guest_page_fault, supervisor_ext, supervisor_soft, supervisor_timer, virtual_instruction}
 use Rattle.isa_types.specs.Pick.{and, never, or, pick}
 use Rattle.isa_types.specs.declared.GuestPhysAddr.{GuestPhysAddr}
-use Rattle.scope.specs.Calls.{calledOf, effect_of}
-use Rattle.scope.specs.Classes.{argumentsOf, classEffect, class_of, startEffect}
-use Rattle.scope.specs.Ecalls.{asksOf, consoleEffect, dbcnEffect, ecallEffect, forwardEffect, hsmEffect, hypercallOf, lesserOf, moves_of, notSupportedEffect, returnsOf, rfncEffect, spanEffect, spiEffect, srstEffect, stays_of, timeEffect}
-use Rattle.scope.specs.GuestPageFault.{mmioOf, pageFaultOf}
-use Rattle.scope.specs.Host.{entryCsrs, tableCsrs}
-use Rattle.scope.specs.Record.{applied, isIdle, moved, timed}
-use Rattle.scope.specs.Refusals.{askingOf, failedOf, finishedOf, leavesOf, refusedOf}
-use Rattle.scope.specs.VirtualInstruction.{injectedOf, missedEffect, virtualEffect}
+use Rattle.scope.specs.Calls.{called_of, effect_of}
+use Rattle.scope.specs.Classes.{arguments_of, class_effect, class_of, start_effect}
+use Rattle.scope.specs.Ecalls.{asks_of, console_effect, dbcn_effect, ecall_effect, forward_effect, hsm_effect, hypercall_of, lesser_of, moves_of, not_supported_effect, returns_of, rfnc_effect, span_effect, spi_effect, srst_effect, stays_of, time_effect}
+use Rattle.scope.specs.GuestPageFault.{mmio_of, page_fault_of}
+use Rattle.scope.specs.Host.{entry_csrs, table_csrs}
+use Rattle.scope.specs.Record.{applied, is_idle, moved, timed}
+use Rattle.scope.specs.Refusals.{asking_of, failed_of, finished_of, leaves_of, refused_of}
+use Rattle.scope.specs.VirtualInstruction.{injected_of, missed_effect, virtual_effect}
 use Rattle.scope.specs.declared.decided.Class.TheVariants as class
 use Rattle.scope.specs.declared.decided.Class.{Class}
 use Rattle.scope.specs.declared.decided.Missed.TheVariants as missed
@@ -29,49 +29,49 @@ use Rattle.scope.specs.declared.traps.Answer.{Answer}
 use Rattle.scope.specs.declared.traps.Args.{Args}
 use Rattle.scope.specs.declared.traps.Error.TheVariants as error
 use Rattle.scope.specs.declared.traps.Trap.{Trap}
-use Rattle.requests.specs.Kept.{Keeps, Steady, answer_keeps, completed-keeps, csr-keeps, done-keeps, either, entry-keeps, fault-keeps, paging-keeps, unless-keeps, write_keeps}
+use Rattle.requests.specs.Kept.{Keeps, Steady, answer_keeps, completed_keeps, csr_keeps, done_keeps, either, entry_keeps, fault_keeps, paging_keeps, unless_keeps, write_keeps}
 
 -- hvip is what it was
 abbrev pub HvipKept : Vcpu → Vcpu → Type 0
 HvipKept v u = u.csrs.hs.hvip ≡ v.csrs.hs.hvip
 
 -- legacy 0 and TIME fid 0, which clear bit 6, and legacy 3, which clears bit 2
-unfoldable pub ecallTouches : ℕ → ℕ → Bool
-ecallTouches eid fid = or (eqb eid legacySetTimer) (or (eqb eid legacyClearIpi) (and (eqb eid eidTime) (eqb fid 0)))
+unfoldable pub ecall_touches : ℕ → ℕ → Bool
+ecall_touches eid fid = or (eqb eid legacy_set_timer) (or (eqb eid legacy_clear_ipi) (and (eqb eid eid_time) (eqb fid 0)))
 
 -- a new record and setup, which leave 0; an interrupt set pending or cleared, and latching; three ecalls, unless something waits and
 -- the start is refused. eid is a7 (x17), fid a6 (x16)
-unfoldable pub touchesHvip : Vcpu → HostCall → Bool
-touchesHvip v (hostCall.New hart tree) = true
-touchesHvip v hostCall.Setup = true
-touchesHvip v (hostCall.SetPending vector level) = true
-touchesHvip v (hostCall.LatchHvip bits) = true
-touchesHvip v (hostCall.Start t) =
-    and (eqb t.scause envCallFromVs) (and (isIdle v.waiting) (ecallTouches (get_or v.x 17 0) (get_or v.x 16 0)))
-touchesHvip v (hostCall.SetEntry at) = false
-touchesHvip v (hostCall.GetGpr index) = false
-touchesHvip v (hostCall.SetGpr index value) = false
-touchesHvip v (hostCall.SetReturnValue value) = false
-touchesHvip v (hostCall.SetNestedPageTable levels mode root) = false
-touchesHvip v (hostCall.CompleteIpi abi completion) = false
-touchesHvip v (hostCall.Answer a) = false
-touchesHvip v (hostCall.CompleteLoad n) = false
-touchesHvip v (hostCall.ToPrint length) = false
+unfoldable pub touches_hvip : Vcpu → HostCall → Bool
+touches_hvip v (hostCall.New hart tree) = true
+touches_hvip v hostCall.Setup = true
+touches_hvip v (hostCall.SetPending vector level) = true
+touches_hvip v (hostCall.LatchHvip bits) = true
+touches_hvip v (hostCall.Start t) =
+    and (eqb t.scause env_call_from_vs) (and (is_idle v.waiting) (ecall_touches (get_or v.x 17 0) (get_or v.x 16 0)))
+touches_hvip v (hostCall.SetEntry at) = false
+touches_hvip v (hostCall.GetGpr index) = false
+touches_hvip v (hostCall.SetGpr index value) = false
+touches_hvip v (hostCall.SetReturnValue value) = false
+touches_hvip v (hostCall.SetNestedPageTable levels mode root) = false
+touches_hvip v (hostCall.CompleteIpi abi completion) = false
+touches_hvip v (hostCall.Answer a) = false
+touches_hvip v (hostCall.CompleteLoad n) = false
+touches_hvip v (hostCall.ToPrint length) = false
 
 -- it does not move with sepc, vstimecmp or hgatp
 
-abbrev hvipOf : Csrs → ℕ
-hvipOf c = c.hs.hvip
+abbrev hvip_of : Csrs → ℕ
+hvip_of c = c.hs.hvip
 
-steady : Steady hvipOf
-unfolding moved entryCsrs timed tableCsrs
+steady : Steady hvip_of
+unfolding moved entry_csrs timed table_csrs
 steady = record { moves = λ c n. refl; enters = λ c entry. refl; times = λ c d. refl; maps = λ c mode root. refl }
 
 abbrev KeepsHvip : Csrs → Effect → Type 0
-KeepsHvip c e = Keeps hvipOf c e
+KeepsHvip c e = Keeps hvip_of c e
 
 one : {c : Csrs} (b : Bool) {e f : Effect} → KeepsHvip c e → KeepsHvip c f → KeepsHvip c (pick b e f)
-one b k l = either hvipOf b k l
+one b k l = either hvip_of b k l
 
 -- a test that fails
 past : {c : Csrs} (b : Bool) (e : Effect) {f : Effect} → b ≡ false → KeepsHvip c f → KeepsHvip c (pick b e f)
@@ -79,10 +79,10 @@ past true e h k = never h
 past false e h k = k
 
 -- two that do not hold at once
-past-both : {c : Csrs} (b d : Bool) (e : Effect) {f g : Effect} → and b d ≡ false → KeepsHvip c f → KeepsHvip c g → KeepsHvip c (pick b (pick d e f) g)
-past-both true true e h k l = never h
-past-both true false e h k l = k
-past-both false d e h k l = l
+past_both : {c : Csrs} (b d : Bool) (e : Effect) {f g : Effect} → and b d ≡ false → KeepsHvip c f → KeepsHvip c g → KeepsHvip c (pick b (pick d e f) g)
+past_both true true e h k l = never h
+past_both true false e h k l = k
+past_both false d e h k l = l
 
 left : (b d : Bool) → or b d ≡ false → b ≡ false
 left true d h = never h
@@ -94,25 +94,25 @@ right false d h = h
 
 -- ecalls
 
-span-keeps : (c : Csrs) (write : Bool) (at : GuestPhysAddr) (n : ℕ) → KeepsHvip c (spanEffect c write at n)
-unfolding spanEffect returnsOf asksOf finishedOf askingOf moved
-span-keeps c write at n =
+span_keeps : (c : Csrs) (write : Bool) (at : GuestPhysAddr) (n : ℕ) → KeepsHvip c (span_effect c write at n)
+unfolding span_effect returns_of asks_of finished_of asking_of moved
+span_keeps c write at n =
     one (eqb n 0) (record { kept = refl }) (one write (record { kept = refl }) (record { kept = refl }))
 
-console-keeps : (c : Csrs) (write : Bool) (a : Args) (room : ℕ) → KeepsHvip c (consoleEffect c write a room)
-unfolding consoleEffect returnsOf finishedOf moved
-console-keeps c write a room =
-    one (eqb a.a0 0) (record { kept = refl }) (one (eqb a.a2 0) (span-keeps c write _ _) (record { kept = refl }))
+console_keeps : (c : Csrs) (write : Bool) (a : Args) (room : ℕ) → KeepsHvip c (console_effect c write a room)
+unfolding console_effect returns_of finished_of moved
+console_keeps c write a room =
+    one (eqb a.a0 0) (record { kept = refl }) (one (eqb a.a2 0) (span_keeps c write _ _) (record { kept = refl }))
 
-dbcn-keeps : (c : Csrs) (fid : ℕ) (a : Args) (room : ℕ) → KeepsHvip c (dbcnEffect c fid a room)
-unfolding dbcnEffect asksOf askingOf notSupportedEffect returnsOf finishedOf moved
-dbcn-keeps c fid a room =
-    one (eqb fid 0) (console-keeps c true a room)
-    (one (eqb fid 1) (console-keeps c false a room) (one (eqb fid 2) (record { kept = refl }) (record { kept = refl })))
+dbcn_keeps : (c : Csrs) (fid : ℕ) (a : Args) (room : ℕ) → KeepsHvip c (dbcn_effect c fid a room)
+unfolding dbcn_effect asks_of asking_of not_supported_effect returns_of finished_of moved
+dbcn_keeps c fid a room =
+    one (eqb fid 0) (console_keeps c true a room)
+    (one (eqb fid 1) (console_keeps c false a room) (one (eqb fid 2) (record { kept = refl }) (record { kept = refl })))
 
-rfnc-keeps : (c : Csrs) (eid fid : ℕ) (a : Args) → KeepsHvip c (rfncEffect c eid fid a)
-unfolding rfncEffect forwardEffect askingOf
-rfnc-keeps c eid fid a =
+rfnc_keeps : (c : Csrs) (eid fid : ℕ) (a : Args) → KeepsHvip c (rfnc_effect c eid fid a)
+unfolding rfnc_effect forward_effect asking_of
+rfnc_keeps c eid fid a =
     one (eqb fid 0) (record { kept = refl })
     (one (eqb fid 1) (record { kept = refl })
     (one (eqb fid 2) (record { kept = refl })
@@ -121,101 +121,101 @@ rfnc-keeps c eid fid a =
     (one (eqb fid 5) (record { kept = refl })
     (one (eqb fid 6) (record { kept = refl }) (record { kept = refl })))))))
 
-ecall-keeps : (c : Csrs) (eid fid : ℕ) (a : Args) (room : ℕ) → ecallTouches eid fid ≡ false → KeepsHvip c (ecallEffect c eid fid a room)
-unfolding ecallTouches ecallEffect asksOf askingOf moves_of stays_of finishedOf moved timeEffect spiEffect hsmEffect srstEffect hypercallOf forwardEffect notSupportedEffect returnsOf
-ecall-keeps c eid fid a room h =
-    let rest = right (eqb eid legacySetTimer) _ h in
-    past (eqb eid legacySetTimer) _ (left (eqb eid legacySetTimer) _ h)
-    (one (eqb eid legacyPutchar) (record { kept = refl })
-    (one (eqb eid legacyGetchar) (record { kept = refl })
-    (past (eqb eid legacyClearIpi) _ (left (eqb eid legacyClearIpi) _ rest)
-    (one (eqb eid legacySendIpi) (record { kept = refl })
-    (one (eqb eid legacyFenceI) (record { kept = refl })
-    (one (eqb eid legacySfenceVma) (record { kept = refl })
-    (one (eqb eid legacySfenceVmaAsid) (record { kept = refl })
-    (one (eqb eid legacyShutdown) (record { kept = refl })
-    (past-both (eqb eid eidTime) (eqb fid 0) _ (right (eqb eid legacyClearIpi) _ rest) (record { kept = refl })
-    (one (eqb eid eidSpi) (one (eqb fid 0) (record { kept = refl }) (record { kept = refl }))
-    (one (eqb eid eidHsm)
+ecall_keeps : (c : Csrs) (eid fid : ℕ) (a : Args) (room : ℕ) → ecall_touches eid fid ≡ false → KeepsHvip c (ecall_effect c eid fid a room)
+unfolding ecall_touches ecall_effect asks_of asking_of moves_of stays_of finished_of moved time_effect spi_effect hsm_effect srst_effect hypercall_of forward_effect not_supported_effect returns_of
+ecall_keeps c eid fid a room h =
+    let rest = right (eqb eid legacy_set_timer) _ h in
+    past (eqb eid legacy_set_timer) _ (left (eqb eid legacy_set_timer) _ h)
+    (one (eqb eid legacy_putchar) (record { kept = refl })
+    (one (eqb eid legacy_getchar) (record { kept = refl })
+    (past (eqb eid legacy_clear_ipi) _ (left (eqb eid legacy_clear_ipi) _ rest)
+    (one (eqb eid legacy_send_ipi) (record { kept = refl })
+    (one (eqb eid legacy_fence_i) (record { kept = refl })
+    (one (eqb eid legacy_sfence_vma) (record { kept = refl })
+    (one (eqb eid legacy_sfence_vma_asid) (record { kept = refl })
+    (one (eqb eid legacy_shutdown) (record { kept = refl })
+    (past_both (eqb eid eid_time) (eqb fid 0) _ (right (eqb eid legacy_clear_ipi) _ rest) (record { kept = refl })
+    (one (eqb eid eid_spi) (one (eqb fid 0) (record { kept = refl }) (record { kept = refl }))
+    (one (eqb eid eid_hsm)
     (one (eqb fid 0) (record { kept = refl }) (one (eqb fid 1) (record { kept = refl }) (one (eqb fid 3) (record { kept = refl }) (record { kept = refl }))))
-    (one (eqb eid eidHvc) (record { kept = refl })
-    (one (eqb eid eidSrst)
+    (one (eqb eid eid_hvc) (record { kept = refl })
+    (one (eqb eid eid_srst)
     (one (eqb fid 0) (one (eqb a.a0 0) (record { kept = refl }) (record { kept = refl })) (record { kept = refl }))
-    (one (eqb eid eidDbcn) (dbcn-keeps c fid a (lesserOf room consoleRoom))
-    (one (eqb eid eidRfnc) (rfnc-keeps c eid fid a) (record { kept = refl }))))))))))))))))
+    (one (eqb eid eid_dbcn) (dbcn_keeps c fid a (lesser_of room console_room))
+    (one (eqb eid eid_rfnc) (rfnc_keeps c eid fid a) (record { kept = refl }))))))))))))))))
 
 -- the other classes
 
-missed-keeps : (c : Csrs) (m : Missed) → KeepsHvip c (missedEffect c m)
-unfolding missedEffect finishedOf failedOf injectedOf
-missed-keeps c (missed.Inject cause addr) = record { kept = refl }
-missed-keeps c (missed.Nested addr) = record { kept = refl }
-missed-keeps c missed.Unhandled = record { kept = refl }
+missed_keeps : (c : Csrs) (m : Missed) → KeepsHvip c (missed_effect c m)
+unfolding missed_effect finished_of failed_of injected_of
+missed_keeps c (missed.Inject cause addr) = record { kept = refl }
+missed_keeps c (missed.Nested addr) = record { kept = refl }
+missed_keeps c missed.Unhandled = record { kept = refl }
 
 -- a class by the tests behind the first
-unfoldable classBehind : ℕ → Class
-classBehind scause =
-    pick (eqb scause virtualInstruction) class.VirtualInstruction
-    (pick (eqb scause loadGuestPageFault) (class.PageFault access.Read)
-    (pick (eqb scause storeGuestPageFault) (class.PageFault access.Write)
-    (pick (eqb scause supervisorSoft) class.Interrupt
-    (pick (eqb scause supervisorTimer) class.Interrupt
-    (pick (eqb scause supervisorExt) class.Interrupt
-    (pick (knownCause scause) class.NotHandled class.Unknown))))))
+unfoldable class_behind : ℕ → Class
+class_behind scause =
+    pick (eqb scause virtual_instruction) class.VirtualInstruction
+    (pick (eqb scause load_guest_page_fault) (class.PageFault access.Read)
+    (pick (eqb scause store_guest_page_fault) (class.PageFault access.Write)
+    (pick (eqb scause supervisor_soft) class.Interrupt
+    (pick (eqb scause supervisor_timer) class.Interrupt
+    (pick (eqb scause supervisor_ext) class.Interrupt
+    (pick (known_cause scause) class.NotHandled class.Unknown))))))
 
-one_class : (x : List ℕ) (c : Csrs) (t : Trap) (b : Bool) (k l : Class) → KeepsHvip c (classEffect k x c t) → KeepsHvip c (classEffect l x c t) → KeepsHvip c (classEffect (pick b k l) x c t)
+one_class : (x : List ℕ) (c : Csrs) (t : Trap) (b : Bool) (k l : Class) → KeepsHvip c (class_effect k x c t) → KeepsHvip c (class_effect l x c t) → KeepsHvip c (class_effect (pick b k l) x c t)
 one_class x c t true k l p q = p
 one_class x c t false k l p q = q
 
-behind-keeps : (x : List ℕ) (c : Csrs) (t : Trap) → KeepsHvip c (classEffect (classBehind t.scause) x c t)
-unfolding classBehind classEffect virtualEffect pageFaultOf mmioOf finishedOf failedOf
-behind-keeps x c t =
-    one_class x c t (eqb t.scause virtualInstruction) _ _ (csr-keeps hvipOf steady c _)
-    (one_class x c t (eqb t.scause loadGuestPageFault) _ _ (fault-keeps hvipOf steady c _ _ _)
-    (one_class x c t (eqb t.scause storeGuestPageFault) _ _ (fault-keeps hvipOf steady c _ _ _)
-    (one_class x c t (eqb t.scause supervisorSoft) _ _ (record { kept = refl })
-    (one_class x c t (eqb t.scause supervisorTimer) _ _ (record { kept = refl })
-    (one_class x c t (eqb t.scause supervisorExt) _ _ (record { kept = refl })
-    (one_class x c t (knownCause t.scause) _ _ (record { kept = refl }) (record { kept = refl })))))))
+behind_keeps : (x : List ℕ) (c : Csrs) (t : Trap) → KeepsHvip c (class_effect (class_behind t.scause) x c t)
+unfolding class_behind class_effect virtual_effect page_fault_of mmio_of finished_of failed_of
+behind_keeps x c t =
+    one_class x c t (eqb t.scause virtual_instruction) _ _ (csr_keeps hvip_of steady c _)
+    (one_class x c t (eqb t.scause load_guest_page_fault) _ _ (fault_keeps hvip_of steady c _ _ _)
+    (one_class x c t (eqb t.scause store_guest_page_fault) _ _ (fault_keeps hvip_of steady c _ _ _)
+    (one_class x c t (eqb t.scause supervisor_soft) _ _ (record { kept = refl })
+    (one_class x c t (eqb t.scause supervisor_timer) _ _ (record { kept = refl })
+    (one_class x c t (eqb t.scause supervisor_ext) _ _ (record { kept = refl })
+    (one_class x c t (known_cause t.scause) _ _ (record { kept = refl }) (record { kept = refl })))))))
 
-cause-keeps : (x : List ℕ) (c : Csrs) (t : Trap) (b : Bool) → and b (ecallTouches (get_or x 17 0) (get_or x 16 0)) ≡ false
-    → KeepsHvip c (classEffect (pick b class.Ecall (classBehind t.scause)) x c t)
-unfolding classEffect
-cause-keeps x c t true h = ecall-keeps c (get_or x 17 0) (get_or x 16 0) (argumentsOf x) t.room h
-cause-keeps x c t false h = behind-keeps x c t
+cause_keeps : (x : List ℕ) (c : Csrs) (t : Trap) (b : Bool) → and b (ecall_touches (get_or x 17 0) (get_or x 16 0)) ≡ false
+    → KeepsHvip c (class_effect (pick b class.Ecall (class_behind t.scause)) x c t)
+unfolding class_effect
+cause_keeps x c t true h = ecall_keeps c (get_or x 17 0) (get_or x 16 0) (arguments_of x) t.room h
+cause_keeps x c t false h = behind_keeps x c t
 
-start-by : (x : List ℕ) (c : Csrs) (n : Waiting) (t : Trap) (b : Bool) → and (eqb t.scause envCallFromVs) (and b (ecallTouches (get_or x 17 0) (get_or x 16 0))) ≡ false
-    → KeepsHvip c (pick b (classEffect (class_of t.scause) x c t) (refusedOf c n error.BadState))
-unfolding class_of classBehind refusedOf leavesOf
-start-by x c n t true h = cause-keeps x c t (eqb t.scause envCallFromVs) h
-start-by x c n t false h = record { kept = refl }
+start_by : (x : List ℕ) (c : Csrs) (n : Waiting) (t : Trap) (b : Bool) → and (eqb t.scause env_call_from_vs) (and b (ecall_touches (get_or x 17 0) (get_or x 16 0))) ≡ false
+    → KeepsHvip c (pick b (class_effect (class_of t.scause) x c t) (refused_of c n error.BadState))
+unfolding class_of class_behind refused_of leaves_of
+start_by x c n t true h = cause_keeps x c t (eqb t.scause env_call_from_vs) h
+start_by x c n t false h = record { kept = refl }
 
-start-keeps : (x : List ℕ) (c : Csrs) (n : Waiting) (t : Trap) → and (eqb t.scause envCallFromVs) (and (isIdle n) (ecallTouches (get_or x 17 0) (get_or x 16 0))) ≡ false
-    → KeepsHvip c (startEffect x c n t)
-unfolding startEffect
-start-keeps x c n t h = start-by x c n t (isIdle n) h
+start_keeps : (x : List ℕ) (c : Csrs) (n : Waiting) (t : Trap) → and (eqb t.scause env_call_from_vs) (and (is_idle n) (ecall_touches (get_or x 17 0) (get_or x 16 0))) ≡ false
+    → KeepsHvip c (start_effect x c n t)
+unfolding start_effect
+start_keeps x c n t h = start_by x c n t (is_idle n) h
 
 -- every call
 
-effect-keeps : (v : Vcpu) (c : HostCall) → touchesHvip v c ≡ false → KeepsHvip v.csrs (effect_of v c)
-unfolding touchesHvip effect_of leavesOf
-effect-keeps v (hostCall.New hart tree) h = never h
-effect-keeps v hostCall.Setup h = never h
-effect-keeps v (hostCall.SetPending vector level) h = never h
-effect-keeps v (hostCall.LatchHvip bits) h = never h
-effect-keeps v (hostCall.Start t) h = start-keeps v.x v.csrs v.waiting t h
-effect-keeps v (hostCall.SetEntry at) h = unless-keeps hvipOf steady v (entry-keeps hvipOf steady v.csrs at _ v.waiting)
-effect-keeps v (hostCall.GetGpr index) h = record { kept = refl }
-effect-keeps v (hostCall.SetGpr index value) h = unless-keeps hvipOf steady v (write_keeps hvipOf steady v.csrs v.waiting index value)
-effect-keeps v (hostCall.SetReturnValue value) h = unless-keeps hvipOf steady v (done-keeps hvipOf v.csrs _ v.waiting)
-effect-keeps v (hostCall.SetNestedPageTable levels mode root) h =
-    unless-keeps hvipOf steady v (paging-keeps hvipOf steady v.csrs v.waiting levels mode root)
-effect-keeps v (hostCall.CompleteIpi abi completion) h = unless-keeps hvipOf steady v (done-keeps hvipOf v.csrs _ v.waiting)
-effect-keeps v (hostCall.Answer a) h = answer_keeps hvipOf steady v.x v.csrs v.waiting a (λ f e k. missed-keeps v.csrs _)
-effect-keeps v (hostCall.CompleteLoad n) h = completed-keeps hvipOf steady v.csrs v.waiting n
-effect-keeps v (hostCall.ToPrint length) h = record { kept = refl }
+effect_keeps : (v : Vcpu) (c : HostCall) → touches_hvip v c ≡ false → KeepsHvip v.csrs (effect_of v c)
+unfolding touches_hvip effect_of leaves_of
+effect_keeps v (hostCall.New hart tree) h = never h
+effect_keeps v hostCall.Setup h = never h
+effect_keeps v (hostCall.SetPending vector level) h = never h
+effect_keeps v (hostCall.LatchHvip bits) h = never h
+effect_keeps v (hostCall.Start t) h = start_keeps v.x v.csrs v.waiting t h
+effect_keeps v (hostCall.SetEntry at) h = unless_keeps hvip_of steady v (entry_keeps hvip_of steady v.csrs at _ v.waiting)
+effect_keeps v (hostCall.GetGpr index) h = record { kept = refl }
+effect_keeps v (hostCall.SetGpr index value) h = unless_keeps hvip_of steady v (write_keeps hvip_of steady v.csrs v.waiting index value)
+effect_keeps v (hostCall.SetReturnValue value) h = unless_keeps hvip_of steady v (done_keeps hvip_of v.csrs _ v.waiting)
+effect_keeps v (hostCall.SetNestedPageTable levels mode root) h =
+    unless_keeps hvip_of steady v (paging_keeps hvip_of steady v.csrs v.waiting levels mode root)
+effect_keeps v (hostCall.CompleteIpi abi completion) h = unless_keeps hvip_of steady v (done_keeps hvip_of v.csrs _ v.waiting)
+effect_keeps v (hostCall.Answer a) h = answer_keeps hvip_of steady v.x v.csrs v.waiting a (λ f e k. missed_keeps v.csrs _)
+effect_keeps v (hostCall.CompleteLoad n) h = completed_keeps hvip_of steady v.csrs v.waiting n
+effect_keeps v (hostCall.ToPrint length) h = record { kept = refl }
 
 -- every other call leaves hvip
-pub hvip-kept : (v : Vcpu) (c : HostCall) → touchesHvip v c ≡ false → HvipKept v (calledOf v c).vcpu
-unfolding calledOf applied
-hvip-kept v c h = (effect-keeps v c h).kept
+pub hvip_kept : (v : Vcpu) (c : HostCall) → touches_hvip v c ≡ false → HvipKept v (called_of v c).vcpu
+unfolding called_of applied
+hvip_kept v c h = (effect_keeps v c h).kept

@@ -5,15 +5,15 @@ use Rattle.std.proofs.Math.Path.{refl, sym}
 use Rattle.std.proofs.Common.{ap₂, ◌∙◌}
 use Rattle.isa_registers.specs.BitLaws.{bit_of}
 use Rattle.isa_types.specs.Pick.{and, never}
-use Rattle.scope.specs.Calls.{calledOf, effect_of}
-use Rattle.scope.specs.Classes.{classEffect, class_of, startEffect}
-use Rattle.scope.specs.Decided.{callEffect}
-use Rattle.scope.specs.Ecalls.{asksOf, clearIpiOf, forwardEffect, hypercallOf, moves_of, returnsOf, setTimerOf, stays_of}
-use Rattle.scope.specs.GuestPageFault.{mmioOf, pageFaultOf}
-use Rattle.scope.specs.Host.{entryCsrs, hvipBitOf, pendingEffect, setupCsrs, tableCsrs}
-use Rattle.scope.specs.Record.{applied, isIdle, moved, pended, timed, waitingAsk}
-use Rattle.scope.specs.Refusals.{askingOf, done_of, failedOf, finishedOf, leavesOf}
-use Rattle.scope.specs.VirtualInstruction.{missedEffect, missedOf, virtualEffect}
+use Rattle.scope.specs.Calls.{called_of, effect_of}
+use Rattle.scope.specs.Classes.{class_effect, class_of, start_effect}
+use Rattle.scope.specs.Decided.{call_effect}
+use Rattle.scope.specs.Ecalls.{asks_of, clear_ipi_of, forward_effect, hypercall_of, moves_of, returns_of, set_timer_of, stays_of}
+use Rattle.scope.specs.GuestPageFault.{mmio_of, page_fault_of}
+use Rattle.scope.specs.Host.{entry_csrs, hvip_bit_of, pending_effect, setup_csrs, table_csrs}
+use Rattle.scope.specs.Record.{applied, is_idle, moved, pended, timed, waiting_ask}
+use Rattle.scope.specs.Refusals.{asking_of, done_of, failed_of, finished_of, leaves_of}
+use Rattle.scope.specs.VirtualInstruction.{missed_effect, missed_of, virtual_effect}
 use Rattle.scope.specs.declared.decided.Class.TheVariants as class
 use Rattle.scope.specs.declared.decided.Class.{Class}
 use Rattle.scope.specs.declared.decided.SbiCall.TheVariants as call
@@ -32,40 +32,40 @@ use Rattle.scope.specs.declared.traps.Error.TheVariants as error
 use Rattle.scope.specs.declared.traps.Fetch.TheVariants as fetch
 use Rattle.scope.specs.declared.traps.Fetch.{Fetch}
 use Rattle.scope.specs.declared.traps.Trap.{Trap}
-use Rattle.demand1.specs.Rows.{ecall-row}
-use Rattle.requests.specs.Kept.{Keeps, Steady, answer_keeps, completed-keeps, csr-keeps, done-keeps, either, entry-keeps, fault-keeps, paging-keeps, refused-keeps, unless-keeps, write_keeps}
+use Rattle.demand1.specs.Rows.{ecall_row}
+use Rattle.requests.specs.Kept.{Keeps, Steady, answer_keeps, completed_keeps, csr_keeps, done_keeps, either, entry_keeps, fault_keeps, paging_keeps, refused_keeps, unless_keeps, write_keeps}
 
 -- supervisor mode by PRIV's number; user mode is 0
-unfoldable pub supervisorMode : ℕ
-supervisorMode = 1
+unfoldable pub supervisor_mode : ℕ
+supervisor_mode = 1
 
 -- the mode that sret enters: sstatus.SPP, bit 8
-unfoldable pub resumesIn : GuestCsrs → ℕ
-resumesIn g = bit_of g.sstatus 8
+unfoldable pub resumes_in : GuestCsrs → ℕ
+resumes_in g = bit_of g.sstatus 8
 
 -- 1 where sret enters the guest, and not the host itself: hstatus.SPV, bit 7
-unfoldable pub resumesGuest : GuestCsrs → ℕ
-resumesGuest g = bit_of g.hstatus 7
+unfoldable pub resumes_guest : GuestCsrs → ℕ
+resumes_guest g = bit_of g.hstatus 7
 
 -- the mode that the guest trapped from: hstatus.SPVP, bit 8
-unfoldable pub trappedFrom : GuestCsrs → ℕ
-trappedFrom g = bit_of g.hstatus 8
+unfoldable pub trapped_from : GuestCsrs → ℕ
+trapped_from g = bit_of g.hstatus 8
 
 -- setup's guest is entered in supervisor mode, and its asks are those of supervisor code. 01, The record: setup
 pub record Entered (g : GuestCsrs) : Type 0 where
-  pub guest : resumesGuest g ≡ 1
-  pub mode : resumesIn g ≡ supervisorMode
-  pub from : trappedFrom g ≡ supervisorMode
+  pub guest : resumes_guest g ≡ 1
+  pub mode : resumes_in g ≡ supervisor_mode
+  pub from : trapped_from g ≡ supervisor_mode
 
-pub setup-enters : (c : Csrs) → Entered (setupCsrs c).guest
-unfolding setupCsrs resumesGuest resumesIn trappedFrom bit_of supervisorMode
-setup-enters c = record { guest = refl; mode = refl; from = refl }
+pub setup_enters : (c : Csrs) → Entered (setup_csrs c).guest
+unfolding setup_csrs resumes_guest resumes_in trapped_from bit_of supervisor_mode
+setup_enters c = record { guest = refl; mode = refl; from = refl }
 
 -- after a trap of user code SPV is set and SPVP clear: two bits
-pub user-resumes : (pc s : ℕ)
-    → let g : GuestCsrs = record { sepc = pc; sstatus = s; hstatus = 2 ^ 7 } in (resumesGuest g ≡ 1) × (trappedFrom g ≡ 0)
-unfolding resumesGuest trappedFrom bit_of
-user-resumes pc s = (refl, refl)
+pub user_resumes : (pc s : ℕ)
+    → let g : GuestCsrs = record { sepc = pc; sstatus = s; hstatus = 2 ^ 7 } in (resumes_guest g ≡ 1) × (trapped_from g ≡ 0)
+unfolding resumes_guest trapped_from bit_of
+user_resumes pc s = (refl, refl)
 
 -- sstatus and hstatus are what they were, and with them the three numbers above
 pub record ModeKept (v u : Vcpu) : Type 0 where
@@ -82,131 +82,131 @@ injects fetch.Unhandled = false
 injects (fetch.Word w) = false
 
 -- an answer that says so
-unfoldable pub answerInjects : Answer → Bool
-answerInjects (answer.Fetched f) = injects f
-answerInjects (answer.MaskCopied count bytes) = false
-answerInjects (answer.CopiedIn count) = false
-answerInjects (answer.Printed e value) = false
-answerInjects (answer.ConsoleRead e value) = false
-answerInjects (answer.CopiedOut count) = false
-answerInjects answer.Emitted = false
-answerInjects (answer.Char number) = false
-answerInjects (answer.Forwarded e value) = false
-answerInjects answer.Other = false
+unfoldable pub answer_injects : Answer → Bool
+answer_injects (answer.Fetched f) = injects f
+answer_injects (answer.MaskCopied count bytes) = false
+answer_injects (answer.CopiedIn count) = false
+answer_injects (answer.Printed e value) = false
+answer_injects (answer.ConsoleRead e value) = false
+answer_injects (answer.CopiedOut count) = false
+answer_injects answer.Emitted = false
+answer_injects (answer.Char number) = false
+answer_injects (answer.Forwarded e value) = false
+answer_injects answer.Other = false
 
 -- a new record and setup; such a fault for an answer, where a fetch waits. (Setup while an ask waits is refused and touches nothing.)
-unfoldable pub touchesMode : Vcpu → HostCall → Bool
-touchesMode v (hostCall.New hart tree) = true
-touchesMode v hostCall.Setup = true
-touchesMode v (hostCall.Answer a) = and (eqb (waitingAsk v.waiting) 1) (answerInjects a)
-touchesMode v (hostCall.Start t) = false
-touchesMode v (hostCall.SetEntry at) = false
-touchesMode v (hostCall.GetGpr index) = false
-touchesMode v (hostCall.SetGpr index value) = false
-touchesMode v (hostCall.SetReturnValue value) = false
-touchesMode v (hostCall.SetNestedPageTable levels mode root) = false
-touchesMode v (hostCall.SetPending vector level) = false
-touchesMode v (hostCall.LatchHvip bits) = false
-touchesMode v (hostCall.CompleteIpi abi completion) = false
-touchesMode v (hostCall.CompleteLoad n) = false
-touchesMode v (hostCall.ToPrint length) = false
+unfoldable pub touches_mode : Vcpu → HostCall → Bool
+touches_mode v (hostCall.New hart tree) = true
+touches_mode v hostCall.Setup = true
+touches_mode v (hostCall.Answer a) = and (eqb (waiting_ask v.waiting) 1) (answer_injects a)
+touches_mode v (hostCall.Start t) = false
+touches_mode v (hostCall.SetEntry at) = false
+touches_mode v (hostCall.GetGpr index) = false
+touches_mode v (hostCall.SetGpr index value) = false
+touches_mode v (hostCall.SetReturnValue value) = false
+touches_mode v (hostCall.SetNestedPageTable levels mode root) = false
+touches_mode v (hostCall.SetPending vector level) = false
+touches_mode v (hostCall.LatchHvip bits) = false
+touches_mode v (hostCall.CompleteIpi abi completion) = false
+touches_mode v (hostCall.CompleteLoad n) = false
+touches_mode v (hostCall.ToPrint length) = false
 
 -- a number of the CSRs that stays where hvip is written, too: sstatus and hstatus are such
 module _ (at : Csrs → ℕ) (s : Steady at) (pends : (c : Csrs) (n : ℕ) → at (pended c n) ≡ at c) where
-  call-keeps : (c : Csrs) (eid fid : ℕ) (a : Args) (k : SbiCall) → Keeps at c (callEffect c eid fid a k)
-  unfolding callEffect forwardEffect returnsOf moves_of stays_of asksOf setTimerOf clearIpiOf hypercallOf finishedOf askingOf
-  call-keeps c eid fid a (call.Returns e v) = record { kept = s.moves c 4 }
-  call-keeps c eid fid a call.Moves = record { kept = s.moves c 4 }
-  call-keeps c eid fid a (call.LegacyTimer d) = record { kept = s.moves _ 4 ∙ pends (timed c d) _ ∙ s.times c d }
-  call-keeps c eid fid a (call.SetTimer d) = record { kept = s.moves _ 4 ∙ pends (timed c d) _ ∙ s.times c d }
-  call-keeps c eid fid a call.ClearIpi = record { kept = s.moves _ 4 ∙ pends c _ }
-  call-keeps c eid fid a (call.PutChar k) = record { kept = refl }
-  call-keeps c eid fid a call.GetChar = record { kept = refl }
-  call-keeps c eid fid a (call.CopyMask addr) = record { kept = refl }
-  call-keeps c eid fid a (call.SendIpi r) = record { kept = s.moves c 4 }
-  call-keeps c eid fid a (call.CpuUp t e k) = record { kept = s.moves c 4 }
-  call-keeps c eid fid a call.CpuDown = record { kept = refl }
-  call-keeps c eid fid a call.Halt = record { kept = refl }
-  call-keeps c eid fid a call.SystemDown = record { kept = refl }
-  call-keeps c eid fid a call.Hypercall = record { kept = s.moves c 4 }
-  call-keeps c eid fid a (call.CopyIn addr k) = record { kept = refl }
-  call-keeps c eid fid a (call.ReadConsole addr k) = record { kept = refl }
-  call-keeps c eid fid a (call.PutByte k) = record { kept = refl }
-  call-keeps c eid fid a (call.Forward e) = record { kept = refl }
+  call_keeps : (c : Csrs) (eid fid : ℕ) (a : Args) (k : SbiCall) → Keeps at c (call_effect c eid fid a k)
+  unfolding call_effect forward_effect returns_of moves_of stays_of asks_of set_timer_of clear_ipi_of hypercall_of finished_of asking_of
+  call_keeps c eid fid a (call.Returns e v) = record { kept = s.moves c 4 }
+  call_keeps c eid fid a call.Moves = record { kept = s.moves c 4 }
+  call_keeps c eid fid a (call.LegacyTimer d) = record { kept = s.moves _ 4 ∙ pends (timed c d) _ ∙ s.times c d }
+  call_keeps c eid fid a (call.SetTimer d) = record { kept = s.moves _ 4 ∙ pends (timed c d) _ ∙ s.times c d }
+  call_keeps c eid fid a call.ClearIpi = record { kept = s.moves _ 4 ∙ pends c _ }
+  call_keeps c eid fid a (call.PutChar k) = record { kept = refl }
+  call_keeps c eid fid a call.GetChar = record { kept = refl }
+  call_keeps c eid fid a (call.CopyMask addr) = record { kept = refl }
+  call_keeps c eid fid a (call.SendIpi r) = record { kept = s.moves c 4 }
+  call_keeps c eid fid a (call.CpuUp t e k) = record { kept = s.moves c 4 }
+  call_keeps c eid fid a call.CpuDown = record { kept = refl }
+  call_keeps c eid fid a call.Halt = record { kept = refl }
+  call_keeps c eid fid a call.SystemDown = record { kept = refl }
+  call_keeps c eid fid a call.Hypercall = record { kept = s.moves c 4 }
+  call_keeps c eid fid a (call.CopyIn addr k) = record { kept = refl }
+  call_keeps c eid fid a (call.ReadConsole addr k) = record { kept = refl }
+  call_keeps c eid fid a (call.PutByte k) = record { kept = refl }
+  call_keeps c eid fid a (call.Forward e) = record { kept = refl }
 
-  class-keeps : (k : Class) (x : List ℕ) (c : Csrs) (t : Trap) → Keeps at c (classEffect k x c t)
-  unfolding classEffect virtualEffect pageFaultOf mmioOf finishedOf failedOf
-  class-keeps class.Ecall x c t = ecall-row (Keeps at c) c _ _ _ (call-keeps c _ _ _) t.room
-  class-keeps class.VirtualInstruction x c t = csr-keeps at s c _
-  class-keeps (class.PageFault k) x c t = fault-keeps at s c _ k _
-  class-keeps class.Interrupt x c t = record { kept = refl }
-  class-keeps class.NotHandled x c t = record { kept = refl }
-  class-keeps class.Unknown x c t = record { kept = refl }
+  class_keeps : (k : Class) (x : List ℕ) (c : Csrs) (t : Trap) → Keeps at c (class_effect k x c t)
+  unfolding class_effect virtual_effect page_fault_of mmio_of finished_of failed_of
+  class_keeps class.Ecall x c t = ecall_row (Keeps at c) c _ _ _ (call_keeps c _ _ _) t.room
+  class_keeps class.VirtualInstruction x c t = csr_keeps at s c _
+  class_keeps (class.PageFault k) x c t = fault_keeps at s c _ k _
+  class_keeps class.Interrupt x c t = record { kept = refl }
+  class_keeps class.NotHandled x c t = record { kept = refl }
+  class_keeps class.Unknown x c t = record { kept = refl }
 
-  start-keeps : (x : List ℕ) (c : Csrs) (n : Waiting) (t : Trap) → Keeps at c (startEffect x c n t)
-  unfolding startEffect
-  start-keeps x c n t = either at (isIdle n) (class-keeps (class_of t.scause) x c t) (refused-keeps at c n error.BadState)
+  start_keeps : (x : List ℕ) (c : Csrs) (n : Waiting) (t : Trap) → Keeps at c (start_effect x c n t)
+  unfolding start_effect
+  start_keeps x c n t = either at (is_idle n) (class_keeps (class_of t.scause) x c t) (refused_keeps at c n error.BadState)
 
-  missed-keeps : (c : Csrs) (f : Fetch) → injects f ≡ false → Keeps at c (missedEffect c (missedOf f))
-  unfolding injects missedOf missedEffect finishedOf failedOf
-  missed-keeps c (fetch.Page a) h = never h
-  missed-keeps c (fetch.Access a) h = never h
-  missed-keeps c (fetch.Misaligned a) h = never h
-  missed-keeps c (fetch.GuestPage a) h = record { kept = refl }
-  missed-keeps c fetch.Unhandled h = record { kept = refl }
-  missed-keeps c (fetch.Word w) h = record { kept = refl }
+  missed_keeps : (c : Csrs) (f : Fetch) → injects f ≡ false → Keeps at c (missed_effect c (missed_of f))
+  unfolding injects missed_of missed_effect finished_of failed_of
+  missed_keeps c (fetch.Page a) h = never h
+  missed_keeps c (fetch.Access a) h = never h
+  missed_keeps c (fetch.Misaligned a) h = never h
+  missed_keeps c (fetch.GuestPage a) h = record { kept = refl }
+  missed_keeps c fetch.Unhandled h = record { kept = refl }
+  missed_keeps c (fetch.Word w) h = record { kept = refl }
 
   -- the fault behind an answer to the fetch that waits is none of the three
-  faulted : (n : Waiting) (a : Answer) (f : Fetch) → a ≡ answer.Fetched f → eqb (waitingAsk n) 1 ≡ true → and (eqb (waitingAsk n) 1) (answerInjects a) ≡ false → injects f ≡ false
-  unfolding answerInjects
-  faulted n a f e k h = sym (ap₂ (λ (b : Bool) (d : Answer). and b (answerInjects d)) k e) ∙ h
+  faulted : (n : Waiting) (a : Answer) (f : Fetch) → a ≡ answer.Fetched f → eqb (waiting_ask n) 1 ≡ true → and (eqb (waiting_ask n) 1) (answer_injects a) ≡ false → injects f ≡ false
+  unfolding answer_injects
+  faulted n a f e k h = sym (ap₂ (λ (b : Bool) (d : Answer). and b (answer_injects d)) k e) ∙ h
 
-  pended-keeps : (c : Csrs) (k : ℕ) (w : Writes) (n : Waiting) → Keeps at c (done_of (pended c k) w n)
+  pended_keeps : (c : Csrs) (k : ℕ) (w : Writes) (n : Waiting) → Keeps at c (done_of (pended c k) w n)
   unfolding done_of
-  pended-keeps c k w n = record { kept = pends c k }
+  pended_keeps c k w n = record { kept = pends c k }
 
-  pending-keeps : (c : Csrs) (n : Waiting) (vector : ℕ) (on : Bool) → Keeps at c (pendingEffect c n vector on)
-  unfolding pendingEffect
-  pending-keeps c n vector on = either at (eqb (hvipBitOf vector) 0) (refused-keeps at c n error.InvalidInput) (pended-keeps c _ _ n)
+  pending_keeps : (c : Csrs) (n : Waiting) (vector : ℕ) (on : Bool) → Keeps at c (pending_effect c n vector on)
+  unfolding pending_effect
+  pending_keeps c n vector on = either at (eqb (hvip_bit_of vector) 0) (refused_keeps at c n error.InvalidInput) (pended_keeps c _ _ n)
 
-  effect-keeps : (v : Vcpu) (c : HostCall) → touchesMode v c ≡ false → Keeps at v.csrs (effect_of v c)
-  unfolding touchesMode effect_of leavesOf
-  effect-keeps v (hostCall.New hart tree) h = never h
-  effect-keeps v hostCall.Setup h = never h
-  effect-keeps v (hostCall.Answer a) h =
-      answer_keeps at s v.x v.csrs v.waiting a (λ f e k. missed-keeps v.csrs f (faulted v.waiting a f e k h))
-  effect-keeps v (hostCall.Start t) h = start-keeps v.x v.csrs v.waiting t
-  effect-keeps v (hostCall.SetEntry entry) h = unless-keeps at s v (entry-keeps at s v.csrs entry _ v.waiting)
-  effect-keeps v (hostCall.GetGpr index) h = record { kept = refl }
-  effect-keeps v (hostCall.SetGpr index value) h = unless-keeps at s v (write_keeps at s v.csrs v.waiting index value)
-  effect-keeps v (hostCall.SetReturnValue value) h = unless-keeps at s v (done-keeps at v.csrs _ v.waiting)
-  effect-keeps v (hostCall.SetNestedPageTable levels mode root) h =
-      unless-keeps at s v (paging-keeps at s v.csrs v.waiting levels mode root)
-  effect-keeps v (hostCall.SetPending vector level) h = unless-keeps at s v (pending-keeps v.csrs v.waiting vector level)
-  effect-keeps v (hostCall.LatchHvip bits) h = unless-keeps at s v (pended-keeps v.csrs _ _ v.waiting)
-  effect-keeps v (hostCall.CompleteIpi abi completion) h = unless-keeps at s v (done-keeps at v.csrs _ v.waiting)
-  effect-keeps v (hostCall.CompleteLoad n) h = completed-keeps at s v.csrs v.waiting n
-  effect-keeps v (hostCall.ToPrint length) h = record { kept = refl }
+  effect_keeps : (v : Vcpu) (c : HostCall) → touches_mode v c ≡ false → Keeps at v.csrs (effect_of v c)
+  unfolding touches_mode effect_of leaves_of
+  effect_keeps v (hostCall.New hart tree) h = never h
+  effect_keeps v hostCall.Setup h = never h
+  effect_keeps v (hostCall.Answer a) h =
+      answer_keeps at s v.x v.csrs v.waiting a (λ f e k. missed_keeps v.csrs f (faulted v.waiting a f e k h))
+  effect_keeps v (hostCall.Start t) h = start_keeps v.x v.csrs v.waiting t
+  effect_keeps v (hostCall.SetEntry entry) h = unless_keeps at s v (entry_keeps at s v.csrs entry _ v.waiting)
+  effect_keeps v (hostCall.GetGpr index) h = record { kept = refl }
+  effect_keeps v (hostCall.SetGpr index value) h = unless_keeps at s v (write_keeps at s v.csrs v.waiting index value)
+  effect_keeps v (hostCall.SetReturnValue value) h = unless_keeps at s v (done_keeps at v.csrs _ v.waiting)
+  effect_keeps v (hostCall.SetNestedPageTable levels mode root) h =
+      unless_keeps at s v (paging_keeps at s v.csrs v.waiting levels mode root)
+  effect_keeps v (hostCall.SetPending vector level) h = unless_keeps at s v (pending_keeps v.csrs v.waiting vector level)
+  effect_keeps v (hostCall.LatchHvip bits) h = unless_keeps at s v (pended_keeps v.csrs _ _ v.waiting)
+  effect_keeps v (hostCall.CompleteIpi abi completion) h = unless_keeps at s v (done_keeps at v.csrs _ v.waiting)
+  effect_keeps v (hostCall.CompleteLoad n) h = completed_keeps at s v.csrs v.waiting n
+  effect_keeps v (hostCall.ToPrint length) h = record { kept = refl }
 
-abbrev sstatusOf : Csrs → ℕ
-sstatusOf c = c.guest.sstatus
+abbrev sstatus_of : Csrs → ℕ
+sstatus_of c = c.guest.sstatus
 
-abbrev hstatusOf : Csrs → ℕ
-hstatusOf c = c.guest.hstatus
+abbrev hstatus_of : Csrs → ℕ
+hstatus_of c = c.guest.hstatus
 
-sstatus-steady : Steady sstatusOf
-unfolding moved entryCsrs timed tableCsrs
-sstatus-steady = record { moves = λ c n. refl; enters = λ c entry. refl; times = λ c d. refl; maps = λ c mode root. refl }
+sstatus_steady : Steady sstatus_of
+unfolding moved entry_csrs timed table_csrs
+sstatus_steady = record { moves = λ c n. refl; enters = λ c entry. refl; times = λ c d. refl; maps = λ c mode root. refl }
 
-hstatus-steady : Steady hstatusOf
-unfolding moved entryCsrs timed tableCsrs
-hstatus-steady = record { moves = λ c n. refl; enters = λ c entry. refl; times = λ c d. refl; maps = λ c mode root. refl }
+hstatus_steady : Steady hstatus_of
+unfolding moved entry_csrs timed table_csrs
+hstatus_steady = record { moves = λ c n. refl; enters = λ c entry. refl; times = λ c d. refl; maps = λ c mode root. refl }
 
 -- every other call leaves both
-pub mode-kept : (v : Vcpu) (c : HostCall) → touchesMode v c ≡ false → ModeKept v (calledOf v c).vcpu
-unfolding calledOf applied pended
-mode-kept v c h =
+pub mode_kept : (v : Vcpu) (c : HostCall) → touches_mode v c ≡ false → ModeKept v (called_of v c).vcpu
+unfolding called_of applied pended
+mode_kept v c h =
     record {
-      sstatus = (effect-keeps sstatusOf sstatus-steady (λ c n. refl) v c h).kept;
-      hstatus = (effect-keeps hstatusOf hstatus-steady (λ c n. refl) v c h).kept;
+      sstatus = (effect_keeps sstatus_of sstatus_steady (λ c n. refl) v c h).kept;
+      hstatus = (effect_keeps hstatus_of hstatus_steady (λ c n. refl) v c h).kept;
     }

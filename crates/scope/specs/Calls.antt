@@ -17,17 +17,17 @@ use Rattle.scope.specs.declared.traps.Answer.{Answer}
 use Rattle.scope.specs.declared.traps.Error.TheVariants as error
 use Rattle.scope.specs.declared.traps.Reply.TheVariants as reply
 use Rattle.scope.specs.declared.traps.Reply.{Reply}
-use Rattle.scope.specs.Classes.{startEffect}
-use Rattle.scope.specs.Ecalls.{completionNumber}
-use Rattle.scope.specs.GuestPageFault.{completedOf}
-use Rattle.scope.specs.Host.{setupCsrs, entryCsrs, writeEffect, pagingEffect, pendingEffect, ipiWrites}
+use Rattle.scope.specs.Classes.{start_effect}
+use Rattle.scope.specs.Ecalls.{completion_number}
+use Rattle.scope.specs.GuestPageFault.{completed_of}
+use Rattle.scope.specs.Host.{setup_csrs, entry_csrs, write_effect, paging_effect, pending_effect, ipi_writes}
 use Rattle.scope.specs.Record.{value_of, pended, applied}
-use Rattle.scope.specs.Refusals.{done_of, leavesOf, unlessAsking}
-use Rattle.scope.specs.Answers.{answerEffect}
+use Rattle.scope.specs.Refusals.{done_of, leaves_of, unless_asking}
+use Rattle.scope.specs.Answers.{answer_effect}
 
 -- zeros; a0 the hart, a1 the device tree
-unfoldable pub newOf : ℕ → ℕ → Vcpu
-newOf hart tree =
+unfoldable pub new_of : ℕ → ℕ → Vcpu
+new_of hart tree =
     record {
       x = set (set (replicate 32 0) 10 hart) 11 tree;
       csrs =
@@ -41,28 +41,28 @@ newOf hart tree =
     }
 
 -- register read: never refusal 2; an index above 31 is refusal 1
-unfoldable pub gprReply : Vcpu → ℕ → Reply
-gprReply v index = pick (ltb index 32) (reply.Value (value_of v.x index)) (reply.Error error.InvalidInput)
+unfoldable pub gpr_reply : Vcpu → ℕ → Reply
+gpr_reply v index = pick (ltb index 32) (reply.Value (value_of v.x index)) (reply.Error error.InvalidInput)
 
 -- the n of ask 4
-unfoldable pub askedCount : EcallAsk → ℕ
-askedCount (asked.Print n) = n
-askedCount asked.CopyMask = 0
-askedCount (asked.CopyIn n) = 0
-askedCount (asked.ReadConsole n a) = 0
-askedCount (asked.CopyOut n) = 0
-askedCount asked.PutChar = 0
-askedCount asked.PutByte = 0
-askedCount asked.GetChar = 0
-askedCount asked.Forward = 0
+unfoldable pub asked_count : EcallAsk → ℕ
+asked_count (asked.Print n) = n
+asked_count asked.CopyMask = 0
+asked_count (asked.CopyIn n) = 0
+asked_count (asked.ReadConsole n a) = 0
+asked_count (asked.CopyOut n) = 0
+asked_count asked.PutChar = 0
+asked_count asked.PutByte = 0
+asked_count asked.GetChar = 0
+asked_count asked.Forward = 0
 
 -- the n of ask 4, where it waits
-unfoldable pub printCount : Waiting → ℕ
-printCount waiting.Idle = 0
-printCount (waiting.Load r w s) = 0
-printCount waiting.FetchCsr = 0
-printCount (waiting.FetchFault a k) = 0
-printCount (waiting.Ecall a) = askedCount a
+unfoldable pub print_count : Waiting → ℕ
+print_count waiting.Idle = 0
+print_count (waiting.Load r w s) = 0
+print_count waiting.FetchCsr = 0
+print_count (waiting.FetchFault a k) = 0
+print_count (waiting.Ecall a) = asked_count a
 
 -- n, where there are n; else 0
 unfoldable pub fitted : ℕ → ℕ → ℕ
@@ -70,39 +70,39 @@ fitted n length = pick (leb n length) n 0
 
 -- how many bytes of a lent buffer of this length are printed: n under ask 4, if it has n; else none
 unfoldable pub printable : Waiting → ℕ → ℕ
-printable w length = fitted (printCount w) length
+printable w length = fitted (print_count w) length
 
 -- the bytes to print are the buffer's first
-unfoldable pub printedOf : Vcpu → List ℕ → List ℕ
-printedOf v buffer = take (printable v.waiting (length buffer)) buffer
+unfoldable pub printed_of : Vcpu → List ℕ → List ℕ
+printed_of v buffer = take (printable v.waiting (length buffer)) buffer
 
 -- what each call does
 unfoldable pub effect_of : Vcpu → HostCall → Effect
-effect_of v (hostCall.New hart tree) = done_of (newOf hart tree).csrs writes.Keep (newOf hart tree).waiting
-effect_of v hostCall.Setup = unlessAsking v (done_of (setupCsrs v.csrs) writes.Keep v.waiting)
-effect_of v (hostCall.SetEntry at) = unlessAsking v (done_of (entryCsrs v.csrs at) writes.Keep v.waiting)
-effect_of v (hostCall.GetGpr index) = leavesOf v.csrs v.waiting (gprReply v index)
-effect_of v (hostCall.SetGpr index value) = unlessAsking v (writeEffect v.csrs v.waiting index value)
+effect_of v (hostCall.New hart tree) = done_of (new_of hart tree).csrs writes.Keep (new_of hart tree).waiting
+effect_of v hostCall.Setup = unless_asking v (done_of (setup_csrs v.csrs) writes.Keep v.waiting)
+effect_of v (hostCall.SetEntry at) = unless_asking v (done_of (entry_csrs v.csrs at) writes.Keep v.waiting)
+effect_of v (hostCall.GetGpr index) = leaves_of v.csrs v.waiting (gpr_reply v index)
+effect_of v (hostCall.SetGpr index value) = unless_asking v (write_effect v.csrs v.waiting index value)
 -- a0 is the value
-effect_of v (hostCall.SetReturnValue value) = unlessAsking v (done_of v.csrs (writes.One 10 value) v.waiting)
+effect_of v (hostCall.SetReturnValue value) = unless_asking v (done_of v.csrs (writes.One 10 value) v.waiting)
 effect_of v (hostCall.SetNestedPageTable levels mode root) =
-    unlessAsking v (pagingEffect v.csrs v.waiting levels mode root)
-effect_of v (hostCall.SetPending vector level) = unlessAsking v (pendingEffect v.csrs v.waiting vector level)
+    unless_asking v (paging_effect v.csrs v.waiting levels mode root)
+effect_of v (hostCall.SetPending vector level) = unless_asking v (pending_effect v.csrs v.waiting vector level)
 -- latching ORs a number into hvip
 effect_of v (hostCall.LatchHvip bits) =
-    unlessAsking v (done_of (pended v.csrs (bit_or v.csrs.hs.hvip bits)) writes.Keep v.waiting)
+    unless_asking v (done_of (pended v.csrs (bit_or v.csrs.hs.hvip bits)) writes.Keep v.waiting)
 -- IPI completion; sepc stays
 effect_of v (hostCall.CompleteIpi abi completion) =
-    unlessAsking v (done_of v.csrs (ipiWrites abi (completionNumber completion)) v.waiting)
-effect_of v (hostCall.Start t) = startEffect v.x v.csrs v.waiting t
-effect_of v (hostCall.Answer a) = answerEffect v.x v.csrs v.waiting a
-effect_of v (hostCall.CompleteLoad n) = completedOf v.csrs v.waiting n
+    unless_asking v (done_of v.csrs (ipi_writes abi (completion_number completion)) v.waiting)
+effect_of v (hostCall.Start t) = start_effect v.x v.csrs v.waiting t
+effect_of v (hostCall.Answer a) = answer_effect v.x v.csrs v.waiting a
+effect_of v (hostCall.CompleteLoad n) = completed_of v.csrs v.waiting n
 -- like a register read it changes nothing
-effect_of v (hostCall.ToPrint length) = leavesOf v.csrs v.waiting (reply.Value (printable v.waiting length))
+effect_of v (hostCall.ToPrint length) = leaves_of v.csrs v.waiting (reply.Value (printable v.waiting length))
 
 -- the record that a call works on: a new one, or the one that is there
 unfoldable pub base_of : Vcpu → HostCall → Vcpu
-base_of v (hostCall.New hart tree) = newOf hart tree
+base_of v (hostCall.New hart tree) = new_of hart tree
 base_of v hostCall.Setup = v
 base_of v (hostCall.SetEntry at) = v
 base_of v (hostCall.GetGpr index) = v
@@ -118,5 +118,5 @@ base_of v (hostCall.CompleteLoad n) = v
 base_of v (hostCall.ToPrint length) = v
 
 -- the whole outcome of each call: the later record, the reply, and the array beside it
-unfoldable pub calledOf : Vcpu → HostCall → Outcome
-calledOf v c = applied (base_of v c) (effect_of v c)
+unfoldable pub called_of : Vcpu → HostCall → Outcome
+called_of v c = applied (base_of v c) (effect_of v c)

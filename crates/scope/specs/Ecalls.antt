@@ -2,8 +2,8 @@
 -- eid is a7, fid a6. c is the CSRs, a the arguments a0 to a5.
 use Rattle.std.specs.Prelude.{ℕ, ◌%◌, false, Bool, true, eqb, leb}
 use Rattle.isa_types.specs.declared.GuestPhysAddr.{GuestPhysAddr}
-use Rattle.isa_consts.specs.Csr.{vssip, vstip, consoleRoom}
-use Rattle.isa_consts.specs.Sbi.{hartMaskBytes, success, failed, invalidParam, notSupported, legacySetTimer, legacyPutchar, legacyGetchar, legacyClearIpi, legacySendIpi, legacyFenceI, legacySfenceVma, legacySfenceVmaAsid, legacyShutdown, eidTime, eidSpi, eidHsm, eidHvc, eidSrst, eidDbcn, eidRfnc}
+use Rattle.isa_consts.specs.Csr.{vssip, vstip, console_room}
+use Rattle.isa_consts.specs.Sbi.{hart_mask_bytes, success, failed, invalid_param, not_supported, legacy_set_timer, legacy_putchar, legacy_getchar, legacy_clear_ipi, legacy_send_ipi, legacy_fence_i, legacy_sfence_vma, legacy_sfence_vma_asid, legacy_shutdown, eid_time, eid_spi, eid_hsm, eid_hvc, eid_srst, eid_dbcn, eid_rfnc}
 use Rattle.isa_registers.specs.Bits.{with_bits}
 use Rattle.isa_types.specs.Pick.{pick}
 use Rattle.scope.specs.declared.decided.IpiCompletion.TheVariants as completion
@@ -28,41 +28,41 @@ use Rattle.scope.specs.declared.traps.IpiAbi.TheVariants as abi
 use Rattle.scope.specs.declared.traps.IpiRequest.{IpiRequest}
 use Rattle.scope.specs.declared.traps.Reply.TheVariants as reply
 use Rattle.scope.specs.Record.{moved, timed, pended}
-use Rattle.scope.specs.Refusals.{finishedOf, askingOf}
+use Rattle.scope.specs.Refusals.{finished_of, asking_of}
 
 -- "return e, v": a0 = e, a1 = v; sepc moves on by 4; exit Nothing
-unfoldable pub returnsOf : Csrs → ℕ → ℕ → Effect
-returnsOf c e v = finishedOf (moved c 4) event.Quiet (writes.Pair e v) exit.Nothing
+unfoldable pub returns_of : Csrs → ℕ → ℕ → Effect
+returns_of c e v = finished_of (moved c 4) event.Quiet (writes.Pair e v) exit.Nothing
 
 -- sepc moves on by 4, no register written
 unfoldable pub moves_of : Csrs → Exit → Effect
-moves_of c x = finishedOf (moved c 4) event.Quiet writes.Keep x
+moves_of c x = finished_of (moved c 4) event.Quiet writes.Keep x
 
 -- a0 is the number, sepc moves on by 4
-unfoldable pub givesOf : Csrs → ℕ → Effect
-givesOf c n = finishedOf (moved c 4) event.Quiet (writes.One 10 n) exit.Nothing
+unfoldable pub gives_of : Csrs → ℕ → Effect
+gives_of c n = finished_of (moved c 4) event.Quiet (writes.One 10 n) exit.Nothing
 
 -- sepc unmoved
 unfoldable pub stays_of : Csrs → Exit → Effect
-stays_of c x = finishedOf c event.Quiet writes.Keep x
+stays_of c x = finished_of c event.Quiet writes.Keep x
 
 -- an ask, which waits with what its answer needs
-unfoldable pub asksOf : Csrs → EcallAsk → Ask → Effect
-asksOf c n a = askingOf c event.Quiet (waiting.Ecall n) a
+unfoldable pub asks_of : Csrs → EcallAsk → Ask → Effect
+asks_of c n a = asking_of c event.Quiet (waiting.Ecall n) a
 
 -- 01, Ecalls; 02, W1. Event 1, vstimecmp = deadline, clear hvip bit 6, then the registers; sepc moves on by 4
-unfoldable pub setTimerOf : Csrs → ℕ → Writes → Effect
-setTimerOf c deadline w =
-    finishedOf (moved (pended (timed c deadline) (with_bits c.hs.hvip vstip false)) 4) event.SetTimer w exit.Nothing
+unfoldable pub set_timer_of : Csrs → ℕ → Writes → Effect
+set_timer_of c deadline w =
+    finished_of (moved (pended (timed c deadline) (with_bits c.hs.hvip vstip false)) 4) event.SetTimer w exit.Nothing
 
 -- legacy 3: clear hvip bit 2, a0 = 0
-unfoldable pub clearIpiOf : Csrs → Effect
-clearIpiOf c =
-    finishedOf (moved (pended c (with_bits c.hs.hvip vssip false)) 4) event.Quiet (writes.One 10 0) exit.Nothing
+unfoldable pub clear_ipi_of : Csrs → Effect
+clear_ipi_of c =
+    finished_of (moved (pended c (with_bits c.hs.hvip vssip false)) 4) event.Quiet (writes.One 10 0) exit.Nothing
 
 -- move on, Hypercall(a6; a0 to a5)
-unfoldable pub hypercallOf : Csrs → ℕ → Args → Effect
-hypercallOf c fid a =
+unfoldable pub hypercall_of : Csrs → ℕ → Args → Effect
+hypercall_of c fid a =
     record {
       csrs = moved c 4;
       event = event.Quiet;
@@ -72,146 +72,146 @@ hypercallOf c fid a =
       args = a;
     }
 
-unfoldable pub lesserOf : ℕ → ℕ → ℕ
-lesserOf a b = pick (leb a b) a b
+unfoldable pub lesser_of : ℕ → ℕ → ℕ
+lesser_of a b = pick (leb a b) a b
 
 -- "other fids": return NOT_SUPPORTED, 0
-unfoldable pub notSupportedEffect : Csrs → Effect
-notSupportedEffect c = returnsOf c notSupported 0
+unfoldable pub not_supported_effect : Csrs → Effect
+not_supported_effect c = returns_of c not_supported 0
 
 -- ask 9 with the call's numbers; the event is counted before the ask
-unfoldable pub forwardEffect : Csrs → Event → ℕ → ℕ → Args → Effect
-forwardEffect c e eid fid a = askingOf c e (waiting.Ecall asked.Forward) (ask.Forward eid fid a)
+unfoldable pub forward_effect : Csrs → Event → ℕ → ℕ → Args → Effect
+forward_effect c e eid fid a = asking_of c e (waiting.Ecall asked.Forward) (ask.Forward eid fid a)
 
 -- SBI, 'Timer Extension'; 02, W1. fid 0: event 1, vstimecmp = a0, clear hvip bit 6, return 0, 0
-unfoldable pub timeEffect : Csrs → ℕ → Args → Effect
-timeEffect c fid a = pick (eqb fid 0) (setTimerOf c a.a0 (writes.Pair 0 0)) (notSupportedEffect c)
+unfoldable pub time_effect : Csrs → ℕ → Args → Effect
+time_effect c fid a = pick (eqb fid 0) (set_timer_of c a.a0 (writes.Pair 0 0)) (not_supported_effect c)
 
 -- an IPI request of extension sPI: mask and base as given
-unfoldable pub standardRequest : ℕ → ℕ → IpiRequest
-standardRequest mask base = record { mask = mask; base = base; abi = abi.SbiV02 }
+unfoldable pub standard_request : ℕ → ℕ → IpiRequest
+standard_request mask base = record { mask = mask; base = base; abi = abi.SbiV02 }
 
 -- SBI, 'IPI Extension'. fid 0: move on, SendIpi(a0, a1, v0.2)
-unfoldable pub spiEffect : Csrs → ℕ → Args → Effect
-spiEffect c fid a = pick (eqb fid 0) (moves_of c (exit.SendIpi (standardRequest a.a0 a.a1))) (notSupportedEffect c)
+unfoldable pub spi_effect : Csrs → ℕ → Args → Effect
+spi_effect c fid a = pick (eqb fid 0) (moves_of c (exit.SendIpi (standard_request a.a0 a.a1))) (not_supported_effect c)
 
 -- SBI, 'Hart State Management Extension'. fid 0: move on, CpuUp(a0, a1, a2); 1: CpuDown(0) and 3: Halt, sepc unmoved
-unfoldable pub hsmEffect : Csrs → ℕ → Args → Effect
-hsmEffect c fid a =
+unfoldable pub hsm_effect : Csrs → ℕ → Args → Effect
+hsm_effect c fid a =
     pick (eqb fid 0) (moves_of c (exit.CpuUp a.a0 (record { 0 = a.a1 }) a.a2))
     (pick (eqb fid 1) (stays_of c (exit.CpuDown 0))
     (pick (eqb fid 3) (stays_of c exit.Halt)
-    (notSupportedEffect c)))
+    (not_supported_effect c)))
 
 -- SBI, 'System Reset Extension'. fid 0 with a0 = 0: SystemDown, sepc unmoved; other a0: return NOT_SUPPORTED, 0
-unfoldable pub srstEffect : Csrs → ℕ → Args → Effect
-srstEffect c fid a =
-    pick (eqb fid 0) (pick (eqb a.a0 0) (stays_of c exit.SystemDown) (notSupportedEffect c)) (notSupportedEffect c)
+unfoldable pub srst_effect : Csrs → ℕ → Args → Effect
+srst_effect c fid a =
+    pick (eqb fid 0) (pick (eqb a.a0 0) (stays_of c exit.SystemDown) (not_supported_effect c)) (not_supported_effect c)
 
 -- n bytes at an address: none returns 0, 0; else ask 3 for a write, ask 5 for a read
-unfoldable pub spanEffect : Csrs → Bool → GuestPhysAddr → ℕ → Effect
-spanEffect c write at n =
-    pick (eqb n 0) (returnsOf c success 0)
-    (pick write (asksOf c (asked.CopyIn n) (ask.CopyIn at n))
-    (asksOf c (asked.ReadConsole n at) (ask.ReadConsole n)))
+unfoldable pub span_effect : Csrs → Bool → GuestPhysAddr → ℕ → Effect
+span_effect c write at n =
+    pick (eqb n 0) (returns_of c success 0)
+    (pick write (asks_of c (asked.CopyIn n) (ask.CopyIn at n))
+    (asks_of c (asked.ReadConsole n at) (ask.ReadConsole n)))
 
 -- a0 = 0 returns 0, 0 and asks nothing; then a2 not 0 returns INVALID_PARAM, 0; n is the lesser of a0 and room
-unfoldable pub consoleEffect : Csrs → Bool → Args → ℕ → Effect
-consoleEffect c write a room =
-    pick (eqb a.a0 0) (returnsOf c success 0)
-    (pick (eqb a.a2 0) (spanEffect c write (record { 0 = a.a1 }) (lesserOf a.a0 room))
-    (returnsOf c invalidParam 0))
+unfoldable pub console_effect : Csrs → Bool → Args → ℕ → Effect
+console_effect c write a room =
+    pick (eqb a.a0 0) (returns_of c success 0)
+    (pick (eqb a.a2 0) (span_effect c write (record { 0 = a.a1 }) (lesser_of a.a0 room))
+    (returns_of c invalid_param 0))
 
 -- SBI, 'Debug Console Extension'. fid 0: write; 1: read; 2: ask 7 with a0 mod 256
-unfoldable pub dbcnEffect : Csrs → ℕ → Args → ℕ → Effect
-dbcnEffect c fid a room =
-    pick (eqb fid 0) (consoleEffect c true a room)
-    (pick (eqb fid 1) (consoleEffect c false a room)
-    (pick (eqb fid 2) (asksOf c asked.PutByte (ask.Emit (a.a0 % 256)))
-    (notSupportedEffect c)))
+unfoldable pub dbcn_effect : Csrs → ℕ → Args → ℕ → Effect
+dbcn_effect c fid a room =
+    pick (eqb fid 0) (console_effect c true a room)
+    (pick (eqb fid 1) (console_effect c false a room)
+    (pick (eqb fid 2) (asks_of c asked.PutByte (ask.Emit (a.a0 % 256)))
+    (not_supported_effect c)))
 
 -- SBI, 'RFENCE Extension'. fids 0 to 6 count events 3 to 9 in order; with any fid, ask 9
-unfoldable pub rfncEffect : Csrs → ℕ → ℕ → Args → Effect
-rfncEffect c eid fid a =
-    pick (eqb fid 0) (forwardEffect c event.FenceI eid fid a)
-    (pick (eqb fid 1) (forwardEffect c event.SfenceVma eid fid a)
-    (pick (eqb fid 2) (forwardEffect c event.SfenceVmaAsid eid fid a)
-    (pick (eqb fid 3) (forwardEffect c event.HfenceGvmaVmid eid fid a)
-    (pick (eqb fid 4) (forwardEffect c event.HfenceGvma eid fid a)
-    (pick (eqb fid 5) (forwardEffect c event.HfenceVvmaAsid eid fid a)
-    (pick (eqb fid 6) (forwardEffect c event.HfenceVvma eid fid a)
-    (forwardEffect c event.Quiet eid fid a)))))))
+unfoldable pub rfnc_effect : Csrs → ℕ → ℕ → Args → Effect
+rfnc_effect c eid fid a =
+    pick (eqb fid 0) (forward_effect c event.FenceI eid fid a)
+    (pick (eqb fid 1) (forward_effect c event.SfenceVma eid fid a)
+    (pick (eqb fid 2) (forward_effect c event.SfenceVmaAsid eid fid a)
+    (pick (eqb fid 3) (forward_effect c event.HfenceGvmaVmid eid fid a)
+    (pick (eqb fid 4) (forward_effect c event.HfenceGvma eid fid a)
+    (pick (eqb fid 5) (forward_effect c event.HfenceVvmaAsid eid fid a)
+    (pick (eqb fid 6) (forward_effect c event.HfenceVvma eid fid a)
+    (forward_effect c event.Quiet eid fid a)))))))
 
 -- the whole list by eid, legacy 0 to 8 first: 0 set timer; 1 ask 7; 2 ask 8; 3 clear hvip bit 2; 4 ask 2 at a0; 5, 6, 7 no
 -- register written; 8 SystemDown. PMU and all other eids: ask 9. Room above 4,096 counts as 4,096
-unfoldable pub ecallEffect : Csrs → ℕ → ℕ → Args → ℕ → Effect
-ecallEffect c eid fid a room =
-    pick (eqb eid legacySetTimer) (setTimerOf c a.a0 (writes.One 10 0))
-    (pick (eqb eid legacyPutchar) (asksOf c asked.PutChar (ask.Emit a.a0))
-    (pick (eqb eid legacyGetchar) (asksOf c asked.GetChar ask.GetChar)
-    (pick (eqb eid legacyClearIpi) (clearIpiOf c)
-    (pick (eqb eid legacySendIpi) (asksOf c asked.CopyMask (ask.CopyMask (record { 0 = a.a0 })))
-    (pick (eqb eid legacyFenceI) (moves_of c exit.Nothing)
-    (pick (eqb eid legacySfenceVma) (moves_of c exit.Nothing)
-    (pick (eqb eid legacySfenceVmaAsid) (moves_of c exit.Nothing)
-    (pick (eqb eid legacyShutdown) (stays_of c exit.SystemDown)
-    (pick (eqb eid eidTime) (timeEffect c fid a)
-    (pick (eqb eid eidSpi) (spiEffect c fid a)
-    (pick (eqb eid eidHsm) (hsmEffect c fid a)
-    (pick (eqb eid eidHvc) (hypercallOf c fid a)
-    (pick (eqb eid eidSrst) (srstEffect c fid a)
-    (pick (eqb eid eidDbcn) (dbcnEffect c fid a (lesserOf room consoleRoom))
-    (pick (eqb eid eidRfnc) (rfncEffect c eid fid a)
-    (forwardEffect c event.Quiet eid fid a))))))))))))))))
+unfoldable pub ecall_effect : Csrs → ℕ → ℕ → Args → ℕ → Effect
+ecall_effect c eid fid a room =
+    pick (eqb eid legacy_set_timer) (set_timer_of c a.a0 (writes.One 10 0))
+    (pick (eqb eid legacy_putchar) (asks_of c asked.PutChar (ask.Emit a.a0))
+    (pick (eqb eid legacy_getchar) (asks_of c asked.GetChar ask.GetChar)
+    (pick (eqb eid legacy_clear_ipi) (clear_ipi_of c)
+    (pick (eqb eid legacy_send_ipi) (asks_of c asked.CopyMask (ask.CopyMask (record { 0 = a.a0 })))
+    (pick (eqb eid legacy_fence_i) (moves_of c exit.Nothing)
+    (pick (eqb eid legacy_sfence_vma) (moves_of c exit.Nothing)
+    (pick (eqb eid legacy_sfence_vma_asid) (moves_of c exit.Nothing)
+    (pick (eqb eid legacy_shutdown) (stays_of c exit.SystemDown)
+    (pick (eqb eid eid_time) (time_effect c fid a)
+    (pick (eqb eid eid_spi) (spi_effect c fid a)
+    (pick (eqb eid eid_hsm) (hsm_effect c fid a)
+    (pick (eqb eid eid_hvc) (hypercall_of c fid a)
+    (pick (eqb eid eid_srst) (srst_effect c fid a)
+    (pick (eqb eid eid_dbcn) (dbcn_effect c fid a (lesser_of room console_room))
+    (pick (eqb eid eid_rfnc) (rfnc_effect c eid fid a)
+    (forward_effect c event.Quiet eid fid a))))))))))))))))
 
 -- legacy 4, ask 2: a count of 8 is a mask with base 0, any other count a short read
-unfoldable pub legacyRequest : ℕ → ℕ → LegacyRequest
-legacyRequest count bytes =
-    pick (eqb count hartMaskBytes)
+unfoldable pub legacy_request : ℕ → ℕ → LegacyRequest
+legacy_request count bytes =
+    pick (eqb count hart_mask_bytes)
     (legacy.Request (record { mask = bytes; base = 0; abi = abi.Legacy }))
     legacy.ShortRead
 
 -- SendIpi(mask, base 0, legacy); a short read returns FAILED, 0
-unfoldable pub maskEffect : Csrs → LegacyRequest → Effect
-maskEffect c (legacy.Request r) = moves_of c (exit.SendIpi r)
-maskEffect c legacy.ShortRead = returnsOf c failed 0
+unfoldable pub mask_effect : Csrs → LegacyRequest → Effect
+mask_effect c (legacy.Request r) = moves_of c (exit.SendIpi r)
+mask_effect c legacy.ShortRead = returns_of c failed 0
 
 -- DBCN fid 0, ask 3: count n leads to ask 4; else FAILED, 0
-unfoldable pub copiedEffect : Csrs → ℕ → ℕ → Effect
-copiedEffect c n got = pick (eqb got n) (asksOf c (asked.Print n) (ask.Print n)) (returnsOf c failed 0)
+unfoldable pub copied_effect : Csrs → ℕ → ℕ → Effect
+copied_effect c n got = pick (eqb got n) (asks_of c (asked.Print n) (ask.Print n)) (returns_of c failed 0)
 
 -- DBCN fid 1, ask 5: error 0 and a value from 1 to n leads to ask 6; every other pair is returned as given
-unfoldable pub consoleReadEffect : Csrs → ℕ → GuestPhysAddr → ℕ → ℕ → Effect
-consoleReadEffect c n at error value =
+unfoldable pub console_read_effect : Csrs → ℕ → GuestPhysAddr → ℕ → ℕ → Effect
+console_read_effect c n at error value =
     pick (eqb error 0)
-    (pick (eqb value 0) (returnsOf c error value)
-    (pick (leb value n) (asksOf c (asked.CopyOut value) (ask.CopyOut at value))
-    (returnsOf c error value)))
-    (returnsOf c error value)
+    (pick (eqb value 0) (returns_of c error value)
+    (pick (leb value n) (asks_of c (asked.CopyOut value) (ask.CopyOut at value))
+    (returns_of c error value)))
+    (returns_of c error value)
 
 -- DBCN fid 1, ask 6: count v returns 0, v; other counts FAILED, 0
-unfoldable pub copiedOutEffect : Csrs → ℕ → ℕ → Effect
-copiedOutEffect c v got = pick (eqb got v) (returnsOf c success v) (returnsOf c failed 0)
+unfoldable pub copied_out_effect : Csrs → ℕ → ℕ → Effect
+copied_out_effect c v got = pick (eqb got v) (returns_of c success v) (returns_of c failed 0)
 
 -- the answer to an ecall's ask, by its two numbers: ask 2 count and bytes; 3 and 6 count; 4, 5 and 9 error and value; 7 none;
 -- 8 the number
-unfoldable pub ecallAnswer : Csrs → EcallAsk → ℕ → ℕ → Effect
-ecallAnswer c asked.CopyMask word more = maskEffect c (legacyRequest word more)
-ecallAnswer c (asked.CopyIn n) word more = copiedEffect c n word
-ecallAnswer c (asked.Print n) word more = returnsOf c word more
-ecallAnswer c (asked.ReadConsole n at) word more = consoleReadEffect c n at word more
-ecallAnswer c (asked.CopyOut v) word more = copiedOutEffect c v word
+unfoldable pub ecall_answer : Csrs → EcallAsk → ℕ → ℕ → Effect
+ecall_answer c asked.CopyMask word more = mask_effect c (legacy_request word more)
+ecall_answer c (asked.CopyIn n) word more = copied_effect c n word
+ecall_answer c (asked.Print n) word more = returns_of c word more
+ecall_answer c (asked.ReadConsole n at) word more = console_read_effect c n at word more
+ecall_answer c (asked.CopyOut v) word more = copied_out_effect c v word
 -- legacy 1: no register written
-ecallAnswer c asked.PutChar word more = moves_of c exit.Nothing
+ecall_answer c asked.PutChar word more = moves_of c exit.Nothing
 -- DBCN fid 2: return 0, 0
-ecallAnswer c asked.PutByte word more = returnsOf c success 0
+ecall_answer c asked.PutByte word more = returns_of c success 0
 -- legacy 2: into a0
-ecallAnswer c asked.GetChar word more = givesOf c word
+ecall_answer c asked.GetChar word more = gives_of c word
 -- forwarded: the pair is returned
-ecallAnswer c asked.Forward word more = returnsOf c word more
+ecall_answer c asked.Forward word more = returns_of c word more
 
 -- IPI completion: 0, -3, -1
-unfoldable pub completionNumber : IpiCompletion → ℕ
-completionNumber completion.Success = success
-completionNumber completion.InvalidParameter = invalidParam
-completionNumber completion.Failed = failed
+unfoldable pub completion_number : IpiCompletion → ℕ
+completion_number completion.Success = success
+completion_number completion.InvalidParameter = invalid_param
+completion_number completion.Failed = failed

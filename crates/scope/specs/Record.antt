@@ -61,52 +61,52 @@ pended c n =
     }
 
 -- 01, Ecalls and Virtual instruction: events 1 to 9; 0 is none
-unfoldable pub eventNumber : Event → ℕ
-eventNumber event.Quiet = 0
-eventNumber event.SetTimer = 1
-eventNumber event.IllegalInsn = 2
-eventNumber event.FenceI = 3
-eventNumber event.SfenceVma = 4
-eventNumber event.SfenceVmaAsid = 5
-eventNumber event.HfenceGvmaVmid = 6
-eventNumber event.HfenceGvma = 7
-eventNumber event.HfenceVvmaAsid = 8
-eventNumber event.HfenceVvma = 9
+unfoldable pub event_number : Event → ℕ
+event_number event.Quiet = 0
+event_number event.SetTimer = 1
+event_number event.IllegalInsn = 2
+event_number event.FenceI = 3
+event_number event.SfenceVma = 4
+event_number event.SfenceVmaAsid = 5
+event_number event.HfenceGvmaVmid = 6
+event_number event.HfenceGvma = 7
+event_number event.HfenceVvmaAsid = 8
+event_number event.HfenceVvma = 9
 
 -- the counts with one more, modulo 2^64, for event number n
 unfoldable pub bumped : List ℕ → ℕ → List ℕ
 bumped k n = pick (eqb n 0) k (pick (ltb n 10) (set k (n - 1) (wrapped (get_or k (n - 1) 0 + 1))) k)
 
 unfoldable pub counted : List ℕ → Event → List ℕ
-counted k e = bumped k (eventNumber e)
+counted k e = bumped k (event_number e)
 
 -- 01, One trap: the number of an ecall's ask
-unfoldable pub ecallAskNumber : EcallAsk → ℕ
-ecallAskNumber asked.CopyMask = 2
-ecallAskNumber (asked.CopyIn n) = 3
-ecallAskNumber (asked.Print n) = 4
-ecallAskNumber (asked.ReadConsole n a) = 5
-ecallAskNumber (asked.CopyOut n) = 6
-ecallAskNumber asked.PutChar = 7
-ecallAskNumber asked.PutByte = 7
-ecallAskNumber asked.GetChar = 8
-ecallAskNumber asked.Forward = 9
+unfoldable pub ecall_ask_number : EcallAsk → ℕ
+ecall_ask_number asked.CopyMask = 2
+ecall_ask_number (asked.CopyIn n) = 3
+ecall_ask_number (asked.Print n) = 4
+ecall_ask_number (asked.ReadConsole n a) = 5
+ecall_ask_number (asked.CopyOut n) = 6
+ecall_ask_number asked.PutChar = 7
+ecall_ask_number asked.PutByte = 7
+ecall_ask_number asked.GetChar = 8
+ecall_ask_number asked.Forward = 9
 
 -- the number of the ask that waits; 0 where none does
-unfoldable pub waitingAsk : Waiting → ℕ
-waitingAsk waiting.Idle = 0
-waitingAsk (waiting.Load r w s) = 0
-waitingAsk waiting.FetchCsr = 1
-waitingAsk (waiting.FetchFault a k) = 1
-waitingAsk (waiting.Ecall a) = ecallAskNumber a
+unfoldable pub waiting_ask : Waiting → ℕ
+waiting_ask waiting.Idle = 0
+waiting_ask (waiting.Load r w s) = 0
+waiting_ask waiting.FetchCsr = 1
+waiting_ask (waiting.FetchFault a k) = 1
+waiting_ask (waiting.Ecall a) = ecall_ask_number a
 
 -- neither an ask nor a load waits
-unfoldable pub isIdle : Waiting → Bool
-isIdle waiting.Idle = true
-isIdle (waiting.Load r w s) = false
-isIdle waiting.FetchCsr = false
-isIdle (waiting.FetchFault a k) = false
-isIdle (waiting.Ecall a) = false
+unfoldable pub is_idle : Waiting → Bool
+is_idle waiting.Idle = true
+is_idle (waiting.Load r w s) = false
+is_idle waiting.FetchCsr = false
+is_idle (waiting.FetchFault a k) = false
+is_idle (waiting.Ecall a) = false
 
 -- the six arguments in order
 unfoldable pub listed : Args → List ℕ

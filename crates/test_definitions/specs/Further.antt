@@ -1,8 +1,8 @@
 -- What no list runs, by document 01's own words and the numbers of the published Rust: one table, computed by the checker.
 use Rattle.std.specs.Prelude.{ℕ, ◌+◌, Bool, true, false, List, [], ◌∷◌, ◌++◌, eqb, T, replicate}
 use Rattle.isa_types.specs.Pick.{and}
-use Rattle.scope.specs.OneTrap.{abiNumber, accessNumber, answerNumber, askNumber, exitNumber, fetchNumber, flagOf, width_bytes, answerValues, askValues, exitValues, fetchValue}
-use Rattle.scope.specs.Refusals.{errorNumber, refusal, refuses}
+use Rattle.scope.specs.OneTrap.{abi_number, access_number, answer_number, ask_number, exit_number, fetch_number, flag_of, width_bytes, answer_values, ask_values, exit_values, fetch_value}
+use Rattle.scope.specs.Refusals.{error_number, refusal, refuses}
 use Rattle.scope.specs.declared.traps.Access.TheVariants as access
 use Rattle.scope.specs.declared.traps.Answer.{Answer}
 use Rattle.scope.specs.declared.traps.Answer.TheVariants as answer
@@ -14,8 +14,8 @@ use Rattle.scope.specs.declared.traps.IpiAbi.TheVariants as abi
 use Rattle.scope.specs.declared.traps.Reply.{Reply}
 use Rattle.scope.specs.declared.traps.Reply.TheVariants as reply
 use Rattle.isa_types.specs.declared.Width.TheVariants as width
-use Rattle.isa_consts.specs.Sbi.{eidPmu}
-use Rattle.isa_registers.specs.Values.{delegatedExceptions, delegatedInterrupts}
+use Rattle.isa_consts.specs.Sbi.{eid_pmu}
+use Rattle.isa_registers.specs.Values.{delegated_exceptions, delegated_interrupts}
 use Rattle.scope.specs.declared.hosts.HostCall.{HostCall}
 use Rattle.scope.specs.declared.hosts.HostCall.TheVariants as hostCall
 use Rattle.scope.specs.declared.machine.EcallAsk.TheVariants as asked
@@ -23,11 +23,11 @@ use Rattle.scope.specs.declared.machine.Outcome.{Outcome}
 use Rattle.scope.specs.declared.machine.Vcpu.{Vcpu}
 use Rattle.scope.specs.declared.machine.Waiting.{Waiting}
 use Rattle.scope.specs.declared.machine.Waiting.TheVariants as waiting
-use Rattle.scope.specs.Calls.{askedCount, fitted, newOf, printCount, printable, printedOf}
-use Rattle.scope.specs.ReplyWords.{out_of, replyValues, replyWord}
-use Rattle.scope.specs.Words.{askedWordCount, askedWords, call_by, trapLeft, waitingCount, waitingLeft, waitingWords}
-use Rattle.replay_scope.specs.Lines.{bytes, line_of, nibbleOf, pushOf}
-use Rattle.replay_digits.specs.Hex.{digitOf, hexOf}
+use Rattle.scope.specs.Calls.{asked_count, fitted, new_of, print_count, printable, printed_of}
+use Rattle.scope.specs.ReplyWords.{out_of, reply_values, reply_word}
+use Rattle.scope.specs.Words.{asked_word_count, asked_words, call_by, trap_left, waiting_count, waiting_left, waiting_words}
+use Rattle.replay_scope.specs.Lines.{bytes, line_of, nibble_of, push_of}
+use Rattle.replay_digits.specs.Hex.{digit_of, hex_of}
 use Rattle.replay_lines.specs.Read.{Taken, begins, taken_of}
 use Rattle.replay_output.specs.Put.{put_at}
 use Rattle.replay_digits.specs.declared.Digits.{Digits}
@@ -37,11 +37,11 @@ use Rattle.replay_scope.specs.declared.Got.TheVariants as got
 
 -- an answer: its ask's number, word and more
 abbrev pair : Answer → List ℕ
-pair a = answerNumber a ∷ answerValues a
+pair a = answer_number a ∷ answer_values a
 
 -- a record in which this waits
 unfoldable holding : Waiting → Vcpu
-holding w = record { x = (newOf 0 0).x; csrs = (newOf 0 0).csrs; counts = (newOf 0 0).counts; waiting = w }
+holding w = record { x = (new_of 0 0).x; csrs = (new_of 0 0).csrs; counts = (new_of 0 0).counts; waiting = w }
 
 -- the eight words of a reply, with 1 to 6 in the array beside it
 abbrev over : Reply → List ℕ
@@ -56,40 +56,40 @@ abbrev marked : List ℕ
 marked = 21 ∷ 22 ∷ 23 ∷ 24 ∷ []
 
 abbrev left : Waiting → Reply → List ℕ
-left w r = trapLeft marked r w
+left w r = trap_left marked r w
 
 abbrev stays : Waiting → List ℕ
 stays w = left w (reply.Exit exit.Nothing)
 
 -- the register that a call reads
-unfoldable registerRead : HostCall → List ℕ
-registerRead hostCall.Setup = []
-registerRead (hostCall.SetEntry a) = []
-registerRead (hostCall.GetGpr i) = i ∷ []
-registerRead (hostCall.SetGpr i n) = []
-registerRead (hostCall.SetReturnValue n) = []
-registerRead (hostCall.SetNestedPageTable l m r) = []
-registerRead (hostCall.SetPending n l) = []
-registerRead (hostCall.LatchHvip n) = []
-registerRead (hostCall.CompleteIpi k c) = []
-registerRead (hostCall.Start t) = []
-registerRead (hostCall.Answer a) = []
-registerRead (hostCall.CompleteLoad n) = []
-registerRead (hostCall.ToPrint n) = []
-registerRead (hostCall.New a b) = []
+unfoldable register_read : HostCall → List ℕ
+register_read hostCall.Setup = []
+register_read (hostCall.SetEntry a) = []
+register_read (hostCall.GetGpr i) = i ∷ []
+register_read (hostCall.SetGpr i n) = []
+register_read (hostCall.SetReturnValue n) = []
+register_read (hostCall.SetNestedPageTable l m r) = []
+register_read (hostCall.SetPending n l) = []
+register_read (hostCall.LatchHvip n) = []
+register_read (hostCall.CompleteIpi k c) = []
+register_read (hostCall.Start t) = []
+register_read (hostCall.Answer a) = []
+register_read (hostCall.CompleteLoad n) = []
+register_read (hostCall.ToPrint n) = []
+register_read (hostCall.New a b) = []
 
 -- how a line was read: its number, where it stands and the bytes that are left
-unfoldable gotNumbers : Got → List ℕ
-gotNumbers (got.More at v) = 0 ∷ at ∷ v ∷ []
-gotNumbers (got.Whole v) = 1 ∷ v ∷ []
-gotNumbers got.Unfit = 2 ∷ []
+unfoldable got_numbers : Got → List ℕ
+got_numbers (got.More at v) = 0 ∷ at ∷ v ∷ []
+got_numbers (got.Whole v) = 1 ∷ v ∷ []
+got_numbers got.Unfit = 2 ∷ []
 
-unfoldable digitNumbers : Digits → List ℕ
-digitNumbers (digits.Number v) = 1 ∷ v ∷ []
-digitNumbers digits.Bad = 2 ∷ []
+unfoldable digit_numbers : Digits → List ℕ
+digit_numbers (digits.Number v) = 1 ∷ v ∷ []
+digit_numbers digits.Bad = 2 ∷ []
 
 unfoldable taken : Taken → List ℕ
-taken t = gotNumbers t.got ++ t.left
+taken t = got_numbers t.got ++ t.left
 
 -- what was got, beside what is right
 record Row : Type 0 where
@@ -118,11 +118,11 @@ further =
     ∷ row (pair (answer.Char 7)) (8 ∷ 7 ∷ 0 ∷ [])
     ∷ row (pair (answer.Forwarded 8 6)) (9 ∷ 8 ∷ 6 ∷ [])
     -- 01, One trap: the bytes to print are the buffer's first n under ask 4 if it has n, otherwise the empty part
-    ∷ row (printedOf (holding (waiting.Ecall (asked.Print 2))) (7 ∷ 8 ∷ 9 ∷ [])) (7 ∷ 8 ∷ [])
-    ∷ row (printedOf (holding (waiting.Ecall (asked.Print 3))) (7 ∷ 8 ∷ 9 ∷ [])) (7 ∷ 8 ∷ 9 ∷ [])
-    ∷ row (printedOf (holding (waiting.Ecall (asked.Print 4))) (7 ∷ 8 ∷ 9 ∷ [])) []
-    ∷ row (printedOf (holding (waiting.Ecall (asked.CopyIn 2))) (7 ∷ 8 ∷ 9 ∷ [])) []
-    ∷ row (printedOf (holding waiting.Idle) (7 ∷ 8 ∷ 9 ∷ [])) []
+    ∷ row (printed_of (holding (waiting.Ecall (asked.Print 2))) (7 ∷ 8 ∷ 9 ∷ [])) (7 ∷ 8 ∷ [])
+    ∷ row (printed_of (holding (waiting.Ecall (asked.Print 3))) (7 ∷ 8 ∷ 9 ∷ [])) (7 ∷ 8 ∷ 9 ∷ [])
+    ∷ row (printed_of (holding (waiting.Ecall (asked.Print 4))) (7 ∷ 8 ∷ 9 ∷ [])) []
+    ∷ row (printed_of (holding (waiting.Ecall (asked.CopyIn 2))) (7 ∷ 8 ∷ 9 ∷ [])) []
+    ∷ row (printed_of (holding waiting.Idle) (7 ∷ 8 ∷ 9 ∷ [])) []
     -- 01, One trap, Ecalls and Guest page fault: what each exit and ask carries; every other word of `out` is 0
     ∷ row (over (reply.Exit exit.Nothing)) (blanks 8)
     ∷ row (over (reply.Exit (exit.ExternalInterrupt 7))) (7 ∷ blanks 7)
@@ -148,28 +148,28 @@ further =
     ∷ row (over (reply.Value 7)) (7 ∷ blanks 7)
     ∷ row (over (reply.Error error.BadState)) (blanks 8)
     -- 01, Ecalls: PMU 0x504D55; registers.rs: the delegation masks, as oracle/diff reads them off the published Rust
-    ∷ row (eidPmu ∷ delegatedExceptions ∷ delegatedInterrupts ∷ []) (0x50_4D55 ∷ 0xB10D ∷ 0x444 ∷ [])
+    ∷ row (eid_pmu ∷ delegated_exceptions ∷ delegated_interrupts ∷ []) (0x50_4D55 ∷ 0xB10D ∷ 0x444 ∷ [])
     -- 01, Replay program: a line is its key, 16 lowercase hex digits and LF
     ∷ row (taken (taken_of (bytes "a0=") 0 0 (bytes "a0=00000000000001f9\nx"))) (1 ∷ 0x1f9 ∷ 120 ∷ [])
     ∷ row (taken (taken_of (bytes "a0=") 0 0 (bytes "a0=00000000000001f9"))) (0 ∷ 19 ∷ 0x1f9 ∷ [])
     ∷ row (taken (taken_of (bytes "a0=") 0 0 (bytes "a0=00000000000001F9\nx"))) (2 ∷ bytes "9\nx")
     ∷ row (taken (taken_of (bytes "a0=") 0 0 (bytes "a1=0"))) (2 ∷ bytes "=0")
     ∷ row (taken (taken_of (bytes "a0=") 2 5 (bytes "=0"))) (0 ∷ 4 ∷ 0x50 ∷ [])
-    ∷ row (digitNumbers (hexOf (bytes "00000000000001f9"))) (1 ∷ 0x1f9 ∷ [])
-    ∷ row (digitNumbers (hexOf (bytes "fedcba9876543210"))) (1 ∷ 0xFEDC_BA98_7654_3210 ∷ [])
-    ∷ row (digitNumbers (hexOf (bytes "fedcba987654321"))) (2 ∷ [])
-    ∷ row (digitNumbers (hexOf (bytes "fedcba98765432100"))) (2 ∷ [])
-    ∷ row (digitNumbers (hexOf (bytes "fedcba987654321F"))) (2 ∷ [])
-    ∷ row (digitNumbers (hexOf (bytes "gedcba9876543210"))) (2 ∷ [])
+    ∷ row (digit_numbers (hex_of (bytes "00000000000001f9"))) (1 ∷ 0x1f9 ∷ [])
+    ∷ row (digit_numbers (hex_of (bytes "fedcba9876543210"))) (1 ∷ 0xFEDC_BA98_7654_3210 ∷ [])
+    ∷ row (digit_numbers (hex_of (bytes "fedcba987654321"))) (2 ∷ [])
+    ∷ row (digit_numbers (hex_of (bytes "fedcba98765432100"))) (2 ∷ [])
+    ∷ row (digit_numbers (hex_of (bytes "fedcba987654321F"))) (2 ∷ [])
+    ∷ row (digit_numbers (hex_of (bytes "gedcba9876543210"))) (2 ∷ [])
     -- each key is compared byte for byte with its fixed spelling
-    ∷ row (flagOf (begins (bytes "a0=") (bytes "a0=1")) ∷ flagOf (begins (bytes "a0=") (bytes "a0=")) ∷ []) (1 ∷ 1 ∷ [])
-    ∷ row (flagOf (begins (bytes "a0=") (bytes "a0")) ∷ flagOf (begins (bytes "a0=") (bytes "b0=")) ∷ flagOf (begins (bytes "a0=") (bytes "a1=")) ∷ []) (0 ∷ 0 ∷ 0 ∷ [])
+    ∷ row (flag_of (begins (bytes "a0=") (bytes "a0=1")) ∷ flag_of (begins (bytes "a0=") (bytes "a0=")) ∷ []) (1 ∷ 1 ∷ [])
+    ∷ row (flag_of (begins (bytes "a0=") (bytes "a0")) ∷ flag_of (begins (bytes "a0=") (bytes "b0=")) ∷ flag_of (begins (bytes "a0=") (bytes "a1=")) ∷ []) (0 ∷ 0 ∷ 0 ∷ [])
     -- a text at a place of a buffer: the bytes around it stay
     ∷ row (put_at (1 ∷ 2 ∷ 3 ∷ 4 ∷ 5 ∷ []) 1 (8 ∷ 9 ∷ [])) (1 ∷ 8 ∷ 9 ∷ 4 ∷ 5 ∷ [])
     -- refusals are 1, 2 and 7
-    ∷ row (flagOf (refuses (reply.Error error.InvalidInput)) ∷ flagOf (refuses (reply.Error error.BadState)) ∷ flagOf (refuses (reply.Error error.WrongAnswer)) ∷ []) (1 ∷ 1 ∷ 1 ∷ [])
-    ∷ row (flagOf (refuses (reply.Exit exit.Nothing)) ∷ flagOf (refuses reply.Done) ∷ flagOf (refuses (reply.Value 1)) ∷ flagOf (refuses (reply.Ask ask.GetChar)) ∷ []) (0 ∷ 0 ∷ 0 ∷ 0 ∷ [])
-    ∷ row (flagOf (refuses (reply.Error error.Unsupported)) ∷ flagOf (refuses (reply.Error error.InvalidTrap)) ∷ flagOf (refuses (reply.Error error.DecodeFailed)) ∷ flagOf (refuses (reply.Error error.GuestMemoryFault)) ∷ []) (0 ∷ 0 ∷ 0 ∷ 0 ∷ [])
+    ∷ row (flag_of (refuses (reply.Error error.InvalidInput)) ∷ flag_of (refuses (reply.Error error.BadState)) ∷ flag_of (refuses (reply.Error error.WrongAnswer)) ∷ []) (1 ∷ 1 ∷ 1 ∷ [])
+    ∷ row (flag_of (refuses (reply.Exit exit.Nothing)) ∷ flag_of (refuses reply.Done) ∷ flag_of (refuses (reply.Value 1)) ∷ flag_of (refuses (reply.Ask ask.GetChar)) ∷ []) (0 ∷ 0 ∷ 0 ∷ 0 ∷ [])
+    ∷ row (flag_of (refuses (reply.Error error.Unsupported)) ∷ flag_of (refuses (reply.Error error.InvalidTrap)) ∷ flag_of (refuses (reply.Error error.DecodeFailed)) ∷ flag_of (refuses (reply.Error error.GuestMemoryFault)) ∷ []) (0 ∷ 0 ∷ 0 ∷ 0 ∷ [])
     -- the waiting words that a trap leaves: its kind and what the kind carries; the others stay
     ∷ row (stays waiting.Idle) (0 ∷ 22 ∷ 23 ∷ 24 ∷ [])
     ∷ row (stays (waiting.Load 5 width.Half true)) (1 ∷ 5 ∷ 2 ∷ 1 ∷ [])
@@ -187,12 +187,12 @@ further =
     -- a refusal leaves them as they were, an error does not; a host's own call leaves them as they were
     ∷ row (left waiting.Idle (reply.Error error.WrongAnswer)) (21 ∷ 22 ∷ 23 ∷ 24 ∷ [])
     ∷ row (left waiting.Idle (reply.Error error.Unsupported)) (0 ∷ 22 ∷ 23 ∷ 24 ∷ [])
-    ∷ row (waitingLeft hostCall.Setup marked reply.Done waiting.Idle) (21 ∷ 22 ∷ 23 ∷ 24 ∷ [])
-    ∷ row (waitingLeft (hostCall.CompleteLoad 0) marked reply.Done waiting.Idle) (0 ∷ 22 ∷ 23 ∷ 24 ∷ [])
-    ∷ row (waitingLeft (hostCall.New 1 2) marked reply.Done waiting.Idle) (0 ∷ 0 ∷ 0 ∷ 0 ∷ [])
+    ∷ row (waiting_left hostCall.Setup marked reply.Done waiting.Idle) (21 ∷ 22 ∷ 23 ∷ 24 ∷ [])
+    ∷ row (waiting_left (hostCall.CompleteLoad 0) marked reply.Done waiting.Idle) (0 ∷ 22 ∷ 23 ∷ 24 ∷ [])
+    ∷ row (waiting_left (hostCall.New 1 2) marked reply.Done waiting.Idle) (0 ∷ 0 ∷ 0 ∷ 0 ∷ [])
     -- docs/DECISIONS.md: a call of no known kind reads a register that isn't there
-    ∷ row (registerRead (call_by 0 1 2 3 4 5)) (32 ∷ [])
-    ∷ row (registerRead (call_by 15 1 2 3 4 5)) (32 ∷ [])
+    ∷ row (register_read (call_by 0 1 2 3 4 5)) (32 ∷ [])
+    ∷ row (register_read (call_by 15 1 2 3 4 5)) (32 ∷ [])
     ∷ []
 
 equal : List ℕ → List ℕ → Bool
@@ -207,5 +207,5 @@ all (r ∷ rs) = and (equal r.got r.wanted) (all rs)
 
 -- the whole table
 table : T (all further)
-unfolding all equal further row holding registerRead call_by gotNumbers digitNumbers taken answerNumber answerValues fetchNumber fetchValue flagOf fitted printable newOf printCount askedCount printedOf delegatedExceptions delegatedInterrupts taken_of line_of digitOf nibbleOf pushOf hexOf out_of replyValues trapLeft waitingLeft waitingCount askedWordCount waitingWords askedWords refusal refuses replyWord errorNumber put_at exitValues askValues exitNumber askNumber accessNumber abiNumber width_bytes
+unfolding all equal further row holding register_read call_by got_numbers digit_numbers taken answer_number answer_values fetch_number fetch_value flag_of fitted printable new_of print_count asked_count printed_of delegated_exceptions delegated_interrupts taken_of line_of digit_of nibble_of push_of hex_of out_of reply_values trap_left waiting_left waiting_count asked_word_count waiting_words asked_words refusal refuses reply_word error_number put_at exit_values ask_values exit_number ask_number access_number abi_number width_bytes
 table = tt

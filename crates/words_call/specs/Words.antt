@@ -2,7 +2,7 @@
 use Rattle.std.specs.Prelude.{get_or}
 use Rattle.scope.specs.declared.hosts.HostCall.{HostCall}
 use Rattle.scope.specs.declared.machine.Outcome.{Outcome}
-use Rattle.scope.specs.ReplyWords.{replyKind, replyNumber, replyValues}
+use Rattle.scope.specs.ReplyWords.{reply_kind, reply_number, reply_values}
 use Rattle.scope.specs.Words.{call_by}
 use Rattle.words_call.specs.declared.CallWords.{CallWords}
 use Rattle.words_call.specs.declared.ReplyWords.{ReplyWords}
@@ -14,11 +14,11 @@ call_of c =
     (get_or c.numbers 4 0)
 
 -- what an outcome gives beside the record
-unfoldable pub replyWordsOf : Outcome → ReplyWords
-replyWordsOf o =
+unfoldable pub reply_words_of : Outcome → ReplyWords
+reply_words_of o =
     record {
-      kind = replyKind o.reply;
-      number = replyNumber o.reply;
-      values = replyValues o.reply;
+      kind = reply_kind o.reply;
+      number = reply_number o.reply;
+      values = reply_values o.reply;
       args = o.args;
     }

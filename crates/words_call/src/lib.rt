@@ -1,12 +1,12 @@
 // A call, and what comes of it, as words. specs/Words.antt says what each word means.
 ghost use Rattle.std.specs.Prelude.{◌≡◌, take};
-ghost use Rattle.scope.specs.ReplyWords.{replyKind, replyNumber, replyValues};
+ghost use Rattle.scope.specs.ReplyWords.{reply_kind, reply_number, reply_values};
 ghost use Rattle.std.proofs.lemmas.List.Edits.{sets};
 ghost use Rattle.isa_types.specs.Pick.{pick};
 ghost use Rattle.scope.specs.Refusals.{refusal, refuses};
-ghost use Rattle.scope.specs.Words.{call_by, leftBy, waitingCount, waitingLeft, waitingWords};
-ghost use Rattle.words_call.specs.Words.{call_of, replyWordsOf};
-ghost use Rattle.scope.specs.OneTrap.{answerFor};
+ghost use Rattle.scope.specs.Words.{call_by, left_by, waiting_count, waiting_left, waiting_words};
+ghost use Rattle.words_call.specs.Words.{call_of, reply_words_of};
+ghost use Rattle.scope.specs.OneTrap.{answer_for};
 
 use isa_types::GuestPhysAddr;
 use scope::{Answer, Error, HostCall, Outcome, Record, Reply, Trap, Waiting};
@@ -93,7 +93,7 @@ fn call_by(kind: u64, a: u64, b: u64, d: u64, e: u64, f: u64) -> HostCall
 
 // The answer of this number, from its two values; a number that is no ask's fits none.
 fn answer_for(ask: u64, word: u64, more: u64) -> Answer
-    ensures { result ≡ answerFor ask word more }
+    ensures { result ≡ answer_for ask word more }
 {
     match ask {
         1 => Answer::Fetched(words_record::fetch_of(word, more)),
@@ -123,7 +123,7 @@ fn answer_for(ask: u64, word: u64, more: u64) -> Answer
 
 // What an outcome gives beside the record.
 pub fn told(o: Outcome) -> ReplyWords
-    ensures { result ≡ replyWordsOf o }
+    ensures { result ≡ reply_words_of o }
 {
     let args = o.args;
     let p = o.reply;
@@ -137,7 +137,7 @@ pub fn told(o: Outcome) -> ReplyWords
 
 // The record's words after a call with this outcome.
 pub fn left(r: Record, c: HostCall, o: Outcome) -> Record
-    ensures { result ≡ leftBy r c o }
+    ensures { result ≡ left_by r c o }
 {
     let v = o.vcpu;
     let n = v.waiting;
@@ -148,7 +148,7 @@ pub fn left(r: Record, c: HostCall, o: Outcome) -> Record
 
 // The waiting words that a call leaves: a host's own call leaves them as they were.
 fn waiting_left(c: HostCall, w: [u64; 4], p: Reply, n: Waiting) -> [u64; 4]
-    ensures { result ≡ waitingLeft c w p n }
+    ensures { result ≡ waiting_left c w p n }
 {
     match c {
         HostCall::New {
@@ -183,7 +183,7 @@ fn waiting_left(c: HostCall, w: [u64; 4], p: Reply, n: Waiting) -> [u64; 4]
 
 // A refusal leaves them too; else what waits is written over them.
 fn trap_left(refused: bool, w: [u64; 4], n: Waiting) -> [u64; 4]
-    ensures { result ≡ pick refused w (sets w 0 (take (waitingCount n) (waitingWords n))) }
+    ensures { result ≡ pick refused w (sets w 0 (take (waiting_count n) (waiting_words n))) }
 {
     if refused {
         return w;
@@ -220,7 +220,7 @@ fn refusal(e: Error) -> bool
 
 // Which of the five replies it is.
 fn reply_kind(p: Reply) -> u64
-    ensures { result ≡ replyKind p }
+    ensures { result ≡ reply_kind p }
 {
     match p {
         Reply::Exit(_) => 0,
@@ -233,7 +233,7 @@ fn reply_kind(p: Reply) -> u64
 
 // The number of the exit, ask or error.
 fn reply_number(p: Reply) -> u64
-    ensures { result ≡ replyNumber p }
+    ensures { result ≡ reply_number p }
 {
     match p {
         Reply::Exit(e) => words_numbers::exit_number(e),
@@ -246,7 +246,7 @@ fn reply_number(p: Reply) -> u64
 
 // The numbers that the reply carries, and 0 for each that it lacks.
 fn reply_values(p: Reply) -> [u64; 8]
-    ensures { result ≡ replyValues p }
+    ensures { result ≡ reply_values p }
 {
     match p {
         Reply::Exit(e) => {

@@ -7,5 +7,5 @@ use Rattle.words_call.specs.declared.ReplyWords.{ReplyWords}
 use Rattle.words_entry.specs.Words.{Exported}
 
 -- two records at exit that meet the promise are equal, and so is what is given beside them
-pub words-one-outcome : (r : Record) (c : CallWords) (s₁ s₂ : Record) (g₁ g₂ : ReplyWords) → Exported r c s₁ g₁ → Exported r c s₂ g₂ → (s₁ ≡ s₂) × (g₁ ≡ g₂)
-words-one-outcome r c s₁ s₂ g₁ g₂ e₁ e₂ = (e₁.0 ∙ sym e₂.0, e₁.1 ∙ sym e₂.1)
+pub words_one_outcome : (r : Record) (c : CallWords) (s₁ s₂ : Record) (g₁ g₂ : ReplyWords) → Exported r c s₁ g₁ → Exported r c s₂ g₂ → (s₁ ≡ s₂) × (g₁ ≡ g₂)
+words_one_outcome r c s₁ s₂ g₁ g₂ e₁ e₂ = (e₁.0 ∙ sym e₂.0, e₁.1 ∙ sym e₂.1)

@@ -1,7 +1,7 @@
 // The entry as the host's compiler sees it: one exported function over words. words_record has the record, and words_call
 // a call and what it gives back.
 ghost use Rattle.std.specs.Prelude.{◌≡◌};
-ghost use Rattle.words_entry.specs.Words.{Exported, exportedOf};
+ghost use Rattle.words_entry.specs.Words.{Exported, exported_of};
 
 use scope::Record;
 use words_call::{After, CallWords, ReplyWords};
@@ -18,7 +18,7 @@ pub extern "C" fn vcpu_call(v: &mut Record, c: CallWords) -> ReplyWords
 
 // The same by value.
 pub fn step(r: Record, c: CallWords) -> After
-    ensures { result ≡ exportedOf r c }
+    ensures { result ≡ exported_of r c }
 {
     let h = words_call::call_of(c);
     let o = by_value_entry::call(words_record::unpack(r), h);

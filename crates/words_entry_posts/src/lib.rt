@@ -1,7 +1,7 @@
 // A row of posts as the host's compiler sees it: one exported function over words. words_record has the record. 02, W4.
 ghost use Rattle.std.specs.Prelude.{◌≡◌};
-ghost use Rattle.scope.specs.Words.{laidWith};
-ghost use Rattle.words_entry_posts.specs.Words.{ExportedRow, exportedRow};
+ghost use Rattle.scope.specs.Words.{laid_with};
+ghost use Rattle.words_entry_posts.specs.Words.{ExportedRow, exported_row};
 
 use scope::{Post, Posted, Record, RowOutcome};
 
@@ -25,7 +25,7 @@ pub extern "C" fn vcpu_call_posts(v: &mut Record, posts: &[Post]) -> Posted
 
 // The same by value. A walk by hand proves it.
 pub fn post(r: Record, posts: &[Post]) -> AfterRow
-    ensures { result ≡ exportedRow r posts.now }
+    ensures { result ≡ exported_row r posts.now }
 {
     let v = words_record::unpack(r);
     let o = by_value_posts::post(v, posts);
@@ -34,7 +34,7 @@ pub fn post(r: Record, posts: &[Post]) -> AfterRow
 
 // The words of the outcome; those of what waits stay.
 fn told(r: Record, o: RowOutcome) -> AfterRow
-    ensures { result ≡ record { rec = laidWith o.vcpu r.waiting; posted = o.posted } }
+    ensures { result ≡ record { rec = laid_with o.vcpu r.waiting; posted = o.posted } }
 {
     let v = o.vcpu;
     let w = r.waiting;

@@ -1,15 +1,15 @@
 // The numbers that 01 gives to exits, asks, answers and errors, and those that they carry. scope/specs/OneTrap.antt and
 // Refusals.antt define them.
 ghost use Rattle.std.specs.Prelude.{◌≡◌};
-ghost use Rattle.scope.specs.OneTrap.{answerNumber, askNumber, exitNumber, abiNumber, accessNumber, width_bytes, askValues, exitValues, flagOf};
-ghost use Rattle.scope.specs.Refusals.{errorNumber};
+ghost use Rattle.scope.specs.OneTrap.{answer_number, ask_number, exit_number, abi_number, access_number, width_bytes, ask_values, exit_values, flag_of};
+ghost use Rattle.scope.specs.Refusals.{error_number};
 
 use isa_types::Width;
 use scope::{Access, Answer, Ask, Error, Exit, IpiAbi};
 
 // The number of an exit.
 pub fn exit_number(e: Exit) -> u64
-    ensures { result ≡ exitNumber e }
+    ensures { result ≡ exit_number e }
 {
     match e {
         Exit::Nothing => 0,
@@ -36,7 +36,7 @@ pub fn exit_number(e: Exit) -> u64
 
 // The number of the ask that an answer is to.
 pub fn answer_number(a: Answer) -> u64
-    ensures { result ≡ answerNumber a }
+    ensures { result ≡ answer_number a }
 {
     match a {
         Answer::Fetched(_) => 1,
@@ -54,7 +54,7 @@ pub fn answer_number(a: Answer) -> u64
 
 // The number of an error.
 pub fn error_number(e: Error) -> u64
-    ensures { result ≡ errorNumber e }
+    ensures { result ≡ error_number e }
 {
     match e {
         Error::InvalidInput => 1,
@@ -69,7 +69,7 @@ pub fn error_number(e: Error) -> u64
 
 // The number of an ask.
 pub fn ask_number(a: Ask) -> u64
-    ensures { result ≡ askNumber a }
+    ensures { result ≡ ask_number a }
 {
     match a {
         Ask::Fetch {
@@ -105,7 +105,7 @@ pub fn width_bytes(w: Width) -> u64
 
 // The flag of an access.
 pub fn access_number(a: Access) -> u64
-    ensures { result ≡ accessNumber a }
+    ensures { result ≡ access_number a }
 {
     match a {
         Access::Read => 1,
@@ -116,7 +116,7 @@ pub fn access_number(a: Access) -> u64
 
 // The calling convention's number.
 pub fn abi_number(a: IpiAbi) -> u64
-    ensures { result ≡ abiNumber a }
+    ensures { result ≡ abi_number a }
 {
     match a {
         IpiAbi::Legacy => 0,
@@ -126,7 +126,7 @@ pub fn abi_number(a: IpiAbi) -> u64
 
 // The numbers that an exit carries, in order, and 0 for each that it lacks.
 pub fn exit_values(e: Exit) -> [u64; 3]
-    ensures { result ≡ exitValues e }
+    ensures { result ≡ exit_values e }
 {
     match e {
         Exit::Nothing => [0, 0, 0],
@@ -152,7 +152,7 @@ pub fn exit_values(e: Exit) -> [u64; 3]
 
 // The numbers that an ask carries, in order, and 0 for each that it lacks.
 pub fn ask_values(a: Ask) -> [u64; 8]
-    ensures { result ≡ askValues a }
+    ensures { result ≡ ask_values a }
 {
     match a {
         Ask::Fetch { at, supervisor } => [at.0, flag(supervisor), 0, 0, 0, 0, 0, 0],
@@ -170,7 +170,7 @@ pub fn ask_values(a: Ask) -> [u64; 8]
 }
 
 fn flag(b: bool) -> u64
-    ensures { result ≡ flagOf b }
+    ensures { result ≡ flag_of b }
 {
     if b {
         return 1;

@@ -12,34 +12,34 @@ use Rattle.scope.specs.Words.{width_of}
 abbrev wider : Bool → ℕ → ℕ
 wider here before = pick here 0 before
 
-wider-low : (here : Bool) (n : ℕ) → n ≤ 1 → wider here n ≤ 1
-wider-low true n h = omega arith
-wider-low false n h = h
+wider_low : (here : Bool) (n : ℕ) → n ≤ 1 → wider here n ≤ 1
+wider_low true n h = omega arith
+wider_low false n h = h
 
 byte_low : (a : Bool) → wider a 1 ≤ 1
-byte_low a = wider-low a 1 (omega arith)
+byte_low a = wider_low a 1 (omega arith)
 
-half-low : (a b : Bool) → wider b (wider a 1) ≤ 1
-half-low a b = wider-low b (wider a 1) (byte_low a)
+half_low : (a b : Bool) → wider b (wider a 1) ≤ 1
+half_low a b = wider_low b (wider a 1) (byte_low a)
 
-two-by : (a b : Bool) → wider a 1 + wider b (wider a 1) < 2 ^ 64
-two-by a b =
+two_by : (a b : Bool) → wider a 1 + wider b (wider a 1) < 2 ^ 64
+two_by a b =
     let x : wider a 1 ≤ 1 = byte_low a in
-    let y : wider b (wider a 1) ≤ 1 = half-low a b in
+    let y : wider b (wider a 1) ≤ 1 = half_low a b in
     omega arith
 
-three-by : (a b c : Bool) → wider a 1 + wider b (wider a 1) + wider c (wider b (wider a 1)) < 2 ^ 64
-three-by a b c =
+three_by : (a b c : Bool) → wider a 1 + wider b (wider a 1) + wider c (wider b (wider a 1)) < 2 ^ 64
+three_by a b c =
     let x : wider a 1 ≤ 1 = byte_low a in
-    let y : wider b (wider a 1) ≤ 1 = half-low a b in
-    let z : wider c (wider b (wider a 1)) ≤ 1 = wider-low c (wider b (wider a 1)) (half-low a b) in
+    let y : wider b (wider a 1) ≤ 1 = half_low a b in
+    let z : wider c (wider b (wider a 1)) ≤ 1 = wider_low c (wider b (wider a 1)) (half_low a b) in
     omega arith
 
-pub two-fit : (n : ℕ) → wider (eqb n 1) 1 + wider (eqb n 2) (wider (eqb n 1) 1) < 2 ^ 64
-two-fit n = two-by (eqb n 1) (eqb n 2)
+pub two_fit : (n : ℕ) → wider (eqb n 1) 1 + wider (eqb n 2) (wider (eqb n 1) 1) < 2 ^ 64
+two_fit n = two_by (eqb n 1) (eqb n 2)
 
-pub three-fit : (n : ℕ) → wider (eqb n 1) 1 + wider (eqb n 2) (wider (eqb n 1) 1) + wider (eqb n 4) (wider (eqb n 2) (wider (eqb n 1) 1)) < 2 ^ 64
-three-fit n = three-by (eqb n 1) (eqb n 2) (eqb n 4)
+pub three_fit : (n : ℕ) → wider (eqb n 1) 1 + wider (eqb n 2) (wider (eqb n 1) 1) + wider (eqb n 4) (wider (eqb n 2) (wider (eqb n 1) 1)) < 2 ^ 64
+three_fit n = three_by (eqb n 1) (eqb n 2) (eqb n 4)
 
 placed : (a b c : Bool) → width_at (wider a 1 + wider b (wider a 1) + wider c (wider b (wider a 1))) ≡ pick a width.Byte (pick b width.Half (pick c width.Word width.Double))
 unfolding width_at
@@ -52,6 +52,6 @@ placed false true false = refl
 placed false false true = refl
 placed false false false = refl
 
-pub width-placed : (n : ℕ) → width_at (wider (eqb n 1) 1 + wider (eqb n 2) (wider (eqb n 1) 1) + wider (eqb n 4) (wider (eqb n 2) (wider (eqb n 1) 1))) ≡ width_of n
+pub width_placed : (n : ℕ) → width_at (wider (eqb n 1) 1 + wider (eqb n 2) (wider (eqb n 1) 1) + wider (eqb n 4) (wider (eqb n 2) (wider (eqb n 1) 1))) ≡ width_of n
 unfolding width_of width_bytes
-width-placed n = placed (eqb n 1) (eqb n 2) (eqb n 4)
+width_placed n = placed (eqb n 1) (eqb n 2) (eqb n 4)

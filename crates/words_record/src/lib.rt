@@ -1,8 +1,8 @@
 // The vCPU record in words, and the numbers of what a call is given, as the host's compiler sees them.
 ghost use Rattle.std.specs.Prelude.{◌≡◌, [], ◌∷◌, set, take};
-ghost use Rattle.scope.specs.OneTrap.{flagOf, fetchOf};
+ghost use Rattle.scope.specs.OneTrap.{flag_of, fetch_of};
 ghost use Rattle.std.proofs.lemmas.List.Edits.{sets};
-ghost use Rattle.scope.specs.Words.{abiOf, askedWordCount, waitingCount, accessOf, completionOf, csrsOf, csrsWords, laidWith, tested, unpackOf, waitingBy, waitingOf, waitingWords, width_of, askedWords};
+ghost use Rattle.scope.specs.Words.{abi_of, asked_word_count, waiting_count, access_of, completion_of, csrs_of, csrs_words, laid_with, tested, unpack_of, waiting_by, waiting_of, waiting_words, width_of, asked_words};
 
 use isa_types::{GuestPhysAddr, GuestVirtAddr, Width};
 use scope::{
@@ -12,7 +12,7 @@ use scope::{
 
 // The record that words stand for.
 pub fn unpack(r: Record) -> Vcpu
-    ensures { result ≡ unpackOf r }
+    ensures { result ≡ unpack_of r }
 {
     let x = r.x;
     let counts = r.counts;
@@ -28,7 +28,7 @@ pub fn unpack(r: Record) -> Vcpu
 
 // The words of a record, but these four for what waits.
 pub fn lay(v: Vcpu, waiting: [u64; 4]) -> Record
-    ensures { result ≡ laidWith v waiting }
+    ensures { result ≡ laid_with v waiting }
 {
     let x = v.x;
     let counts = v.counts;
@@ -43,7 +43,7 @@ pub fn lay(v: Vcpu, waiting: [u64; 4]) -> Record
 
 // The CSRs that words stand for.
 pub fn csrs_of(c: [u64; 13]) -> Csrs
-    ensures { result ≡ csrsOf c }
+    ensures { result ≡ csrs_of c }
 {
     let guest = GuestCsrs {
         sepc: c[0],
@@ -69,7 +69,7 @@ pub fn csrs_of(c: [u64; 13]) -> Csrs
 
 // The words of the CSRs.
 pub fn csrs_words(c: Csrs) -> [u64; 13]
-    ensures { result ≡ csrsWords c }
+    ensures { result ≡ csrs_words c }
 {
     [
         c.guest.sepc,
@@ -90,14 +90,14 @@ pub fn csrs_words(c: Csrs) -> [u64; 13]
 
 // What waits, of words. An unknown kind is read as nothing waiting.
 pub fn waiting_of(w: [u64; 4]) -> Waiting
-    ensures { result ≡ waitingOf w }
+    ensures { result ≡ waiting_of w }
 {
     waiting_by(w[0], w[1], w[2], w[3])
 }
 
 // By its kind, so that the match is on a parameter.
 pub fn waiting_by(kind: u64, a: u64, b: u64, c: u64) -> Waiting
-    ensures { result ≡ waitingBy kind a b c }
+    ensures { result ≡ waiting_by kind a b c }
 {
     match kind {
         1 => Waiting::Load {
@@ -128,7 +128,7 @@ pub fn waiting_by(kind: u64, a: u64, b: u64, c: u64) -> Waiting
 
 // The words of what waits.
 pub fn waiting_words(w: Waiting) -> [u64; 4]
-    ensures { result ≡ waitingWords w }
+    ensures { result ≡ waiting_words w }
 {
     match w {
         Waiting::Idle => [0, 0, 0, 0],
@@ -146,7 +146,7 @@ pub fn waiting_words(w: Waiting) -> [u64; 4]
 
 // The words of an ecall's ask.
 fn asked_words(a: EcallAsk) -> [u64; 4]
-    ensures { result ≡ askedWords a }
+    ensures { result ≡ asked_words a }
 {
     match a {
         EcallAsk::CopyMask => [4, 0, 0, 0],
@@ -163,7 +163,7 @@ fn asked_words(a: EcallAsk) -> [u64; 4]
 
 // The waiting words where this waits after what they held: those that it has a use for, and the others as they were.
 pub fn waiting_over(old: [u64; 4], w: Waiting) -> [u64; 4]
-    ensures { result ≡ sets old 0 (take (waitingCount w) (waitingWords w)) }
+    ensures { result ≡ sets old 0 (take (waiting_count w) (waiting_words w)) }
 {
     match w {
         Waiting::Idle => one(old, 0),
@@ -180,7 +180,7 @@ pub fn waiting_over(old: [u64; 4], w: Waiting) -> [u64; 4]
 }
 
 fn asked_over(old: [u64; 4], a: EcallAsk) -> [u64; 4]
-    ensures { result ≡ sets old 0 (take (askedWordCount a) (askedWords a)) }
+    ensures { result ≡ sets old 0 (take (asked_word_count a) (asked_words a)) }
 {
     match a {
         EcallAsk::CopyMask => one(old, 4),
@@ -233,7 +233,7 @@ fn fourth(old: [u64; 4], c: u64) -> [u64; 4]
 
 // A fetch's result: the word, or the fault of this number; an unknown number is read as an unhandled fault.
 pub fn fetch_of(word: u64, fault: u64) -> Fetch
-    ensures { result ≡ fetchOf word fault }
+    ensures { result ≡ fetch_of word fault }
 {
     match fault {
         0 => Fetch::Word((word % 4294967296) as u32),
@@ -258,7 +258,7 @@ pub fn width_of(n: u64) -> Width
 
 // The access of this flag; any other number is read as execute.
 pub fn access_of(n: u64) -> Access
-    ensures { result ≡ accessOf n }
+    ensures { result ≡ access_of n }
 {
     match n {
         1 => Access::Read,
@@ -269,7 +269,7 @@ pub fn access_of(n: u64) -> Access
 
 // The calling convention of this number; any other than 0 is read as v0.2.
 pub fn abi_of(n: u64) -> IpiAbi
-    ensures { result ≡ abiOf n }
+    ensures { result ≡ abi_of n }
 {
     match n {
         0 => IpiAbi::Legacy,
@@ -279,7 +279,7 @@ pub fn abi_of(n: u64) -> IpiAbi
 
 // What the host made of an IPI request, by SBI's number; any other than 0 and -3 is read as a failure.
 pub fn completion_of(n: u64) -> IpiCompletion
-    ensures { result ≡ completionOf n }
+    ensures { result ≡ completion_of n }
 {
     match n {
         0 => IpiCompletion::Success,
@@ -300,7 +300,7 @@ pub fn test(n: u64) -> bool
 
 // A test as a word.
 pub fn flag(b: bool) -> u64
-    ensures { result ≡ flagOf b }
+    ensures { result ≡ flag_of b }
 {
     if b {
         return 1;

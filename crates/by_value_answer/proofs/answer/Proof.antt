@@ -1,5 +1,5 @@
 -- `by_value_answer::answer` meets its contract.
-use Rattle.scope.specs.Answers.{answerEffect}
+use Rattle.scope.specs.Answers.{answer_effect}
 use borrow.Author.Rules.{rules}
 use Rattle.by_value_answer.proofs.answer.Statement.{statement}
 use Rattle.by_value_answer.proofs.answer.Tie as tie
@@ -14,8 +14,8 @@ matched-requires : tie.Need-matched-requires
 matched-requires c κs = search rules
 
 returns : tie.Need-returns
-unfolding answerEffect
-returns c = simp (c.matched.ensures, c.before.answer-number.ensures, c.before.before.ask-of.ensures)
+unfolding answer_effect
+returns c = simp (c.matched.ensures, c.before.answer_number_lem.ensures, c.before.before.ask-of.ensures)
 
-pub answer-spec : {M : Type 1} → statement M
-answer-spec = tie.close (tie.spec ask-of-requires answer-number-requires matched-requires returns)
+pub answer_spec : {M : Type 1} → statement M
+answer_spec = tie.close (tie.spec ask-of-requires answer-number-requires matched-requires returns)

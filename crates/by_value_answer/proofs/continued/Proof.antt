@@ -1,6 +1,6 @@
 -- `by_value_answer::continued` meets its contract.
-use Rattle.scope.specs.Answers.{fittingEffect, valuesEffect}
-use Rattle.scope.specs.OneTrap.{answerValues}
+use Rattle.scope.specs.Answers.{fitting_effect, values_effect}
+use Rattle.scope.specs.OneTrap.{answer_values}
 use borrow.Author.Rules.{rules}
 use Rattle.by_value_answer.proofs.continued.Statement.{statement}
 use Rattle.by_value_answer.proofs.continued.Tie as tie
@@ -66,47 +66,47 @@ refused-requires : tie.Need-refused-requires
 refused-requires c κs = search rules
 
 returns : tie.Need-returns
-unfolding fittingEffect valuesEffect answerValues
+unfolding fitting_effect values_effect answer_values
 returns c = simp (c.fetched.ensures, c.before.before.a.given.1)
 
 returns-2 : tie.Need-returns-2
-unfolding fittingEffect valuesEffect answerValues
+unfolding fitting_effect values_effect answer_values
 returns-2 c = simp (c.numbers.ensures, c.before.before.a2.given.1)
 
 returns-3 : tie.Need-returns-3
-unfolding fittingEffect valuesEffect answerValues
+unfolding fitting_effect values_effect answer_values
 returns-3 c = simp (c.numbers2.ensures, c.before.before.a3.given.1)
 
 returns-4 : tie.Need-returns-4
-unfolding fittingEffect valuesEffect answerValues
+unfolding fitting_effect values_effect answer_values
 returns-4 c = simp (c.numbers3.ensures, c.before.before.a4.given.1)
 
 returns-5 : tie.Need-returns-5
-unfolding fittingEffect valuesEffect answerValues
+unfolding fitting_effect values_effect answer_values
 returns-5 c = simp (c.numbers4.ensures, c.before.before.a5.given.1)
 
 returns-6 : tie.Need-returns-6
-unfolding fittingEffect valuesEffect answerValues
+unfolding fitting_effect values_effect answer_values
 returns-6 c = simp (c.numbers5.ensures, c.before.before.a6.given.1)
 
 returns-7 : tie.Need-returns-7
-unfolding fittingEffect valuesEffect answerValues
+unfolding fitting_effect values_effect answer_values
 returns-7 c = simp (c.numbers6.ensures, c.before.enum_told.given.1)
 
 returns-8 : tie.Need-returns-8
-unfolding fittingEffect valuesEffect answerValues
+unfolding fitting_effect values_effect answer_values
 returns-8 c = simp (c.numbers7.ensures, c.before.before.a7.given.1)
 
 returns-9 : tie.Need-returns-9
-unfolding fittingEffect valuesEffect answerValues
+unfolding fitting_effect values_effect answer_values
 returns-9 c = simp (c.numbers8.ensures, c.before.before.a8.given.1)
 
 returns-10 : tie.Need-returns-10
-unfolding fittingEffect valuesEffect answerValues
+unfolding fitting_effect values_effect answer_values
 returns-10 c = simp (c.refused.ensures, c.before.enum-told2.given.1)
 
-pub continued-spec : {M : Type 1} → statement M
-continued-spec =
+pub continued_spec : {M : Type 1} → statement M
+continued_spec =
     tie.close
     (tie.spec
     enum-known-a

@@ -16,5 +16,5 @@ refused-requires c κs = search rules
 returns-2 : tie.Need-returns-2
 returns-2 c = simp (c.refused.ensures, ne_eqb _ _ c.before.if1.false)
 
-pub matched-spec : {M : Type 1} → statement M
-matched-spec = tie.close (tie.spec continued-requires returns refused-requires returns-2)
+pub matched_spec : {M : Type 1} → statement M
+matched_spec = tie.close (tie.spec continued-requires returns refused-requires returns-2)

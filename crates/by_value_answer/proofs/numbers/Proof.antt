@@ -1,5 +1,5 @@
 -- `by_value_answer::numbers` meets its contract.
-use Rattle.scope.specs.Answers.{numbersEffect}
+use Rattle.scope.specs.Answers.{numbers_effect}
 use borrow.Author.Rules.{rules}
 use Rattle.by_value_answer.proofs.numbers.Statement.{statement}
 use Rattle.by_value_answer.proofs.numbers.Tie as tie
@@ -38,27 +38,27 @@ answered-requires : tie.Need-answered-requires
 answered-requires c κs = search rules
 
 returns : tie.Need-returns
-unfolding numbersEffect
+unfolding numbers_effect
 returns c = simp (c.refused.ensures, c.before.enum_told.given.1)
 
 returns-2 : tie.Need-returns-2
-unfolding numbersEffect
+unfolding numbers_effect
 returns-2 c = simp (c.refused2.ensures, c.before.enum-told2.given.1)
 
 returns-3 : tie.Need-returns-3
-unfolding numbersEffect
+unfolding numbers_effect
 returns-3 c = simp (c.refused3.ensures, c.before.enum-told3.given.1)
 
 returns-4 : tie.Need-returns-4
-unfolding numbersEffect
+unfolding numbers_effect
 returns-4 c = simp (c.refused4.ensures, c.before.enum-told4.given.1)
 
 returns-5 : tie.Need-returns-5
-unfolding numbersEffect
+unfolding numbers_effect
 returns-5 c = simp (c.answered.ensures, c.before.decide.ensures, c.before.before.before.w.given.1)
 
-pub numbers-spec : {M : Type 1} → statement M
-numbers-spec =
+pub numbers_spec : {M : Type 1} → statement M
+numbers_spec =
     tie.close
     (tie.spec
     enum_told

@@ -1,5 +1,5 @@
 -- `by_value_answer::resumed` meets its contract.
-use Rattle.scope.specs.Answers.{wordEffect}
+use Rattle.scope.specs.Answers.{word_effect}
 use borrow.Author.Rules.{rules}
 use Rattle.by_value_answer.proofs.resumed.Statement.{statement}
 use Rattle.by_value_answer.proofs.resumed.Tie as tie
@@ -47,27 +47,27 @@ refused-requires-3 : tie.Need-refused-requires-3
 refused-requires-3 c κs = search rules
 
 returns : tie.Need-returns
-unfolding wordEffect
+unfolding word_effect
 returns c = simp (c.refused.ensures, c.before.enum_told.given.1)
 
 returns-2 : tie.Need-returns-2
-unfolding wordEffect
+unfolding word_effect
 returns-2 c = simp (c.refused2.ensures, c.before.enum-told2.given.1)
 
 returns-3 : tie.Need-returns-3
-unfolding wordEffect
+unfolding word_effect
 returns-3 c = simp (c.csr.ensures, c.before.decide.ensures, c.before.before.register.ensures, c.before.before.before.rs1.ensures, c.before.before.before.before.enum-told3.given.1)
 
 returns-4 : tie.Need-returns-4
-unfolding wordEffect
+unfolding word_effect
 returns-4 c = simp (c.mmio.ensures, c.before.from-fetched.ensures, c.before.before.before.w.given.1)
 
 returns-5 : tie.Need-returns-5
-unfolding wordEffect
+unfolding word_effect
 returns-5 c = simp (c.refused3.ensures, c.before.enum-told4.given.1)
 
-pub resumed-spec : {M : Type 1} → statement M
-resumed-spec =
+pub resumed_spec : {M : Type 1} → statement M
+resumed_spec =
     tie.close
     (tie.spec
     enum_told

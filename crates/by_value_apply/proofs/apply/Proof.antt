@@ -14,5 +14,5 @@ returns : tie.Need-returns
 unfolding applied listed
 returns c = simp (c.before.count.ensures, c.before.before.before.store.ensures)
 
-pub apply-spec : {M : Type 1} → statement M
-apply-spec = tie.close (tie.spec store-requires count-requires returns)
+pub apply_spec : {M : Type 1} → statement M
+apply_spec = tie.close (tie.spec store-requires count-requires returns)

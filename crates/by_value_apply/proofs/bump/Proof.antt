@@ -35,8 +35,8 @@ returns-3 : tie.Need-returns-3
 unfolding bumped
 returns-3 c = simp (le-ltb _ _ c.if2.false, le-leb _ _ c.if2.false, ne_eqb _ _ c.before.if1.false)
 
-pub bump-spec : {M : Type 1} → statement M
-bump-spec =
+pub bump_spec : {M : Type 1} → statement M
+bump_spec =
     tie.close
     (tie.spec
     returns

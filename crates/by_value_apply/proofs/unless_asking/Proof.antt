@@ -1,5 +1,5 @@
 -- `by_value_apply::unless_asking` meets its contract.
-use Rattle.scope.specs.Refusals.{unlessAsking}
+use Rattle.scope.specs.Refusals.{unless_asking}
 use Rattle.by_value_apply.proofs.unless_asking.Statement.{statement}
 use Rattle.by_value_apply.proofs.unless_asking.Tie as tie
 use borrow.Author.Rules.{rules}
@@ -14,8 +14,8 @@ apply-requires : tie.Need-apply-requires
 apply-requires c κs = search rules
 
 returns : tie.Need-returns
-unfolding unlessAsking
+unfolding unless_asking
 returns c = simp (c.apply.ensures, c.before.guarded.ensures, c.before.before.ask-of.ensures)
 
-pub unless-asking-spec : {M : Type 1} → statement M
-unless-asking-spec = tie.close (tie.spec ask-of-requires guarded-requires apply-requires returns)
+pub unless_asking_spec : {M : Type 1} → statement M
+unless_asking_spec = tie.close (tie.spec ask-of-requires guarded-requires apply-requires returns)

@@ -1,5 +1,5 @@
 -- `by_value_classes::ask_fetch` meets its contract.
-use Rattle.scope.specs.VirtualInstruction.{askFetchOf}
+use Rattle.scope.specs.VirtualInstruction.{ask_fetch_of}
 use borrow.Author.Rules.{rules}
 use Rattle.by_value_classes.proofs.ask_fetch.Statement.{statement}
 use Rattle.by_value_classes.proofs.ask_fetch.Tie as tie
@@ -11,8 +11,8 @@ asking-requires : tie.Need-asking-requires
 asking-requires c κs = search rules
 
 returns : tie.Need-returns
-unfolding askFetchOf
+unfolding ask_fetch_of
 returns c = simp (c.asking.ensures, c.before.spvp.ensures)
 
-pub ask-fetch-spec : {M : Type 1} → statement M
-ask-fetch-spec = tie.close (tie.spec spvp-requires asking-requires returns)
+pub ask_fetch_spec : {M : Type 1} → statement M
+ask_fetch_spec = tie.close (tie.spec spvp-requires asking-requires returns)

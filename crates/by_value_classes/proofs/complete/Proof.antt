@@ -1,5 +1,5 @@
 -- `by_value_classes::complete` meets its contract.
-use Rattle.scope.specs.GuestPageFault.{completedOf}
+use Rattle.scope.specs.GuestPageFault.{completed_of}
 use borrow.Author.Rules.{rules}
 use Rattle.by_value_classes.proofs.complete.Statement.{statement}
 use Rattle.by_value_classes.proofs.complete.Tie as tie
@@ -38,27 +38,27 @@ refused-requires-4 : tie.Need-refused-requires-4
 refused-requires-4 c κs = search rules
 
 returns : tie.Need-returns
-unfolding completedOf
+unfolding completed_of
 returns c = simp (c.refused.ensures, c.before.enum_told.given.1)
 
 returns-2 : tie.Need-returns-2
-unfolding completedOf
+unfolding completed_of
 returns-2 c = simp (c.done.ensures, c.before.extend.ensures, c.before.before.before.w.given.1)
 
 returns-3 : tie.Need-returns-3
-unfolding completedOf
+unfolding completed_of
 returns-3 c = simp (c.refused2.ensures, c.before.enum-told2.given.1)
 
 returns-4 : tie.Need-returns-4
-unfolding completedOf
+unfolding completed_of
 returns-4 c = simp (c.refused3.ensures, c.before.enum-told3.given.1)
 
 returns-5 : tie.Need-returns-5
-unfolding completedOf
+unfolding completed_of
 returns-5 c = simp (c.refused4.ensures, c.before.enum-told4.given.1)
 
-pub complete-spec : {M : Type 1} → statement M
-complete-spec =
+pub complete_spec : {M : Type 1} → statement M
+complete_spec =
     tie.close
     (tie.spec
     enum_told

@@ -1,5 +1,5 @@
 -- `by_value_classes::csr` meets its contract.
-use Rattle.scope.specs.VirtualInstruction.{stimecmpEffect}
+use Rattle.scope.specs.VirtualInstruction.{stimecmp_effect}
 use borrow.Author.Rules.{rules}
 use Rattle.by_value_classes.proofs.csr.Statement.{statement}
 use Rattle.by_value_classes.proofs.csr.Tie as tie
@@ -29,19 +29,19 @@ finished-requires : tie.Need-finished-requires
 finished-requires c κs = search rules
 
 returns : tie.Need-returns
-unfolding stimecmpEffect
+unfolding stimecmp_effect
 returns c = simp (c.failed.ensures, c.before.enum_told.given.1)
 
 returns-2 : tie.Need-returns-2
-unfolding stimecmpEffect
+unfolding stimecmp_effect
 returns-2 c = simp (c.ask-fetch.ensures, c.before.enum-told2.given.1)
 
 returns-3 : tie.Need-returns-3
-unfolding stimecmpEffect
+unfolding stimecmp_effect
 returns-3 c = simp (c.finished.ensures, c.before.advance.ensures, c.before.before.with-timer.ensures, c.before.before.before.before.d.given.1)
 
-pub csr-spec : {M : Type 1} → statement M
-csr-spec =
+pub csr_spec : {M : Type 1} → statement M
+csr_spec =
     tie.close
     (tie.spec
     enum_told

@@ -1,5 +1,5 @@
 -- `by_value_classes::fault` meets its contract.
-use Rattle.scope.specs.GuestPageFault.{faultEffect}
+use Rattle.scope.specs.GuestPageFault.{fault_effect}
 use borrow.Author.Rules.{rules}
 use Rattle.by_value_classes.proofs.fault.Statement.{statement}
 use Rattle.by_value_classes.proofs.fault.Tie as tie
@@ -47,31 +47,31 @@ finished-requires-2 : tie.Need-finished-requires-2
 finished-requires-2 c κs = search rules
 
 returns : tie.Need-returns
-unfolding faultEffect
+unfolding fault_effect
 returns c = simp (c.ask-fetch.ensures, c.before.enum_told.given.1)
 
 returns-2 : tie.Need-returns-2
-unfolding faultEffect
+unfolding fault_effect
 returns-2 c = simp (c.failed.ensures, c.before.enum-told2.given.1)
 
 returns-3 : tie.Need-returns-3
-unfolding faultEffect
+unfolding fault_effect
 returns-3 c = simp (c.failed2.ensures, c.before.enum-told3.given.1)
 
 returns-4 : tie.Need-returns-4
-unfolding faultEffect
+unfolding fault_effect
 returns-4 c = simp (c.finished.ensures, c.before.enum-told4.given.1)
 
 returns-5 : tie.Need-returns-5
-unfolding faultEffect
+unfolding fault_effect
 returns-5 c = simp (c.no-args.ensures, c.before.advance.ensures, c.before.before.before.d.given.1)
 
 returns-6 : tie.Need-returns-6
-unfolding faultEffect
+unfolding fault_effect
 returns-6 c = simp (c.finished2.ensures, c.before.advance2.ensures, c.before.before.before.d2.given.1)
 
-pub fault-spec : {M : Type 1} → statement M
-fault-spec =
+pub fault_spec : {M : Type 1} → statement M
+fault_spec =
     tie.close
     (tie.spec
     enum_told

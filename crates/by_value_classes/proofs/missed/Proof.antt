@@ -1,5 +1,5 @@
 -- `by_value_classes::missed` meets its contract.
-use Rattle.scope.specs.VirtualInstruction.{missedEffect}
+use Rattle.scope.specs.VirtualInstruction.{missed_effect}
 use borrow.Author.Rules.{rules}
 use Rattle.by_value_classes.proofs.missed.Statement.{statement}
 use Rattle.by_value_classes.proofs.missed.Tie as tie
@@ -26,19 +26,19 @@ failed-requires : tie.Need-failed-requires
 failed-requires c κs = search rules
 
 returns : tie.Need-returns
-unfolding missedEffect
+unfolding missed_effect
 returns c = simp (c.finished.ensures, c.before.inject.ensures, c.before.before.before.m.given.1)
 
 returns-2 : tie.Need-returns-2
-unfolding missedEffect
+unfolding missed_effect
 returns-2 c = simp (c.finished2.ensures, c.before.before.m2.given.1)
 
 returns-3 : tie.Need-returns-3
-unfolding missedEffect
+unfolding missed_effect
 returns-3 c = simp (c.failed.ensures, c.before.enum_told.given.1)
 
-pub missed-spec : {M : Type 1} → statement M
-missed-spec =
+pub missed_spec : {M : Type 1} → statement M
+missed_spec =
     tie.close
     (tie.spec
     enum-known-m

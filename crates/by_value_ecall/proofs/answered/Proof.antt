@@ -1,5 +1,5 @@
 -- `by_value_ecall::answered` meets its contract.
-use Rattle.scope.specs.Decided.{answeredEffect}
+use Rattle.scope.specs.Decided.{answered_effect}
 use borrow.Author.Rules.{rules}
 use Rattle.by_value_ecall.proofs.answered.Statement.{statement}
 use Rattle.by_value_ecall.proofs.answered.Tie as tie
@@ -41,31 +41,31 @@ asks-requires-2 : tie.Need-asks-requires-2
 asks-requires-2 c κs = search rules
 
 returns : tie.Need-returns
-unfolding answeredEffect
+unfolding answered_effect
 returns c = simp (c.moves.ensures, c.before.enum_told.given.1)
 
 returns-2 : tie.Need-returns-2
-unfolding answeredEffect
+unfolding answered_effect
 returns-2 c = simp (c.gives.ensures, c.before.before.d.given.1)
 
 returns-3 : tie.Need-returns-3
-unfolding answeredEffect
+unfolding answered_effect
 returns-3 c = simp (c.returns.ensures, c.before.before.d2.given.1)
 
 returns-4 : tie.Need-returns-4
-unfolding answeredEffect
+unfolding answered_effect
 returns-4 c = simp (c.moves2.ensures, c.before.before.d3.given.1)
 
 returns-5 : tie.Need-returns-5
-unfolding answeredEffect
+unfolding answered_effect
 returns-5 c = simp (c.asks.ensures, c.before.before.d4.given.1)
 
 returns-6 : tie.Need-returns-6
-unfolding answeredEffect
+unfolding answered_effect
 returns-6 c = simp (c.asks2.ensures, c.before.before.d5.given.1)
 
-pub answered-spec : {M : Type 1} → statement M
-answered-spec =
+pub answered_spec : {M : Type 1} → statement M
+answered_spec =
     tie.close
     (tie.spec
     enum_told

@@ -1,5 +1,5 @@
 -- `by_value_ecall::clear_ipi` meets its contract.
-use Rattle.scope.specs.Ecalls.{clearIpiOf}
+use Rattle.scope.specs.Ecalls.{clear_ipi_of}
 use borrow.Author.Rules.{rules}
 use Rattle.by_value_ecall.proofs.clear_ipi.Statement.{statement}
 use Rattle.by_value_ecall.proofs.clear_ipi.Tie as tie
@@ -17,10 +17,10 @@ finished-requires : tie.Need-finished-requires
 finished-requires c κs = search rules
 
 returns : tie.Need-returns
-unfolding clearIpiOf
+unfolding clear_ipi_of
 returns c = simp (c.finished.ensures, c.before.advance.ensures, c.before.before.with-hvip.ensures, c.before.before.before.with-bits.ensures)
 
-pub clear-ipi-spec : {M : Type 1} → statement M
-clear-ipi-spec =
+pub clear_ipi_spec : {M : Type 1} → statement M
+clear_ipi_spec =
     tie.close
     (tie.spec with-bits-requires with-hvip-requires advance-requires finished-requires returns)

@@ -1,6 +1,6 @@
 -- `by_value_ecall::effect` meets its contract.
-use Rattle.scope.specs.Decided.{callEffect}
-use Rattle.scope.specs.Ecalls.{forwardEffect}
+use Rattle.scope.specs.Decided.{call_effect}
+use Rattle.scope.specs.Ecalls.{forward_effect}
 use borrow.Author.Rules.{rules}
 use Rattle.by_value_ecall.proofs.effect.Statement.{statement}
 use Rattle.by_value_ecall.proofs.effect.Tie as tie
@@ -114,79 +114,79 @@ asking-requires : tie.Need-asking-requires
 asking-requires c κs = search rules
 
 returns : tie.Need-returns
-unfolding callEffect forwardEffect
+unfolding call_effect forward_effect
 returns c = simp (c.returns.ensures, c.before.before.call.given.1)
 
 returns-2 : tie.Need-returns-2
-unfolding callEffect forwardEffect
+unfolding call_effect forward_effect
 returns-2 c = simp (c.moves.ensures, c.before.enum_told.given.1)
 
 returns-3 : tie.Need-returns-3
-unfolding callEffect forwardEffect
+unfolding call_effect forward_effect
 returns-3 c = simp (c.set-timer.ensures, c.before.before.call2.given.1)
 
 returns-4 : tie.Need-returns-4
-unfolding callEffect forwardEffect
+unfolding call_effect forward_effect
 returns-4 c = simp (c.set-timer2.ensures, c.before.before.call3.given.1)
 
 returns-5 : tie.Need-returns-5
-unfolding callEffect forwardEffect
+unfolding call_effect forward_effect
 returns-5 c = simp (c.clear-ipi.ensures, c.before.enum-told2.given.1)
 
 returns-6 : tie.Need-returns-6
-unfolding callEffect forwardEffect
+unfolding call_effect forward_effect
 returns-6 c = simp (c.asks.ensures, c.before.before.call4.given.1)
 
 returns-7 : tie.Need-returns-7
-unfolding callEffect forwardEffect
+unfolding call_effect forward_effect
 returns-7 c = simp (c.asks2.ensures, c.before.enum-told3.given.1)
 
 returns-8 : tie.Need-returns-8
-unfolding callEffect forwardEffect
+unfolding call_effect forward_effect
 returns-8 c = simp (c.asks3.ensures, c.before.before.call5.given.1)
 
 returns-9 : tie.Need-returns-9
-unfolding callEffect forwardEffect
+unfolding call_effect forward_effect
 returns-9 c = simp (c.moves2.ensures, c.before.before.call6.given.1)
 
 returns-10 : tie.Need-returns-10
-unfolding callEffect forwardEffect
+unfolding call_effect forward_effect
 returns-10 c = simp (c.moves3.ensures, c.before.before.call7.given.1)
 
 returns-11 : tie.Need-returns-11
-unfolding callEffect forwardEffect
+unfolding call_effect forward_effect
 returns-11 c = simp (c.stays.ensures, c.before.enum-told4.given.1)
 
 returns-12 : tie.Need-returns-12
-unfolding callEffect forwardEffect
+unfolding call_effect forward_effect
 returns-12 c = simp (c.stays2.ensures, c.before.enum-told5.given.1)
 
 returns-13 : tie.Need-returns-13
-unfolding callEffect forwardEffect
+unfolding call_effect forward_effect
 returns-13 c = simp (c.stays3.ensures, c.before.enum-told6.given.1)
 
 returns-14 : tie.Need-returns-14
-unfolding callEffect forwardEffect
+unfolding call_effect forward_effect
 returns-14 c = simp (c.hypercall.ensures, c.before.enum-told7.given.1)
 
 returns-15 : tie.Need-returns-15
-unfolding callEffect forwardEffect
+unfolding call_effect forward_effect
 returns-15 c = simp (c.asks4.ensures, c.before.before.call8.given.1)
 
 returns-16 : tie.Need-returns-16
-unfolding callEffect forwardEffect
+unfolding call_effect forward_effect
 returns-16 c = simp (c.asks5.ensures, c.before.before.call9.given.1)
 
 returns-17 : tie.Need-returns-17
-unfolding callEffect forwardEffect
+unfolding call_effect forward_effect
 returns-17 c = simp (c.asks6.ensures, c.before.before.call10.given.1)
 
 returns-18 : tie.Need-returns-18
-unfolding callEffect forwardEffect
+unfolding call_effect forward_effect
 returns-18 c = simp (c.asking.ensures, c.before.before.call11.given.1)
 
-pub effect-spec : {M : Type 1} → statement M
-effect-spec =
+pub effect_spec : {M : Type 1} → statement M
+effect_spec =
     tie.close
     (tie.spec
     enum-known-call

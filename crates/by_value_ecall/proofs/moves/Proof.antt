@@ -14,5 +14,5 @@ returns : tie.Need-returns
 unfolding moves_of
 returns c = simp (c.finished.ensures, c.before.advance.ensures)
 
-pub moves-spec : {M : Type 1} → statement M
-moves-spec = tie.close (tie.spec advance-requires finished-requires returns)
+pub moves_spec : {M : Type 1} → statement M
+moves_spec = tie.close (tie.spec advance-requires finished-requires returns)

@@ -1,5 +1,5 @@
 -- `by_value_ecall::returns` meets its contract.
-use Rattle.scope.specs.Ecalls.{returnsOf}
+use Rattle.scope.specs.Ecalls.{returns_of}
 use borrow.Author.Rules.{rules}
 use Rattle.by_value_ecall.proofs.returns.Statement.{statement}
 use Rattle.by_value_ecall.proofs.returns.Tie as tie
@@ -11,8 +11,8 @@ finished-requires : tie.Need-finished-requires
 finished-requires c κs = search rules
 
 returns : tie.Need-returns
-unfolding returnsOf
+unfolding returns_of
 returns c = simp (c.finished.ensures, c.before.advance.ensures)
 
-pub returns-spec : {M : Type 1} → statement M
-returns-spec = tie.close (tie.spec advance-requires finished-requires returns)
+pub returns_spec : {M : Type 1} → statement M
+returns_spec = tie.close (tie.spec advance-requires finished-requires returns)

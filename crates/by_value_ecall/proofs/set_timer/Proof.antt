@@ -1,5 +1,5 @@
 -- `by_value_ecall::set_timer` meets its contract.
-use Rattle.scope.specs.Ecalls.{setTimerOf}
+use Rattle.scope.specs.Ecalls.{set_timer_of}
 use borrow.Author.Rules.{rules}
 use Rattle.by_value_ecall.proofs.set_timer.Statement.{statement}
 use Rattle.by_value_ecall.proofs.set_timer.Tie as tie
@@ -20,11 +20,11 @@ finished-requires : tie.Need-finished-requires
 finished-requires c κs = search rules
 
 returns : tie.Need-returns
-unfolding setTimerOf
+unfolding set_timer_of
 returns c = simp (c.finished.ensures, c.before.advance.ensures, c.before.before.with-hvip.ensures, c.before.before.before.with-bits.ensures, c.before.before.before.before.with-timer.ensures)
 
-pub set-timer-spec : {M : Type 1} → statement M
-set-timer-spec =
+pub set_timer_spec : {M : Type 1} → statement M
+set_timer_spec =
     tie.close
     (tie.spec
     with-timer-requires

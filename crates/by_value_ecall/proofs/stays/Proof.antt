@@ -11,5 +11,5 @@ returns : tie.Need-returns
 unfolding stays_of
 returns c = simp c.finished.ensures
 
-pub stays-spec : {M : Type 1} → statement M
-stays-spec = tie.close (tie.spec finished-requires returns)
+pub stays_spec : {M : Type 1} → statement M
+stays_spec = tie.close (tie.spec finished-requires returns)

@@ -130,8 +130,8 @@ returns-13 c = simp (c.complete-load.ensures, c.before.before.c12.given.1)
 returns-14 : tie.Need-returns-14
 returns-14 c = simp (c.printing.ensures, c.before.before.c13.given.1)
 
-pub call-spec : {M : Type 1} → statement M
-call-spec =
+pub call_spec : {M : Type 1} → statement M
+call_spec =
     tie.close
     (tie.spec
     enum-known-c

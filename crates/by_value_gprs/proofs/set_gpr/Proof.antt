@@ -1,5 +1,5 @@
 -- `by_value_gprs::set_gpr` meets its contract.
-use Rattle.scope.specs.Calls.{base_of, calledOf, effect_of}
+use Rattle.scope.specs.Calls.{base_of, called_of, effect_of}
 use Rattle.by_value_gprs.proofs.set_gpr.Statement.{statement}
 use Rattle.by_value_gprs.proofs.set_gpr.Tie as tie
 use borrow.Author.Rules.{rules}
@@ -11,8 +11,8 @@ unless-asking-requires : tie.Need-unless-asking-requires
 unless-asking-requires c κs = search rules
 
 returns : tie.Need-returns
-unfolding calledOf base_of effect_of
+unfolding called_of base_of effect_of
 returns c = simp (c.unless-asking.ensures, c.before.write-effect.ensures)
 
-pub set-gpr-spec : {M : Type 1} → statement M
-set-gpr-spec = tie.close (tie.spec write-effect-requires unless-asking-requires returns)
+pub set_gpr_spec : {M : Type 1} → statement M
+set_gpr_spec = tie.close (tie.spec write-effect-requires unless-asking-requires returns)

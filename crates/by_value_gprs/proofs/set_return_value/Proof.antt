@@ -1,5 +1,5 @@
 -- `by_value_gprs::set_return_value` meets its contract.
-use Rattle.scope.specs.Calls.{base_of, calledOf, effect_of}
+use Rattle.scope.specs.Calls.{base_of, called_of, effect_of}
 use Rattle.by_value_gprs.proofs.set_return_value.Statement.{statement}
 use Rattle.by_value_gprs.proofs.set_return_value.Tie as tie
 use borrow.Author.Rules.{rules}
@@ -11,8 +11,8 @@ unless-asking-requires : tie.Need-unless-asking-requires
 unless-asking-requires c κs = search rules
 
 returns : tie.Need-returns
-unfolding calledOf base_of effect_of
+unfolding called_of base_of effect_of
 returns c = simp (c.unless-asking.ensures, c.before.done.ensures)
 
-pub set-return-value-spec : {M : Type 1} → statement M
-set-return-value-spec = tie.close (tie.spec done-requires unless-asking-requires returns)
+pub set_return_value_spec : {M : Type 1} → statement M
+set_return_value_spec = tie.close (tie.spec done-requires unless-asking-requires returns)

@@ -1,5 +1,5 @@
 -- `by_value_interrupts::complete_ipi` meets its contract.
-use Rattle.scope.specs.Calls.{base_of, calledOf, effect_of}
+use Rattle.scope.specs.Calls.{base_of, called_of, effect_of}
 use Rattle.by_value_interrupts.proofs.complete_ipi.Statement.{statement}
 use Rattle.by_value_interrupts.proofs.complete_ipi.Tie as tie
 use borrow.Author.Rules.{rules}
@@ -17,11 +17,11 @@ unless-asking-requires : tie.Need-unless-asking-requires
 unless-asking-requires c κs = search rules
 
 returns : tie.Need-returns
-unfolding calledOf base_of effect_of
+unfolding called_of base_of effect_of
 returns c = simp (c.unless-asking.ensures, c.before.done.ensures, c.before.before.ipi-writes.ensures, c.before.before.before.completion-number.ensures)
 
-pub complete-ipi-spec : {M : Type 1} → statement M
-complete-ipi-spec =
+pub complete_ipi_spec : {M : Type 1} → statement M
+complete_ipi_spec =
     tie.close
     (tie.spec
     completion-number-requires

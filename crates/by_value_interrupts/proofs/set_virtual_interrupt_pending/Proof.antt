@@ -1,5 +1,5 @@
 -- `by_value_interrupts::set_virtual_interrupt_pending` meets its contract.
-use Rattle.scope.specs.Calls.{base_of, calledOf, effect_of}
+use Rattle.scope.specs.Calls.{base_of, called_of, effect_of}
 use Rattle.by_value_interrupts.proofs.set_virtual_interrupt_pending.Statement.{statement}
 use Rattle.by_value_interrupts.proofs.set_virtual_interrupt_pending.Tie as tie
 use borrow.Author.Rules.{rules}
@@ -11,9 +11,9 @@ unless-asking-requires : tie.Need-unless-asking-requires
 unless-asking-requires c κs = search rules
 
 returns : tie.Need-returns
-unfolding calledOf base_of effect_of
+unfolding called_of base_of effect_of
 returns c = simp (c.unless-asking.ensures, c.before.pending-effect.ensures)
 
-pub set-virtual-interrupt-pending-spec : {M : Type 1} → statement M
-set-virtual-interrupt-pending-spec =
+pub set_virtual_interrupt_pending_spec : {M : Type 1} → statement M
+set_virtual_interrupt_pending_spec =
     tie.close (tie.spec pending-effect-requires unless-asking-requires returns)

@@ -1,5 +1,5 @@
 -- `by_value_posts::begin` meets its contract.
-use Rattle.decide_posts.specs.Fold.{begunOf}
+use Rattle.decide_posts.specs.Fold.{begun_of}
 use borrow.Author.Rules.{rules}
 use Rattle.by_value_posts.proofs.begin.Statement.{statement}
 use Rattle.by_value_posts.proofs.begin.Tie as tie
@@ -11,8 +11,8 @@ begin-requires : tie.Need-begin-requires
 begin-requires c κs = search rules
 
 returns : tie.Need-returns
-unfolding begunOf
+unfolding begun_of
 returns c = simp (c.begin.ensures, c.before.ask-of.ensures)
 
-pub begin-spec : {M : Type 1} → statement M
-begin-spec = tie.close (tie.spec ask-of-requires begin-requires returns)
+pub begin_spec : {M : Type 1} → statement M
+begin_spec = tie.close (tie.spec ask-of-requires begin-requires returns)

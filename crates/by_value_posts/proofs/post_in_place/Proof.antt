@@ -45,7 +45,7 @@ use denote.Triple.Table.{entered, cited}
 use denote.Triple.Walked.{says, Stays, stay_ref, stay_none_slice, walk_of, AllGo, Goes-none_slice, Goes-ref, Walks, ends_at, walked, walk_Meets}
 use denote.Triple.Clauses.{ensured, lasts}
 use denote.Exit.{yes}
-use Rattle.scope.specs.Posts.{postedOf}
+use Rattle.scope.specs.Posts.{posted_of}
 use Rattle.scope.specs.declared.hosts.Post.{Post}
 use Rattle.scope.specs.declared.hosts.Posted.{Posted}
 use Rattle.scope.specs.declared.machine.RowOutcome.{RowOutcome}
@@ -72,42 +72,42 @@ abbrev stayed : Stays (here.ended).signature.params (here.ended).kept
 stayed = (stay_ref (0 ∷ []) tt (plain (λ _. Vc.the_row)), (stay_none_slice (1 ∷ []) tt (plain (λ _. P.the_row)) yes, tt))
 
 -- the types as the code spells them, and that each is its row's
-abbrev vcpu-ty : Ty
-vcpu-ty = spell code.Mir.table (ty_named (115 ∷ 99 ∷ 111 ∷ 112 ∷ 101 ∷ 58 ∷ 58 ∷ 109 ∷ 97 ∷ 99 ∷ 104 ∷ 105 ∷ 110 ∷ 101 ∷ 58 ∷ 58 ∷ 86 ∷ 99 ∷ 112 ∷ 117 ∷ [], []))
+abbrev vcpu_ty : Ty
+vcpu_ty = spell code.Mir.table (ty_named (115 ∷ 99 ∷ 111 ∷ 112 ∷ 101 ∷ 58 ∷ 58 ∷ 109 ∷ 97 ∷ 99 ∷ 104 ∷ 105 ∷ 110 ∷ 101 ∷ 58 ∷ 58 ∷ 86 ∷ 99 ∷ 112 ∷ 117 ∷ [], []))
 
-abbrev outcome-ty : Ty
-outcome-ty = spell code.Mir.table (ty_named (115 ∷ 99 ∷ 111 ∷ 112 ∷ 101 ∷ 58 ∷ 58 ∷ 109 ∷ 97 ∷ 99 ∷ 104 ∷ 105 ∷ 110 ∷ 101 ∷ 58 ∷ 58 ∷ 82 ∷ 111 ∷ 119 ∷ 79 ∷ 117 ∷ 116 ∷ 99 ∷ 111 ∷ 109 ∷ 101 ∷ [], []))
+abbrev outcome_ty : Ty
+outcome_ty = spell code.Mir.table (ty_named (115 ∷ 99 ∷ 111 ∷ 112 ∷ 101 ∷ 58 ∷ 58 ∷ 109 ∷ 97 ∷ 99 ∷ 104 ∷ 105 ∷ 110 ∷ 101 ∷ 58 ∷ 58 ∷ 82 ∷ 111 ∷ 119 ∷ 79 ∷ 117 ∷ 116 ∷ 99 ∷ 111 ∷ 109 ∷ 101 ∷ [], []))
 
-abbrev given-ty : Ty
-given-ty = spell code.Mir.table (ty_named (115 ∷ 99 ∷ 111 ∷ 112 ∷ 101 ∷ 58 ∷ 58 ∷ 104 ∷ 111 ∷ 115 ∷ 116 ∷ 115 ∷ 58 ∷ 58 ∷ 80 ∷ 111 ∷ 115 ∷ 116 ∷ 101 ∷ 100 ∷ [], []))
+abbrev given_ty : Ty
+given_ty = spell code.Mir.table (ty_named (115 ∷ 99 ∷ 111 ∷ 112 ∷ 101 ∷ 58 ∷ 58 ∷ 104 ∷ 111 ∷ 115 ∷ 116 ∷ 115 ∷ 58 ∷ 58 ∷ 80 ∷ 111 ∷ 115 ∷ 116 ∷ 101 ∷ 100 ∷ [], []))
 
-vcpu-spelt : (Vc.the_row).mir ≡ vcpu-ty ∷ []
-vcpu-spelt = refl
+vcpu_spelt : (Vc.the_row).mir ≡ vcpu_ty ∷ []
+vcpu_spelt = refl
 
-outcome-spelt : (O.the_row).mir ≡ outcome-ty ∷ []
-outcome-spelt = refl
+outcome_spelt : (O.the_row).mir ≡ outcome_ty ∷ []
+outcome_spelt = refl
 
-given-spelt : (R.the_row).mir ≡ given-ty ∷ []
-given-spelt = refl
+given_spelt : (R.the_row).mir ≡ given_ty ∷ []
+given_spelt = refl
 
 -- the outcome's fields, and where each lies
-abbrev outcome-tys : Tys
-outcome-tys = tcons vcpu-ty (tcons given-ty tnil)
+abbrev outcome_tys : Tys
+outcome_tys = tcons vcpu_ty (tcons given_ty tnil)
 
-outcome-struct : outcome-ty ≡ ty_struct (115 ∷ 99 ∷ 111 ∷ 112 ∷ 101 ∷ 58 ∷ 58 ∷ 109 ∷ 97 ∷ 99 ∷ 104 ∷ 105 ∷ 110 ∷ 101 ∷ 58 ∷ 58 ∷ 82 ∷ 111 ∷ 119 ∷ 79 ∷ 117 ∷ 116 ∷ 99 ∷ 111 ∷ 109 ∷ 101 ∷ []) outcome-tys
-outcome-struct = refl
+outcome_struct : outcome_ty ≡ ty_struct (115 ∷ 99 ∷ 111 ∷ 112 ∷ 101 ∷ 58 ∷ 58 ∷ 109 ∷ 97 ∷ 99 ∷ 104 ∷ 105 ∷ 110 ∷ 101 ∷ 58 ∷ 58 ∷ 82 ∷ 111 ∷ 119 ∷ 79 ∷ 117 ∷ 116 ∷ 99 ∷ 111 ∷ 109 ∷ 101 ∷ []) outcome_tys
+outcome_struct = refl
 
-field-0 : field_at zero outcome-tys 0 ≡ some (vcpu-ty, 0)
-field-0 = refl
+field_0 : field_at zero outcome_tys 0 ≡ some (vcpu_ty, 0)
+field_0 = refl
 
-field-1 : field_at zero outcome-tys 1 ≡ some (given-ty, 464)
-field-1 = refl
+field_1 : field_at zero outcome_tys 1 ≡ some (given_ty, 464)
+field_1 = refl
 
-of-0 : field_of outcome-ty 0 ≡ some (vcpu-ty, 0)
-of-0 = ap (λ (τ : Ty). field_of τ 0) outcome-struct ∙ field-0
+of_0 : field_of outcome_ty 0 ≡ some (vcpu_ty, 0)
+of_0 = ap (λ (τ : Ty). field_of τ 0) outcome_struct ∙ field_0
 
-of-1 : field_of outcome-ty 1 ≡ some (given-ty, 464)
-of-1 = ap (λ (τ : Ty). field_of τ 1) outcome-struct ∙ field-1
+of_1 : field_of outcome_ty 1 ≡ some (given_ty, 464)
+of_1 = ap (λ (τ : Ty). field_of τ 1) outcome_struct ∙ field_1
 
 -- A value fits its type. As a record of its own it is compared by its two arguments and never computed, which for types
 -- of this size takes too many steps.
@@ -116,30 +116,30 @@ record Fit (τ : Ty) (v : Val) : Type 0 where
 
 module _ {M : Type 1} {𝓤 : Ura M} {𝓛 : Logic 𝓤} {K : Type 0} {Γ : List (Item 𝓤)} where
   -- `init` and `store_raw` of a value that fits
-  init-fit : K → (n : ℕ) {τ : Ty} {b o : ℕ} {v : Val} → nth 𝓛 n Γ ≡ ‵ (froom τ b o) → Fit τ v → Writes K 𝓛 Γ τ b o v (put 𝓛 n (‵ (fat full_share τ b o v)) Γ)
-  init-fit t n e f = init t n e f.fits
+  init_fit : K → (n : ℕ) {τ : Ty} {b o : ℕ} {v : Val} → nth 𝓛 n Γ ≡ ‵ (froom τ b o) → Fit τ v → Writes K 𝓛 Γ τ b o v (put 𝓛 n (‵ (fat full_share τ b o v)) Γ)
+  init_fit t n e f = init t n e f.fits
 
-  store-fit : K → (n : ℕ) {τ : Ty} {b o : ℕ} {v₀ v : Val} → nth 𝓛 n Γ ≡ ‵ (fat full_share (raw_ty τ) b o v₀) → Fit τ v → Writes K 𝓛 Γ τ b o v (put 𝓛 n (‵ (fat full_share (raw_ty τ) b o v)) Γ)
-  store-fit t n e f = store_raw t n e f.fits
+  store_fit : K → (n : ℕ) {τ : Ty} {b o : ℕ} {v₀ v : Val} → nth 𝓛 n Γ ≡ ‵ (fat full_share (raw_ty τ) b o v₀) → Fit τ v → Writes K 𝓛 Γ τ b o v (put 𝓛 n (‵ (fat full_share (raw_ty τ) b o v)) Γ)
+  store_fit t n e f = store_raw t n e f.fits
 
   -- field k of a cell that holds a struct
-  look-field : K → (n : ℕ) {q : Share} {σ : Ty} {ν : Sym} {τs : Tys} {b o : ℕ} {vs : Vals} (k : ℕ) {τ : Ty} {d : ℕ} → nth 𝓛 n Γ ≡ ‵ (fat q σ b o (vstruct vs)) → σ ≡ ty_struct ν τs → field_at zero τs k ≡ some (τ, d) → Reads K 𝓛 Γ τ b (o + d) (get_v vs k)
-  look-field t n {q} {σ} {ν} {τs} {b} {o} {vs} k e s f =
+  look_field : K → (n : ℕ) {q : Share} {σ : Ty} {ν : Sym} {τs : Tys} {b o : ℕ} {vs : Vals} (k : ℕ) {τ : Ty} {d : ℕ} → nth 𝓛 n Γ ≡ ‵ (fat q σ b o (vstruct vs)) → σ ≡ ty_struct ν τs → field_at zero τs k ≡ some (τ, d) → Reads K 𝓛 Γ τ b (o + d) (get_v vs k)
+  look_field t n {q} {σ} {ν} {τs} {b} {o} {vs} k e s f =
       look_in t n (sub t k f (subst (λ (j : Item 𝓤). Part K 𝓛 j q (ty_struct ν τs) b o (vstruct vs) (λ (u : Val). ‵ (fat q (ty_struct ν τs) b o u))) (sym (e ∙ ap (λ (τ : Ty). ‵ (fat q τ b o (vstruct vs))) s)) (whole t)))
 
 module _ {M : Type 1} {𝓤 : Ura M} (𝓛 : Logic 𝓤) where
-  vcpu-fits : (v : Vcpu) → Is Vc.the_row v (LL.vals Vc.the_type Vc'.the_laws v) → Fit vcpu-ty (LL.val Vc.the_type Vc'.the_laws v)
-  vcpu-fits v g = record { fits = (subst (λ (τs : List Ty). Typed τs ((LL.val Vc.the_type Vc'.the_laws v) ∷ [])) vcpu-spelt ((LL.lawful Vc.the_type Vc'.the_laws 𝓛).typed v _ g)).0 }
+  vcpu_fits : (v : Vcpu) → Is Vc.the_row v (LL.vals Vc.the_type Vc'.the_laws v) → Fit vcpu_ty (LL.val Vc.the_type Vc'.the_laws v)
+  vcpu_fits v g = record { fits = (subst (λ (τs : List Ty). Typed τs ((LL.val Vc.the_type Vc'.the_laws v) ∷ [])) vcpu_spelt ((LL.lawful Vc.the_type Vc'.the_laws 𝓛).typed v _ g)).0 }
 
-  outcome_fits : (o : RowOutcome) (w : Val) → Is O.the_row o (w ∷ []) → Fit outcome-ty w
-  outcome_fits o w g = record { fits = (subst (λ (τs : List Ty). Typed τs (w ∷ [])) outcome-spelt ((LL.lawful O.the_type O'.the_laws 𝓛).typed o _ g)).0 }
+  outcome_fits : (o : RowOutcome) (w : Val) → Is O.the_row o (w ∷ []) → Fit outcome_ty w
+  outcome_fits o w g = record { fits = (subst (λ (τs : List Ty). Typed τs (w ∷ [])) outcome_spelt ((LL.lawful O.the_type O'.the_laws 𝓛).typed o _ g)).0 }
 
-  given-fits : (g : Posted) → Is R.the_row g (LL.vals R.the_type R'.the_laws g) → Fit given-ty (LL.val R.the_type R'.the_laws g)
-  given-fits g i = record { fits = (subst (λ (τs : List Ty). Typed τs ((LL.val R.the_type R'.the_laws g) ∷ [])) given-spelt ((LL.lawful R.the_type R'.the_laws 𝓛).typed g _ i)).0 }
+  given_fits : (g : Posted) → Is R.the_row g (LL.vals R.the_type R'.the_laws g) → Fit given_ty (LL.val R.the_type R'.the_laws g)
+  given_fits g i = record { fits = (subst (λ (τs : List Ty). Typed τs ((LL.val R.the_type R'.the_laws g) ∷ [])) given_spelt ((LL.lawful R.the_type R'.the_laws 𝓛).typed g _ i)).0 }
 
 -- what the outcome's relation gives of its parts
-vcpu-is : (r : RowOutcome) (w : Val) → Is O.the_row r (w ∷ []) → Is Vc.the_row r.vcpu (LL.vals Vc.the_type Vc'.the_laws r.vcpu)
-vcpu-is r w is = (LL.owed O.the_type O'.the_laws r (w ∷ []) is).0
+vcpu_is : (r : RowOutcome) (w : Val) → Is O.the_row r (w ∷ []) → Is Vc.the_row r.vcpu (LL.vals Vc.the_type Vc'.the_laws r.vcpu)
+vcpu_is r w is = (LL.owed O.the_type O'.the_laws r (w ∷ []) is).0
 
 given_is : (r : RowOutcome) (w : Val) → Is O.the_row r (w ∷ []) → Is R.the_row r.posted (LL.vals R.the_type R'.the_laws r.posted)
 given_is r w is = (LL.owed O.the_type O'.the_laws r (w ∷ []) is).1.0
@@ -149,8 +149,8 @@ module _ {M : Type 1} {𝓤 : Ura M} (𝓛 : Logic 𝓤) (at_mem : Memory → SP
   abbrev Called : Contract 𝓤
   Called = triple_of 𝓛 call.signature (call.spec 𝓛 at_mem run)
 
-  called : (κ : Lft) (h : Vcpu) (sl : Bor (List Post)) (r : RowOutcome) → ent 𝓤 (ensured 𝓛 call.ended (call.clauses 𝓛 at_mem run) (κ, tt) (h, (sl, tt)) tt r) (fact 𝓤 (r ≡ postedOf h sl.now))
-  called κ h sl r = ex_e 𝓤 _ (λ ws. snd∗ 𝓤 (sem 𝓛 (lasts call.ended (κ, tt) (h, (sl, tt)) ws)) (fact 𝓤 (r ≡ postedOf h sl.now)))
+  called : (κ : Lft) (h : Vcpu) (sl : Bor (List Post)) (r : RowOutcome) → ent 𝓤 (ensured 𝓛 call.ended (call.clauses 𝓛 at_mem run) (κ, tt) (h, (sl, tt)) tt r) (fact 𝓤 (r ≡ posted_of h sl.now))
+  called κ h sl r = ex_e 𝓤 _ (λ ws. snd∗ 𝓤 (sem 𝓛 (lasts call.ended (κ, tt) (h, (sl, tt)) ws)) (fact 𝓤 (r ≡ posted_of h sl.now)))
 
 module _ {M : Type 1} {𝓤 : Ura M} (𝓛 : Logic 𝓤) (at_mem : Memory → SProp 𝓤) (run : Routine → Fun 𝓤) (κ κ' : Lft) (bounds : AllOutlive 2 (here.signature).outlives (κ, (κ', tt))) (q q' : Share) (b o : ℕ) (γ : GName) (h : Vcpu) (b' o' : ℕ) (γ' : GName) (ys : List Post) where
   open 𝓛 use {H, A}
@@ -180,7 +180,7 @@ module _ {M : Type 1} {𝓤 : Ura M} (𝓛 : Logic 𝓤) (at_mem : Memory → SP
   abbrev Post' : Val → SProp 𝓤
   Post' = (walk_of 𝓛 here.ended stayed (here.clauses 𝓛 at_mem run)).post (((κ, (κ', tt)), (q, (q', tt)), bounds, x, at), tt)
 
-  exits : (r : RowOutcome) → Is R.the_row r.posted (rm r ∷ []) → r ≡ postedOf h ys
+  exits : (r : RowOutcome) → Is R.the_row r.posted (rm r ∷ []) → r ≡ posted_of h ys
       → ent 𝓤 (⋆ 𝓛 (‵ (fobs γ ((Vc.the_row).coded.code r.vcpu)) ∷ ‵ (fbor κ (Body (mem Vc.the_row) b o γ)) ∷ ‵ (flft κ q) ∷ (‵ (flft κ' q') ⊛ ‵ ftrue) ∷ ‵ Own ∷ [])) (Post' (rm r))
   exits r gr e =
       qed 𝓛 (‵ (fobs γ ((Vc.the_row).coded.code r.vcpu)) ∷ ‵ (fbor κ (Body (mem Vc.the_row) b o γ)) ∷ ‵ (flft κ q) ∷ (‵ (flft κ' q') ⊛ ‵ ftrue) ∷ ‵ Own ∷ []) ∵
@@ -190,11 +190,11 @@ module _ {M : Type 1} {𝓤 : Ura M} (𝓛 : Logic 𝓤) (at_mem : Memory → SP
       owned ! R.the_row (Is R.the_row) (LL.makes R.the_type R'.the_plain 𝓛) r.posted _ gr $ move ! (1 ∷ 0 ∷ []) $ done !
 
   -- what `post`'s triple binds outside
-  abbrev to-call : (Called 𝓛 at_mem run).Ghost
-  to-call = (((κ', tt), (q', tt), tt, (h, (sl, tt)), (hm ∷ [], (sm ∷ [], tt))), tt)
+  abbrev to_call : (Called 𝓛 at_mem run).Ghost
+  to_call = (((κ', tt), (q', tt), tt, (h, (sl, tt)), (hm ∷ [], (sm ∷ [], tt))), tt)
 
-  goes-call : ent 𝓤 (sep 𝓤 (A.lft κ' q') (sep 𝓤 (sem 𝓛 ((Vc.the_row).own_val h (hm ∷ []))) (sem 𝓛 Own))) ((Called 𝓛 at_mem run).pre to-call)
-  goes-call = qed 𝓛 (‵ (flft κ' q') ∷ ‵ ((Vc.the_row).own_val h (hm ∷ [])) ∷ ‵ Own ∷ []) ∵
+  goes_call : ent 𝓤 (sep 𝓤 (A.lft κ' q') (sep 𝓤 (sem 𝓛 ((Vc.the_row).own_val h (hm ∷ []))) (sem 𝓛 Own))) ((Called 𝓛 at_mem run).pre to_call)
+  goes_call = qed 𝓛 (‵ (flft κ' q') ∷ ‵ ((Vc.the_row).own_val h (hm ∷ [])) ∷ ‵ Own ∷ []) ∵
       nothing ! $ move ! (3 ∷ 0 ∷ []) $ join ! $ move ! (2 ∷ 0 ∷ []) $ join ! $ nothing ! $ move ! (2 ∷ 0 ∷ []) $ join ! $ join ! $ frame ! $ done !
 
   module _ (C : Calls 𝓤 H) (Λ : Loops 𝓤 H) (fm : FmC 𝓤 H 𝓛.laws C) (known : Triple 𝓤 (C call-def.name) (Called 𝓛 at_mem run)) where
@@ -208,19 +208,19 @@ module _ {M : Type 1} {𝓤 : Ura M} (𝓛 : Logic 𝓤) (at_mem : Memory → SP
         opens ! tt Vc.the_row {h = h} b o (λ vs. spelt ! Vc.the_row (Is Vc.the_row) (shows 𝓛 Vc.the_row) (LL.vals Vc.the_type Vc'.the_laws) (LL.tells Vc.the_type Vc'.the_laws) full_share h vs b o $
         move ! (1 ∷ []) $ peeks ! Vc.the_row (Is Vc.the_row) (shows 𝓛 Vc.the_row) h (hm ∷ []) (λ gh. move ! (1 ∷ 0 ∷ []) $
         -- [the cell; what the record owns; the open borrow; obs; auth; the slice's token; true; what the slice owns, twice; true; _4; …; _3; …; _2; …; _1; …; room for _0; …]
-        assigns ! (of_opd ! (load ! (from ! (hop ! (look ! 16 refl) (stop !))) (look_raw ! 0 refl))) (from ! (stop !)) (init-fit ! 10 refl (vcpu-fits 𝓛 h gh)) $
-        move ! (5 ∷ 1 ∷ 7 ∷ []) $ use3 𝓛 (raw ((Called 𝓛 at_mem run).pre to-call)) goes-call $
+        assigns ! (of_opd ! (load ! (from ! (hop ! (look ! 16 refl) (stop !))) (look_raw ! 0 refl))) (from ! (stop !)) (init_fit ! 10 refl (vcpu_fits 𝓛 h gh)) $
+        move ! (5 ∷ 1 ∷ 7 ∷ []) $ use3 𝓛 (raw ((Called 𝓛 at_mem run).pre to_call)) goes_call $
         -- [post's pre; the cell; the open borrow; obs; auth; true; what the slice owns; true; _4; …; _3; …; _2; …; _1; …; room for _0; …]
-        calls_at ! fm (Called 𝓛 at_mem run) known to-call (and_then ! (load ! (from ! (stop !)) (look ! 8 refl)) (and_then ! (load ! (from ! (stop !)) (look ! 12 refl)) (no_more !))) (λ w.
+        calls_at ! fm (Called 𝓛 at_mem run) known to_call (and_then ! (load ! (from ! (stop !)) (look ! 8 refl)) (and_then ! (load ! (from ! (stop !)) (look ! 12 refl)) (no_more !))) (λ w.
         use1 𝓛 (later (any (λ (r : RowOutcome). ((‵ (flft κ' q') ⊛ ‵ ftrue) ⊛ ‵ ((O.the_row).own_val r (w ∷ []))) ⊛ raw (ensured 𝓛 call.ended (call.clauses 𝓛 at_mem run) (κ', tt) (h, (sl, tt)) tt r)))) (id⊢ 𝓤 _) $ await ! tt $ pick ! (λ r.
-        split ! $ move ! (1 ∷ []) $ use1 𝓛 (raw (fact 𝓤 (r ≡ postedOf h ys))) (called 𝓛 at_mem run κ' h sl r) $ heard ! (r ≡ postedOf h ys) (λ e. split ! $ move ! (1 ∷ []) $
+        split ! $ move ! (1 ∷ []) $ use1 𝓛 (raw (fact 𝓤 (r ≡ posted_of h ys))) (called 𝓛 at_mem run κ' h sl r) $ heard ! (r ≡ posted_of h ys) (λ e. split ! $ move ! (1 ∷ []) $
         peeks ! O.the_row (Is O.the_row) (shows 𝓛 O.the_row) r (w ∷ []) (λ is.
-        land ! (from ! (stop !)) (init-fit ! 11 refl (outcome_fits 𝓛 r w is)) $
-        rewrite ! 11 (λ (u : Val). ‵ (fat full_share outcome-ty l₃ 0 u)) (ap only (LL.tells O.the_type O'.the_laws r (w ∷ []) is)) refl $
+        land ! (from ! (stop !)) (init_fit ! 11 refl (outcome_fits 𝓛 r w is)) $
+        rewrite ! 11 (λ (u : Val). ‵ (fat full_share outcome_ty l₃ 0 u)) (ap only (LL.tells O.the_type O'.the_laws r (w ∷ []) is)) refl $
         -- [what the outcome owns; the slice's token and true; the cell; the open borrow; obs; auth; true; what the slice owns; true; _4; …; _3; …; _2; …; _1; …; room for _0; …]
-        assigns ! (of_opd ! (load ! (from ! (fld ! of-0 (stop !))) (look-field ! 11 0 refl outcome-struct field-0))) (from ! (hop ! (look ! 15 refl) (stop !))) (store-fit ! 2 refl (vcpu-fits 𝓛 r.vcpu (vcpu-is r w is))) $
-        assigns ! (of_opd ! (load ! (from ! (fld ! of-1 (stop !))) (look-field ! 11 1 refl outcome-struct field-1))) (from ! (stop !)) (init-fit ! 17 refl (given-fits 𝓛 r.posted (given_is r w is))) $
-        drop ! $ owned ! Vc.the_row (Is Vc.the_row) (LL.makes Vc.the_type Vc'.the_plain 𝓛) r.vcpu _ (vcpu-is r w is) $ move ! (2 ∷ 0 ∷ 3 ∷ 4 ∷ 5 ∷ []) $ closes ! tt Vc.the_row r.vcpu (LL.vals Vc.the_type Vc'.the_laws r.vcpu) b o $
+        assigns ! (of_opd ! (load ! (from ! (fld ! of_0 (stop !))) (look_field ! 11 0 refl outcome_struct field_0))) (from ! (hop ! (look ! 15 refl) (stop !))) (store_fit ! 2 refl (vcpu_fits 𝓛 r.vcpu (vcpu_is r w is))) $
+        assigns ! (of_opd ! (load ! (from ! (fld ! of_1 (stop !))) (look_field ! 11 1 refl outcome_struct field_1))) (from ! (stop !)) (init_fit ! 17 refl (given_fits 𝓛 r.posted (given_is r w is))) $
+        drop ! $ owned ! Vc.the_row (Is Vc.the_row) (LL.makes Vc.the_type Vc'.the_plain 𝓛) r.vcpu _ (vcpu_is r w is) $ move ! (2 ∷ 0 ∷ 3 ∷ 4 ∷ 5 ∷ []) $ closes ! tt Vc.the_row r.vcpu (LL.vals Vc.the_type Vc'.the_laws r.vcpu) b o $
         -- [obs; the borrow; the token; the slice's token and true; true; what the slice owns; true; _4; …; _3; …; _2; …; _1; …; _0; …]
         returns ! (look ! 15 refl) $ forget ! 7 refl $ forget ! 9 refl $ forget ! 11 refl $ forget ! 13 refl $ forget ! 15 refl $
         move ! (15 ∷ 16 ∷ []) $ free1 ! $ move ! (13 ∷ 14 ∷ []) $ free1 ! $ move ! (11 ∷ 12 ∷ []) $ free1 ! $ move ! (9 ∷ 10 ∷ []) $ free1 ! $ move ! (7 ∷ 8 ∷ []) $ free1 ! $ free0 ! $
@@ -240,9 +240,9 @@ meets : {M : Type 1} {𝓤 : Ura M} (𝓛 : Logic 𝓤) → (at_mem : Memory →
     → Meets 𝓛 here.signature (WpFn 𝓤 𝓛.H 𝓣.C 𝓣.Λ code.function) (here.spec 𝓛 at_mem run)
 meets {𝓤 = 𝓤} 𝓛 at_mem run 𝓣 known = walk_Meets 𝓛 here.ended stayed (goes 𝓛 at_mem run) (here.clauses 𝓛 at_mem run) (WpFn 𝓤 𝓛.H 𝓣.C 𝓣.Λ code.function) (WpFn-mono 𝓤 𝓛.H 𝓛.laws 𝓣 code.function) (walks 𝓛 at_mem run 𝓣.C 𝓣.Λ (fm_of 𝓤 𝓛.H 𝓛.laws 𝓣) known)
 
-pub post-in-place-spec : {M : Type 1} → stated.statement M
+pub post_in_place_spec : {M : Type 1} → stated.statement M
 unfolding code.routine tables_of
-post-in-place-spec 𝓤 𝓛 𝓜 𝓡 =
+post_in_place_spec 𝓤 𝓛 𝓜 𝓡 =
     entered 𝓤 𝓛.H (triple_of 𝓛 here.signature (here.spec 𝓛 𝓜.mem 𝓡.run))
     (tables 𝓤 𝓛.H 𝓜 𝓡 code.env).C (tables 𝓤 𝓛.H 𝓜 𝓡 code.env).Λ #here code.function (code.unfolded 𝓤 𝓛.H 𝓜 𝓡)
     (meets 𝓛 𝓜.mem 𝓡.run (tables_of 𝓤 𝓛.H 𝓜 (tables 𝓤 𝓛.H 𝓜 𝓡 code.env))

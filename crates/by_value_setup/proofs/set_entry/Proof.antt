@@ -1,5 +1,5 @@
 -- `by_value_setup::set_entry` meets its contract.
-use Rattle.scope.specs.Calls.{base_of, calledOf, effect_of}
+use Rattle.scope.specs.Calls.{base_of, called_of, effect_of}
 use Rattle.by_value_setup.proofs.set_entry.Statement.{statement}
 use Rattle.by_value_setup.proofs.set_entry.Tie as tie
 use borrow.Author.Rules.{rules}
@@ -14,9 +14,9 @@ unless-asking-requires : tie.Need-unless-asking-requires
 unless-asking-requires c κs = search rules
 
 returns : tie.Need-returns
-unfolding calledOf base_of effect_of
+unfolding called_of base_of effect_of
 returns c = simp (c.unless-asking.ensures, c.before.done.ensures, c.before.before.entry-csrs.ensures)
 
-pub set-entry-spec : {M : Type 1} → statement M
-set-entry-spec =
+pub set_entry_spec : {M : Type 1} → statement M
+set_entry_spec =
     tie.close (tie.spec entry-csrs-requires done-requires unless-asking-requires returns)

@@ -1,5 +1,5 @@
 -- `by_value_setup::setup` meets its contract.
-use Rattle.scope.specs.Calls.{base_of, calledOf, effect_of}
+use Rattle.scope.specs.Calls.{base_of, called_of, effect_of}
 use Rattle.by_value_setup.proofs.setup.Statement.{statement}
 use Rattle.by_value_setup.proofs.setup.Tie as tie
 use borrow.Author.Rules.{rules}
@@ -14,8 +14,8 @@ unless-asking-requires : tie.Need-unless-asking-requires
 unless-asking-requires c κs = search rules
 
 returns : tie.Need-returns
-unfolding calledOf base_of effect_of
+unfolding called_of base_of effect_of
 returns c = simp (c.unless-asking.ensures, c.before.done.ensures, c.before.before.setup-csrs.ensures)
 
-pub setup-spec : {M : Type 1} → statement M
-setup-spec = tie.close (tie.spec setup-csrs-requires done-requires unless-asking-requires returns)
+pub setup_spec : {M : Type 1} → statement M
+setup_spec = tie.close (tie.spec setup-csrs-requires done-requires unless-asking-requires returns)

@@ -1,6 +1,6 @@
 -- `by_value_start::arguments` meets its contract.
 use mathlib.Core.Path.{refl}
-use Rattle.scope.specs.Classes.{argumentsOf}
+use Rattle.scope.specs.Classes.{arguments_of}
 use borrow.Author.Rules.{rules}
 use Rattle.by_value_start.proofs.arguments.Statement.{statement}
 use Rattle.by_value_start.proofs.arguments.Tie as tie
@@ -24,11 +24,11 @@ array-read-t20 : tie.Need-array-read-t20
 array-read-t20 c = search rules
 
 returns : tie.Need-returns
-unfolding argumentsOf
+unfolding arguments_of
 returns c = refl
 
-pub arguments-spec : {M : Type 1} → statement M
-arguments-spec =
+pub arguments_spec : {M : Type 1} → statement M
+arguments_spec =
     tie.close
     (tie.spec
     array-read-t5

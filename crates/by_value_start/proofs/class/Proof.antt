@@ -1,5 +1,5 @@
 -- `by_value_start::class` meets its contract.
-use Rattle.scope.specs.Classes.{classEffect}
+use Rattle.scope.specs.Classes.{class_effect}
 use borrow.Author.Rules.{rules}
 use Rattle.by_value_start.proofs.class.Statement.{statement}
 use Rattle.by_value_start.proofs.class.Tie as tie
@@ -56,31 +56,31 @@ failed-requires-2 : tie.Need-failed-requires-2
 failed-requires-2 c κs = search rules
 
 returns : tie.Need-returns
-unfolding classEffect
+unfolding class_effect
 returns c = simp (c.ecall.ensures, c.before.arguments.ensures, c.before.before.enum_told.given.1)
 
 returns-2 : tie.Need-returns-2
-unfolding classEffect
+unfolding class_effect
 returns-2 c = simp (c.virtual-inst.ensures, c.before.register.ensures, c.before.before.rs1.ensures, c.before.before.before.before.enum-told2.given.1)
 
 returns-3 : tie.Need-returns-3
-unfolding classEffect
-returns-3 c = simp (c.page-fault.ensures, c.before.before.class.given.1)
+unfolding class_effect
+returns-3 c = simp (c.page_fault.ensures, c.before.before.class.given.1)
 
 returns-4 : tie.Need-returns-4
-unfolding classEffect
+unfolding class_effect
 returns-4 c = simp (c.finished.ensures, c.before.enum-told3.given.1)
 
 returns-5 : tie.Need-returns-5
-unfolding classEffect
+unfolding class_effect
 returns-5 c = simp (c.failed.ensures, c.before.enum-told4.given.1)
 
 returns-6 : tie.Need-returns-6
-unfolding classEffect
+unfolding class_effect
 returns-6 c = simp (c.failed2.ensures, c.before.enum-told5.given.1)
 
-pub class-spec : {M : Type 1} → statement M
-class-spec =
+pub class_spec : {M : Type 1} → statement M
+class_spec =
     tie.close
     (tie.spec
     enum_told

@@ -1,5 +1,5 @@
 -- `by_value_start::ecall` meets its contract.
-use Rattle.scope.specs.Ecalls.{ecallEffect}
+use Rattle.scope.specs.Ecalls.{ecall_effect}
 use borrow.Author.Rules.{rules}
 use Rattle.by_value_start.proofs.ecall.Statement.{statement}
 use Rattle.by_value_start.proofs.ecall.Tie as tie
@@ -11,8 +11,8 @@ effect-requires : tie.Need-effect-requires
 effect-requires c κs = search rules
 
 returns : tie.Need-returns
-unfolding ecallEffect
+unfolding ecall_effect
 returns c = simp (c.effect.ensures, c.before.decide.ensures)
 
-pub ecall-spec : {M : Type 1} → statement M
-ecall-spec = tie.close (tie.spec decide-requires effect-requires returns)
+pub ecall_spec : {M : Type 1} → statement M
+ecall_spec = tie.close (tie.spec decide-requires effect-requires returns)

@@ -1,5 +1,5 @@
 -- `by_value_start::page_fault` meets its contract.
-use Rattle.scope.specs.GuestPageFault.{pageFaultOf}
+use Rattle.scope.specs.GuestPageFault.{page_fault_of}
 use borrow.Author.Rules.{rules}
 use Rattle.by_value_start.proofs.page_fault.Statement.{statement}
 use Rattle.by_value_start.proofs.page_fault.Tie as tie
@@ -14,9 +14,9 @@ mmio-requires : tie.Need-mmio-requires
 mmio-requires c κs = search rules
 
 returns : tie.Need-returns
-unfolding pageFaultOf
+unfolding page_fault_of
 returns c = simp (c.mmio.ensures, c.before.from-htinst.ensures, c.before.before.guest-page-fault-addr.ensures)
 
-pub page-fault-spec : {M : Type 1} → statement M
-page-fault-spec =
+pub page_fault_spec : {M : Type 1} → statement M
+page_fault_spec =
     tie.close (tie.spec guest-page-fault-addr-requires from-htinst-requires mmio-requires returns)

@@ -1,5 +1,5 @@
 -- `by_value_start::start` meets its contract.
-use Rattle.scope.specs.Classes.{startEffect}
+use Rattle.scope.specs.Classes.{start_effect}
 use borrow.Author.Rules.{rules}
 use Rattle.by_value_start.proofs.start.Statement.{statement}
 use Rattle.by_value_start.proofs.start.Tie as tie
@@ -11,7 +11,7 @@ started-requires : tie.Need-started-requires
 started-requires c κs = search rules
 
 returns : tie.Need-returns
-unfolding startEffect
+unfolding start_effect
 returns c = simp (c.started.ensures, c.before.is-idle.ensures)
 
 pub start_spec : {M : Type 1} → statement M

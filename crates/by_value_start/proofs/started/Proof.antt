@@ -19,6 +19,6 @@ refused-requires c κs = search rules
 returns-2 : tie.Need-returns-2
 returns-2 c = simp (c.refused.ensures, c.before.if1.false)
 
-pub started-spec : {M : Type 1} → statement M
-started-spec =
+pub started_spec : {M : Type 1} → statement M
+started_spec =
     tie.close (tie.spec class-of-requires class-requires returns refused-requires returns-2)

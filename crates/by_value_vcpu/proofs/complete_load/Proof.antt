@@ -1,5 +1,5 @@
 -- `by_value_vcpu::complete_load` meets its contract.
-use Rattle.scope.specs.Calls.{base_of, calledOf, effect_of}
+use Rattle.scope.specs.Calls.{base_of, called_of, effect_of}
 use Rattle.by_value_vcpu.proofs.complete_load.Statement.{statement}
 use Rattle.by_value_vcpu.proofs.complete_load.Tie as tie
 use borrow.Author.Rules.{rules}
@@ -11,8 +11,8 @@ apply-requires : tie.Need-apply-requires
 apply-requires c κs = search rules
 
 returns : tie.Need-returns
-unfolding calledOf base_of effect_of
+unfolding called_of base_of effect_of
 returns c = simp (c.apply.ensures, c.before.complete.ensures)
 
-pub complete-load-spec : {M : Type 1} → statement M
-complete-load-spec = tie.close (tie.spec complete-requires apply-requires returns)
+pub complete_load_spec : {M : Type 1} → statement M
+complete_load_spec = tie.close (tie.spec complete-requires apply-requires returns)

@@ -1,6 +1,6 @@
 -- `decide_answers::decide` meets its contract.
-use Rattle.scope.specs.Ecalls.{ecallAnswer}
-use Rattle.scope.specs.Decided.{answeredEffect}
+use Rattle.scope.specs.Ecalls.{ecall_answer}
+use Rattle.scope.specs.Decided.{answered_effect}
 use borrow.Author.Rules.{rules}
 use Rattle.decide_answers.proofs.decide.Statement.{statement}
 use Rattle.decide_answers.proofs.decide.Tie as tie
@@ -48,43 +48,43 @@ enum-told-6 : tie.Need-enum-told-6
 enum-told-6 c = search rules
 
 returns : tie.Need-returns
-unfolding ecallAnswer answeredEffect
+unfolding ecall_answer answered_effect
 returns c = λ q0. simp (c.mask.ensures, c.before.legacy-request.ensures, c.before.before.enum_told.given.1)
 
 returns-2 : tie.Need-returns-2
-unfolding ecallAnswer answeredEffect
+unfolding ecall_answer answered_effect
 returns-2 c = λ q0. simp (c.copied.ensures, c.before.before.a.given.1)
 
 returns-3 : tie.Need-returns-3
-unfolding ecallAnswer answeredEffect
+unfolding ecall_answer answered_effect
 returns-3 c = λ q0. simp c.enum-told2.given.1
 
 returns-4 : tie.Need-returns-4
-unfolding ecallAnswer answeredEffect
+unfolding ecall_answer answered_effect
 returns-4 c = λ q0. simp (c.read.ensures, c.before.before.a2.given.1)
 
 returns-5 : tie.Need-returns-5
-unfolding ecallAnswer answeredEffect
+unfolding ecall_answer answered_effect
 returns-5 c = λ q0. simp (c.copied-out.ensures, c.before.before.a3.given.1)
 
 returns-6 : tie.Need-returns-6
-unfolding ecallAnswer answeredEffect
+unfolding ecall_answer answered_effect
 returns-6 c = λ q0. simp c.enum-told3.given.1
 
 returns-7 : tie.Need-returns-7
-unfolding ecallAnswer answeredEffect
+unfolding ecall_answer answered_effect
 returns-7 c = λ q0. simp c.enum-told4.given.1
 
 returns-8 : tie.Need-returns-8
-unfolding ecallAnswer answeredEffect
+unfolding ecall_answer answered_effect
 returns-8 c = λ q0. simp c.enum-told5.given.1
 
 returns-9 : tie.Need-returns-9
-unfolding ecallAnswer answeredEffect
+unfolding ecall_answer answered_effect
 returns-9 c = λ q0. simp c.enum-told6.given.1
 
-pub decide-spec : {M : Type 1} → statement M
-decide-spec =
+pub decide_spec : {M : Type 1} → statement M
+decide_spec =
     tie.close
     (tie.spec
     enum_told

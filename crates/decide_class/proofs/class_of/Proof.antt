@@ -43,8 +43,8 @@ returns-8 : tie.Need-returns-8
 unfolding class_of
 returns-8 c = simp (c.other.ensures, c.before.is-known-cause.ensures, ne_eqb _ _ c.before.before.match.rest.1, ne_eqb _ _ c.before.before.match.rest.0.1, ne_eqb _ _ c.before.before.match.rest.0.0.1, ne_eqb _ _ c.before.before.match.rest.0.0.0.1, ne_eqb _ _ c.before.before.match.rest.0.0.0.0.1, ne_eqb _ _ c.before.before.match.rest.0.0.0.0.0.1, ne_eqb _ _ c.before.before.match.rest.0.0.0.0.0.0.1)
 
-pub class-of-spec : {M : Type 1} → statement M
-class-of-spec =
+pub class_of_spec : {M : Type 1} → statement M
+class_of_spec =
     tie.close
     (tie.spec
     is-known-cause-requires

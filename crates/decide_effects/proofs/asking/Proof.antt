@@ -1,5 +1,5 @@
 -- `decide_effects::asking` meets its contract.
-use Rattle.scope.specs.Refusals.{askingOf}
+use Rattle.scope.specs.Refusals.{asking_of}
 use borrow.Author.Rules.{rules}
 use Rattle.decide_effects.proofs.asking.Statement.{statement}
 use Rattle.decide_effects.proofs.asking.Tie as tie
@@ -8,8 +8,8 @@ no-args-requires : tie.Need-no-args-requires
 no-args-requires c κs = search rules
 
 returns : tie.Need-returns
-unfolding askingOf
+unfolding asking_of
 returns c = simp c.no-args.ensures
 
-pub asking-spec : {M : Type 1} → statement M
-asking-spec = tie.close (tie.spec no-args-requires returns)
+pub asking_spec : {M : Type 1} → statement M
+asking_spec = tie.close (tie.spec no-args-requires returns)

@@ -11,5 +11,5 @@ returns : tie.Need-returns
 unfolding done_of
 returns c = simp c.no-args.ensures
 
-pub done-spec : {M : Type 1} → statement M
-done-spec = tie.close (tie.spec no-args-requires returns)
+pub done_spec : {M : Type 1} → statement M
+done_spec = tie.close (tie.spec no-args-requires returns)

@@ -1,5 +1,5 @@
 -- `decide_effects::failed` meets its contract.
-use Rattle.scope.specs.Refusals.{failedOf}
+use Rattle.scope.specs.Refusals.{failed_of}
 use borrow.Author.Rules.{rules}
 use Rattle.decide_effects.proofs.failed.Statement.{statement}
 use Rattle.decide_effects.proofs.failed.Tie as tie
@@ -8,8 +8,8 @@ no-args-requires : tie.Need-no-args-requires
 no-args-requires c κs = search rules
 
 returns : tie.Need-returns
-unfolding failedOf
+unfolding failed_of
 returns c = simp c.no-args.ensures
 
-pub failed-spec : {M : Type 1} → statement M
-failed-spec = tie.close (tie.spec no-args-requires returns)
+pub failed_spec : {M : Type 1} → statement M
+failed_spec = tie.close (tie.spec no-args-requires returns)

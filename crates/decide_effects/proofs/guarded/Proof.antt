@@ -13,5 +13,5 @@ refused-requires c κs = search rules
 returns-2 : tie.Need-returns-2
 returns-2 c = simp (c.refused.ensures, ne_eqb _ _ c.before.if1.false)
 
-pub guarded-spec : {M : Type 1} → statement M
-guarded-spec = tie.close (tie.spec returns refused-requires returns-2)
+pub guarded_spec : {M : Type 1} → statement M
+guarded_spec = tie.close (tie.spec returns refused-requires returns-2)

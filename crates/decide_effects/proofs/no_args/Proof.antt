@@ -8,5 +8,5 @@ returns : tie.Need-returns
 unfolding no_args
 returns c = refl
 
-pub no-args-spec : {M : Type 1} → statement M
-no-args-spec = tie.close (tie.spec returns)
+pub no_args_spec : {M : Type 1} → statement M
+no_args_spec = tie.close (tie.spec returns)

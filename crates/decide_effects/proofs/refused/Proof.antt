@@ -1,5 +1,5 @@
 -- `decide_effects::refused` meets its contract.
-use Rattle.scope.specs.Refusals.{refusedOf, leavesOf}
+use Rattle.scope.specs.Refusals.{refused_of, leaves_of}
 use borrow.Author.Rules.{rules}
 use Rattle.decide_effects.proofs.refused.Statement.{statement}
 use Rattle.decide_effects.proofs.refused.Tie as tie
@@ -8,8 +8,8 @@ no-args-requires : tie.Need-no-args-requires
 no-args-requires c κs = search rules
 
 returns : tie.Need-returns
-unfolding refusedOf leavesOf
+unfolding refused_of leaves_of
 returns c = simp c.no-args.ensures
 
-pub refused-spec : {M : Type 1} → statement M
-refused-spec = tie.close (tie.spec no-args-requires returns)
+pub refused_spec : {M : Type 1} → statement M
+refused_spec = tie.close (tie.spec no-args-requires returns)

@@ -1,5 +1,5 @@
 -- `decide_fetch::decide` meets its contract.
-use Rattle.scope.specs.VirtualInstruction.{missedOf}
+use Rattle.scope.specs.VirtualInstruction.{missed_of}
 use Rattle.decide_fetch.proofs.decide.Statement.{statement}
 use Rattle.decide_fetch.proofs.decide.Tie as tie
 use borrow.Author.Rules.{rules}
@@ -23,31 +23,31 @@ enum-told-2 : tie.Need-enum-told-2
 enum-told-2 c = search rules
 
 returns : tie.Need-returns
-unfolding missedOf
+unfolding missed_of
 returns c = simp c.enum_told.given.1
 
 returns-2 : tie.Need-returns-2
-unfolding missedOf
+unfolding missed_of
 returns-2 c = simp c.before.f.given.1
 
 returns-3 : tie.Need-returns-3
-unfolding missedOf
+unfolding missed_of
 returns-3 c = simp c.before.f2.given.1
 
 returns-4 : tie.Need-returns-4
-unfolding missedOf
+unfolding missed_of
 returns-4 c = simp c.before.f3.given.1
 
 returns-5 : tie.Need-returns-5
-unfolding missedOf
+unfolding missed_of
 returns-5 c = simp c.before.f4.given.1
 
 returns-6 : tie.Need-returns-6
-unfolding missedOf
+unfolding missed_of
 returns-6 c = simp c.enum-told2.given.1
 
-pub decide-spec : {M : Type 1} → statement M
-decide-spec =
+pub decide_spec : {M : Type 1} → statement M
+decide_spec =
     tie.close
     (tie.spec
     enum_told

@@ -1,5 +1,5 @@
 -- `decide_fetch::inject` meets its contract.
-use Rattle.scope.specs.VirtualInstruction.{injectedOf}
+use Rattle.scope.specs.VirtualInstruction.{injected_of}
 use borrow.Author.Rules.{rules}
 use Rattle.decide_fetch.proofs.inject.Statement.{statement}
 use Rattle.decide_fetch.proofs.inject.Tie as tie
@@ -14,8 +14,8 @@ mul-t10 : tie.Need-overflow-mul-t10
 mul-t10 c = search rules
 
 returns : tie.Need-returns
-unfolding injectedOf
+unfolding injected_of
 returns c = simp (c.before.before.trap-status.ensures, c.before.before.before.with-bits.ensures)
 
-pub inject-spec : {M : Type 1} → statement M
-inject-spec = tie.close (tie.spec with-bits-requires trap-status-requires mul-t10 returns)
+pub inject_spec : {M : Type 1} → statement M
+inject_spec = tie.close (tie.spec with-bits-requires trap-status-requires mul-t10 returns)

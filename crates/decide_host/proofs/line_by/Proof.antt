@@ -15,5 +15,5 @@ returns-3 c = simp (c.if3.true, ne_eqb _ _ c.before.if2.false, ne_eqb _ _ c.befo
 returns-4 : tie.Need-returns-4
 returns-4 c = simp (c.if3.false, ne_eqb _ _ c.before.if2.false, ne_eqb _ _ c.before.before.if1.false)
 
-pub line-by-spec : {M : Type 1} → statement M
-line-by-spec = tie.close (tie.spec returns returns-2 returns-3 returns-4)
+pub line_by_spec : {M : Type 1} → statement M
+line_by_spec = tie.close (tie.spec returns returns-2 returns-3 returns-4)

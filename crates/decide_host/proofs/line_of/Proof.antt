@@ -1,5 +1,5 @@
 -- `decide_host::line_of` meets its contract.
-use Rattle.scope.specs.Host.{hvipBitOf}
+use Rattle.scope.specs.Host.{hvip_bit_of}
 use borrow.Author.Rules.{rules}
 use Rattle.decide_host.proofs.line_of.Statement.{statement}
 use Rattle.decide_host.proofs.line_of.Tie as tie
@@ -11,8 +11,8 @@ line-by-requires : tie.Need-line-by-requires
 line-by-requires c κs = search rules
 
 returns : tie.Need-returns
-unfolding hvipBitOf
-returns c = simp (c.line-by.ensures, c.before.is-supervisor-external.ensures)
+unfolding hvip_bit_of
+returns c = simp (c.line_by.ensures, c.before.is-supervisor-external.ensures)
 
-pub line-of-spec : {M : Type 1} → statement M
-line-of-spec = tie.close (tie.spec is-supervisor-external-requires line-by-requires returns)
+pub line_of_spec : {M : Type 1} → statement M
+line_of_spec = tie.close (tie.spec is-supervisor-external-requires line-by-requires returns)

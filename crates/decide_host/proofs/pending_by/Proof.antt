@@ -22,8 +22,8 @@ done-requires c κs = search rules
 returns-2 : tie.Need-returns-2
 returns-2 c = simp (c.done.ensures, c.before.with-hvip.ensures, c.before.before.with-bits.ensures, ne_eqb _ _ c.before.before.before.if1.false)
 
-pub pending-by-spec : {M : Type 1} → statement M
-pending-by-spec =
+pub pending_by_spec : {M : Type 1} → statement M
+pending_by_spec =
     tie.close
     (tie.spec
     refused-requires

@@ -1,5 +1,5 @@
 -- `decide_host::table_csrs` meets its contract.
-use Rattle.scope.specs.Host.{tableCsrs}
+use Rattle.scope.specs.Host.{table_csrs}
 use Rattle.decide_host.proofs.table_csrs.Statement.{statement}
 use Rattle.decide_host.proofs.table_csrs.Tie as tie
 use borrow.Author.Rules.{rules}
@@ -8,8 +8,8 @@ hgatp-value-requires : tie.Need-hgatp-value-requires
 hgatp-value-requires c κs = search rules
 
 returns : tie.Need-returns
-unfolding tableCsrs
+unfolding table_csrs
 returns c = simp c.before.hgatp-value.ensures
 
-pub table-csrs-spec : {M : Type 1} → statement M
-table-csrs-spec = tie.close (tie.spec hgatp-value-requires returns)
+pub table_csrs_spec : {M : Type 1} → statement M
+table_csrs_spec = tie.close (tie.spec hgatp-value-requires returns)

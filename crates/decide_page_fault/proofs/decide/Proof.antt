@@ -1,5 +1,5 @@
 -- `decide_page_fault::decide` meets its contract.
-use Rattle.scope.specs.GuestPageFault.{faultOf}
+use Rattle.scope.specs.GuestPageFault.{fault_of}
 use Rattle.decide_page_fault.proofs.decide.Statement.{statement}
 use Rattle.decide_page_fault.proofs.decide.Tie as tie
 use borrow.Author.Rules.{rules}
@@ -32,31 +32,31 @@ enum-told-4 : tie.Need-enum-told-4
 enum-told-4 c = search rules
 
 returns : tie.Need-returns
-unfolding faultOf
+unfolding fault_of
 returns c = simp c.enum_told.given.1
 
 returns-2 : tie.Need-returns-2
-unfolding faultOf
+unfolding fault_of
 returns-2 c = simp c.enum-told2.given.1
 
 returns-3 : tie.Need-returns-3
-unfolding faultOf
+unfolding fault_of
 returns-3 c = simp c.enum-told3.given.1
 
 returns-4 : tie.Need-returns-4
-unfolding faultOf
+unfolding fault_of
 returns-4 c = simp (c.load.ensures, c.before.before.op.given.1, c.before.before.before.before.before.t.given.1)
 
 returns-5 : tie.Need-returns-5
-unfolding faultOf
+unfolding fault_of
 returns-5 c = simp (c.store.ensures, c.before.before.op2.given.1, c.before.before.before.before.before.t.given.1)
 
 returns-6 : tie.Need-returns-6
-unfolding faultOf
+unfolding fault_of
 returns-6 c = simp (c.enum-told4.given.1, c.before.before.before.t.given.1)
 
-pub decide-spec : {M : Type 1} → statement M
-decide-spec =
+pub decide_spec : {M : Type 1} → statement M
+decide_spec =
     tie.close
     (tie.spec
     enum_told

@@ -1,5 +1,5 @@
 -- `decide_page_fault::load` meets its contract.
-use Rattle.scope.specs.GuestPageFault.{loadUnder}
+use Rattle.scope.specs.GuestPageFault.{load_under}
 use Rattle.decide_page_fault.proofs.load.Statement.{statement}
 use Rattle.decide_page_fault.proofs.load.Tie as tie
 use borrow.Author.Rules.{rules}
@@ -14,15 +14,15 @@ enum-told-3 : tie.Need-enum-told-3
 enum-told-3 c = search rules
 
 returns : tie.Need-returns
-unfolding loadUnder
+unfolding load_under
 returns c = simp c.enum_told.given.1
 
 returns-2 : tie.Need-returns-2
-unfolding loadUnder
+unfolding load_under
 returns-2 c = simp c.enum-told2.given.1
 
 returns-3 : tie.Need-returns-3
-unfolding loadUnder
+unfolding load_under
 returns-3 c = simp c.enum-told3.given.1
 
 pub load_spec : {M : Type 1} → statement M

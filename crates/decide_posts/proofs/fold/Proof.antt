@@ -49,8 +49,8 @@ use denote.Triple.Table.{entered, cited}
 use denote.Triple.Walked.{says, needs, Stays, stay_none_slice, stay_none, walk_of, Walks, ends_at, walked, Goes-none_slice, Goes-none, walk_Meets}
 use Rattle.scope.specs.declared.hosts.Post.{Post}
 use Rattle.decide_posts.specs.declared.Row.{Row}
-use Rattle.decide_posts.specs.Fold.{fold_of, next_of, postTaken}
-use Rattle.decide_posts.specs.FoldLaws.{applies-within, at-end, in_reach, nearer, noPost, turned}
+use Rattle.decide_posts.specs.Fold.{fold_of, next_of, post_taken}
+use Rattle.decide_posts.specs.FoldLaws.{applies_within, at_end, in_reach, nearer, no_post, turned}
 use Rattle.decide_posts.specs.contracts.fold.Key.{name as #here}
 use Rattle.scope.specs.contracts.hosts.Post as P
 use Rattle.scope.proofs.hosts.Post.TheLaws as P'
@@ -68,14 +68,14 @@ use Rattle.decide_posts.proofs.fold.Code as code
 use Rattle.decide_posts.proofs.fold.Code.Mir as mirs
 
 -- ---- numbers and lists
-place-fits : {i n : ℕ} → n * 16 < 2 ^ 63 → i < n → i * 16 < 2 ^ 64
-place-fits room within = omega arith
+place_fits : {i n : ℕ} → n * 16 < 2 ^ 63 → i < n → i * 16 < 2 ^ 64
+place_fits room within = omega arith
 
-index-fits : {i n : ℕ} → n < 2 ^ 64 → i ≤ n → i < 2 ^ 64
-index-fits room within = omega arith
+index_fits : {i n : ℕ} → n < 2 ^ 64 → i ≤ n → i < 2 ^ 64
+index_fits room within = omega arith
 
-applied-fits : {a i n : ℕ} → n * 16 < 2 ^ 63 → i < n → a ≤ i → a < 2 ^ 64 - 1
-applied-fits room within most = omega arith
+applied_fits : {a i n : ℕ} → n * 16 < 2 ^ 63 → i < n → a ≤ i → a < 2 ^ 64 - 1
+applied_fits room within most = omega arith
 
 -- what follows the first part of a sequence
 abbrev rest_of : Body → Body
@@ -103,8 +103,8 @@ qm s = LL.val Q.the_type Q'.the_laws s
 abbrev pm : Post → Val
 pm p = LL.val P.the_type P'.the_laws p
 
-again-is : (r : Row) (w : Val) → Is Q.the_row r (w ∷ []) → Is Q.the_row r (qm r ∷ [])
-again-is r w is = LL.owes Q.the_type Q'.the_laws r (LL.owed Q.the_type Q'.the_laws r (w ∷ []) is)
+again_is : (r : Row) (w : Val) → Is Q.the_row r (w ∷ []) → Is Q.the_row r (qm r ∷ [])
+again_is r w is = LL.owes Q.the_type Q'.the_laws r (LL.owed Q.the_type Q'.the_laws r (w ∷ []) is)
 
 module _ {M : Type 1} {𝓤 : Ura M} (𝓛 : Logic 𝓤) (at_mem : Memory → SProp 𝓤) (run : Routine → Fun 𝓤) where
   abbrev Step : Contract 𝓤
@@ -113,8 +113,8 @@ module _ {M : Type 1} {𝓤 : Ura M} (𝓛 : Logic 𝓤) (at_mem : Memory → SP
   abbrev Next : Contract 𝓤
   Next = triple_of 𝓛 next-index.signature (next-index.spec 𝓛 at_mem run)
 
-  stepped : (s : Row) (p : Post) (r : Row) → ent 𝓤 (ensured 𝓛 step.ended (step.clauses 𝓛 at_mem run) tt (s, (p, tt)) tt r) (fact 𝓤 (r ≡ postTaken s p))
-  stepped s p r = ex_e 𝓤 _ (λ ws. snd∗ 𝓤 (sem 𝓛 (lasts step.ended tt (s, (p, tt)) ws)) (fact 𝓤 (r ≡ postTaken s p)))
+  stepped : (s : Row) (p : Post) (r : Row) → ent 𝓤 (ensured 𝓛 step.ended (step.clauses 𝓛 at_mem run) tt (s, (p, tt)) tt r) (fact 𝓤 (r ≡ post_taken s p))
+  stepped s p r = ex_e 𝓤 _ (λ ws. snd∗ 𝓤 (sem 𝓛 (lasts step.ended tt (s, (p, tt)) ws)) (fact 𝓤 (r ≡ post_taken s p)))
 
   nexted : (s : Row) (i n k : ℕ) → ent 𝓤 (ensured 𝓛 next-index.ended (next-index.clauses 𝓛 at_mem run) tt (s, (i, (n, tt))) tt k) (fact 𝓤 (k ≡ next_of s i n))
   nexted s i n k = ex_e 𝓤 _ (λ ws. snd∗ 𝓤 (sem 𝓛 (lasts next-index.ended tt (s, (i, (n, tt))) ws)) (fact 𝓤 (k ≡ next_of s i n)))
@@ -128,11 +128,11 @@ module _ {M : Type 1} {𝓤 : Ura M} (𝓛 : Logic 𝓤) (at_mem : Memory → SP
   goes_step s p l =
       qed 𝓛 (‵ ((Q.the_row).own_val s (qm s ∷ [])) ∷ ‵ ((P.the_row).own_val p (pm p ∷ [])) ∷ []) ∵ says ! l $ nothing ! $ move ! (2 ∷ 0 ∷ []) $ fjoin ! $ move ! (1 ∷ 0 ∷ []) $ fjoin ! $ nothing ! $ done !
 
-  abbrev to-next : Row → ℕ → ℕ → (Next 𝓛 at_mem run).Ghost
-  to-next s i n = ((tt, tt, tt, (s, (i, (n, tt))), (qm s ∷ [], (vint w64 i ∷ [], (vint w64 n ∷ [], tt)))), tt)
+  abbrev to_next : Row → ℕ → ℕ → (Next 𝓛 at_mem run).Ghost
+  to_next s i n = ((tt, tt, tt, (s, (i, (n, tt))), (qm s ∷ [], (vint w64 i ∷ [], (vint w64 n ∷ [], tt)))), tt)
 
-  goes-next : (s : Row) (i n : ℕ) → i < n → i < 2 ^ 64 → n < 2 ^ 64 → ent 𝓤 (sem 𝓛 ((Q.the_row).own_val s (qm s ∷ []))) ((Next 𝓛 at_mem run).pre (to-next s i n))
-  goes-next s i n l gi gn =
+  goes_next : (s : Row) (i n : ℕ) → i < n → i < 2 ^ 64 → n < 2 ^ 64 → ent 𝓤 (sem 𝓛 ((Q.the_row).own_val s (qm s ∷ []))) ((Next 𝓛 at_mem run).pre (to_next s i n))
+  goes_next s i n l gi gn =
       qed 𝓛 (‵ ((Q.the_row).own_val s (qm s ∷ [])) ∷ []) ∵ says ! l $ nothing ! $ owned ! usize (Is usize) (uint_Makes 𝓛 w64) n _ (refl, gn) $ fjoin ! $
       owned ! usize (Is usize) (uint_Makes 𝓛 w64) i _ (refl, gi) $ fjoin ! $ move ! (1 ∷ 0 ∷ []) $ fjoin ! $ nothing ! $ done !
 
@@ -168,8 +168,8 @@ module _ {M : Type 1} {𝓤 : Ura M} (𝓛 : Logic 𝓤) (at_mem : Memory → SP
   abbrev Here : Type 0
   Here = (i : ℕ) × (s : Row) × (i ≤ n) × (fold_of s₀ ys ≡ fold_of s (dropᴸ i ys)) × Is Q.the_row s (qm s ∷ []) × (s.applied ≤ i)
 
-  abbrev first-turn : Here
-  first-turn = (0, s₀, zero-le, refl, is₀, subst (λ (a : ℕ). a ≤ 0) (sym zero-applied) zero-le)
+  abbrev first_turn : Here
+  first_turn = (0, s₀, zero-le, refl, is₀, subst (λ (a : ℕ). a ≤ 0) (sym zero-applied) zero-le)
 
   abbrev Nearer : Here → Here → Type 0
   Nearer u t = n - u.0 < n - t.0
@@ -185,19 +185,19 @@ module _ {M : Type 1} {𝓤 : Ura M} (𝓛 : Logic 𝓤) (at_mem : Memory → SP
     s = t.1
 
     abbrev p : Post
-    p = get_or ys i noPost
+    p = get_or ys i no_post
 
-    in-it : T (ltb i n) → i < n
-    in-it less = ltb→lt i n less
+    in_it : T (ltb i n) → i < n
+    in_it less = ltb→lt i n less
 
-    abbrev next : T (ltb i n) → (r : Row) (k : ℕ) → r ≡ postTaken s p → k ≡ next_of r i n → Is Q.the_row r (qm r ∷ []) → Here
-    next less r k e e₂ is = (k, r, subst (λ (m : ℕ). m ≤ n) (sym e₂) (in_reach r (in-it less)), t.3 ∙ turned s r ys i (in-it less) e ∙ ap (λ (m : ℕ). fold_of r (dropᴸ m ys)) (sym e₂), is, subst (λ (m : ℕ). r.applied ≤ m) (sym e₂) (applies-within s r p (in-it less) e t.5))
+    abbrev next : T (ltb i n) → (r : Row) (k : ℕ) → r ≡ post_taken s p → k ≡ next_of r i n → Is Q.the_row r (qm r ∷ []) → Here
+    next less r k e e₂ is = (k, r, subst (λ (m : ℕ). m ≤ n) (sym e₂) (in_reach r (in_it less)), t.3 ∙ turned s r ys i (in_it less) e ∙ ap (λ (m : ℕ). fold_of r (dropᴸ m ys)) (sym e₂), is, subst (λ (m : ℕ). r.applied ≤ m) (sym e₂) (applies_within s r p (in_it less) e t.5))
 
     closer : T (ltb i n) → (r : Row) (k : ℕ) → k ≡ next_of r i n → n - k < n - i
-    closer less r k e₂ = subst (λ (m : ℕ). n - m < n - i) (sym e₂) (nearer r (in-it less))
+    closer less r k e₂ = subst (λ (m : ℕ). n - m < n - i) (sym e₂) (nearer r (in_it less))
 
     ended : T (not (ltb i n)) → s ≡ fold_of s₀ ys
-    ended over = sym (t.3 ∙ at-end s ys i (nltb→le i n over))
+    ended over = sym (t.3 ∙ at_end s ys i (nltb→le i n over))
 
   module _ (𝓣 : Tables 𝓤 H) (Known-step : Triple 𝓤 (𝓣.C step-def.name) (Step 𝓛 at_mem run)) (known_next : Triple 𝓤 (𝓣.C next-index-def.name) (Next 𝓛 at_mem run)) where
     abbrev C : Calls 𝓤 H
@@ -232,31 +232,31 @@ module _ {M : Type 1} {𝓤 : Ura M} (𝓛 : Logic 𝓤) (at_mem : Memory → SP
           assigns ! (bin ! (load ! (from ! (stop !)) (look ! 11 refl)) (load ! (from ! (stop !)) (look ! 9 refl)) tt) (from ! (stop !)) (init ! 7 refl (tt, tt)) $
           first ! $ branches ! (load ! (from ! (stop !)) (look ! 7 refl))
           (λ less. skips ! $ exec ! C Λ En (rest_of (rest_of (rest_of mirs.turn-1))) (any_q (Turned t)) $
-          assigns ! (bin ! (load ! (from ! (stop !)) (look ! 11 refl)) (lit ! tt) (record { fits = place-fits room.1 (in-it t less) })) (from ! (stop !)) (store ! 9 refl (tt, record { fits = place-fits room.1 (in-it t less) })) $
+          assigns ! (bin ! (load ! (from ! (stop !)) (look ! 11 refl)) (lit ! tt) (record { fits = place_fits room.1 (in_it t less) })) (from ! (stop !)) (store ! 9 refl (tt, record { fits = place_fits room.1 (in_it t less) })) $
           assigns ! (bin ! (load ! (from ! (fld ! refl (stop !))) (look_in ! 15 (sub ! 0 refl (whole !)))) (load ! (from ! (stop !)) (look ! 9 refl)) tt) (from ! (stop !)) (init ! 5 refl (tt, tt)) $
           rewrite ! 5 (λ (m : ℕ). ‵ (fat full_share ty_ptr l₇ 0 (vptr b m))) (sym (place_is 16 o (i t))) refl $
-          elem_out ! P.the_row (Is P.the_row) (shows 𝓛 P.the_row) (LL.vals P.the_type P'.the_laws) (LL.tells P.the_type P'.the_laws) q' ys (i t) noPost b o (in-it t less) (λ g.
+          elem_out ! P.the_row (Is P.the_row) (shows 𝓛 P.the_row) (LL.vals P.the_type P'.the_laws) (LL.tells P.the_type P'.the_laws) q' ys (i t) no_post b o (in_it t less) (λ g.
           -- [ps[i]; what it owns; the others; what shuts; what ps owns; _8; …; _7; …]
           assigns ! (of_opd ! (load ! (from ! (hop ! (look ! 7 refl) (stop !))) (look_raw ! 0 refl))) (from ! (stop !)) (init ! 5 refl ((LL.lawful P.the_type P'.the_laws 𝓛).typed (p t) _ g).0) $
-          elem_back ! P.the_row q' ys (i t) noPost (LL.vals P.the_type P'.the_laws (p t)) b o (in-it t less) $
+          elem_back ! P.the_row q' ys (i t) no_post (LL.vals P.the_type P'.the_laws (p t)) b o (in_it t less) $
           owned ! P.the_row (Is P.the_row) (LL.makes P.the_type P'.the_plain 𝓛) (p t) _ g $ owned ! Q.the_row (Is Q.the_row) (LL.makes Q.the_type Q'.the_plain 𝓛) (s t) _ t.4 $
-          use2 𝓛 (raw ((Step 𝓛 at_mem run).pre (to_step 𝓛 at_mem run (s t) (p t)))) (goes_step 𝓛 at_mem run (s t) (p t) (applied-fits room.1 (in-it t less) t.5)) $
+          use2 𝓛 (raw ((Step 𝓛 at_mem run).pre (to_step 𝓛 at_mem run (s t) (p t)))) (goes_step 𝓛 at_mem run (s t) (p t) (applied_fits room.1 (in_it t less) t.5)) $
           -- [post_step's pre; the row; what shuts; what ps owns; _8; …; _7; …; _6; …; _5; …; _4; …; _3; …; _2; …; _1; …; _0; …]
           calls_at ! (fm_of 𝓤 H 𝓛.laws 𝓣) (Step 𝓛 at_mem run) Known-step (to_step 𝓛 at_mem run (s t) (p t)) (and_then ! (load ! (from ! (stop !)) (look ! 14 refl)) (and_then ! (load ! (from ! (stop !)) (look ! 4 refl)) (no_more !))) (λ w.
           use1 𝓛 (later (some (λ (r : Row). (‵ ftrue ⊛ ‵ ((Q.the_row).own_val r (w ∷ []))) ⊛ raw (ensured 𝓛 step.ended (step.clauses 𝓛 at_mem run) tt ((s t), (p t, tt)) tt r)))) (id⊢ 𝓤 _) $ await ! tt $ pick ! (λ r.
-          split ! $ move ! (1 ∷ []) $ use1 𝓛 (raw (fact 𝓤 (r ≡ postTaken (s t) (p t)))) (stepped 𝓛 at_mem run (s t) (p t) r) $ heard ! (r ≡ postTaken (s t) (p t)) (λ e. split ! $ drop ! $
+          split ! $ move ! (1 ∷ []) $ use1 𝓛 (raw (fact 𝓤 (r ≡ post_taken (s t) (p t)))) (stepped 𝓛 at_mem run (s t) (p t) r) $ heard ! (r ≡ post_taken (s t) (p t)) (λ e. split ! $ drop ! $
           peeks ! Q.the_row (Is Q.the_row) (shows 𝓛 Q.the_row) r (w ∷ []) (λ is.
           land ! (from ! (stop !)) (store ! 14 refl ((LL.lawful Q.the_type Q'.the_laws 𝓛).typed r _ is).0) $
           rewrite ! 14 (λ (u : Val). ‵ (fat full_share Q'.mir l₃ 0 u)) (ap only (LL.tells Q.the_type Q'.the_laws r (w ∷ []) is)) refl $
           assigns ! (of_opd ! (load ! (from ! (fld ! refl (stop !))) (look_in ! 16 (sub ! 1 refl (whole !))))) (from ! (stop !)) (store ! 10 refl (tt, record { fits = room.0 })) $
-          drop ! $ owned ! Q.the_row (Is Q.the_row) (LL.makes Q.the_type Q'.the_plain 𝓛) r _ (again-is r w is) $
-          use1 𝓛 (raw ((Next 𝓛 at_mem run).pre (to-next 𝓛 at_mem run r (i t) n))) (goes-next 𝓛 at_mem run r (i t) n (in-it t less) (index-fits room.0 t.2) room.0) $
-          calls_at_last ! (fm_of 𝓤 H 𝓛.laws 𝓣) (Next 𝓛 at_mem run) known_next (to-next 𝓛 at_mem run r (i t) n) (and_then ! (load ! (from ! (stop !)) (look ! 14 refl)) (and_then ! (load ! (from ! (stop !)) (look ! 12 refl)) (and_then ! (load ! (from ! (stop !)) (look ! 10 refl)) (no_more !)))) (λ w'.
+          drop ! $ owned ! Q.the_row (Is Q.the_row) (LL.makes Q.the_type Q'.the_plain 𝓛) r _ (again_is r w is) $
+          use1 𝓛 (raw ((Next 𝓛 at_mem run).pre (to_next 𝓛 at_mem run r (i t) n))) (goes_next 𝓛 at_mem run r (i t) n (in_it t less) (index_fits room.0 t.2) room.0) $
+          calls_at_last ! (fm_of 𝓤 H 𝓛.laws 𝓣) (Next 𝓛 at_mem run) known_next (to_next 𝓛 at_mem run r (i t) n) (and_then ! (load ! (from ! (stop !)) (look ! 14 refl)) (and_then ! (load ! (from ! (stop !)) (look ! 12 refl)) (and_then ! (load ! (from ! (stop !)) (look ! 10 refl)) (no_more !)))) (λ w'.
           use1 𝓛 (later (some (λ (k : ℕ). (‵ ftrue ⊛ ‵ (usize.own_val k (w' ∷ []))) ⊛ raw (ensured 𝓛 next-index.ended (next-index.clauses 𝓛 at_mem run) tt (r, (i t, (n, tt))) tt k)))) (id⊢ 𝓤 _) $ await ! tt $ pick ! (λ k.
           split ! $ move ! (1 ∷ []) $ use1 𝓛 (raw (fact 𝓤 (k ≡ next_of r (i t) n))) (nexted 𝓛 at_mem run r (i t) n k) $ heard ! (k ≡ next_of r (i t) n) (λ e₂. split ! $ drop ! $
           peeks ! usize (Is usize) (shows 𝓛 usize) k (w' ∷ []) (λ is'. drop ! $
           land_last ! (from ! (stop !)) (store ! 11 refl ((uint_Lawful 𝓛 w64).typed k _ is').0) $ rewrite ! 11 (λ (u : Val). ‵ (fat full_share word l₄ 0 u)) (ap only is'.0) refl $
-          forget ! 3 refl $ forget ! 5 refl $ forget ! 7 refl $ forget ! 9 refl $ again ! Nearer At t (next t less r k e e₂ (again-is r w is)) (closer t less r k e₂)))))))))))
+          forget ! 3 refl $ forget ! 5 refl $ forget ! 7 refl $ forget ! 9 refl $ again ! Nearer At t (next t less r k e e₂ (again_is r w is)) (closer t less r k e₂)))))))))))
           (λ over. jumps ! $ exec ! C Λ En mirs.t-4 (at_ret En Post') $
           assigns ! (of_opd ! (load ! (from ! (stop !)) (look ! 13 refl))) (from ! (stop !)) (init ! 19 refl ((LL.lawful Q.the_type Q'.the_laws 𝓛).typed (s t) _ t.4).0) $
           shuts_slice ! tt P.the_row q' ys b o $
@@ -265,8 +265,8 @@ module _ {M : Type 1} {𝓤 : Ura M} (𝓛 : Logic 𝓤) (at_mem : Memory → SP
           move ! (18 ∷ 19 ∷ []) $ free1 ! $ move ! (16 ∷ 17 ∷ []) $ free1 ! $ move ! (14 ∷ 15 ∷ []) $ free1 ! $ move ! (12 ∷ 13 ∷ []) $ free1 ! $ move ! (10 ∷ 11 ∷ []) $ free1 ! $ move ! (8 ∷ 9 ∷ []) $ free1 ! $ move ! (6 ∷ 7 ∷ []) $ free1 ! $ move ! (4 ∷ 5 ∷ []) $ free1 ! $ move ! (2 ∷ 3 ∷ []) $ free1 ! $ free0 ! $
           by ! (exits (s t) t.4 (ended t over)))
 
-      looped : Sq 𝓛 (At first-turn) (runs C Λ En mirs.t-3 (at_ret En Post'))
-      looped = first ! $ blocks ! $ loops ! 𝓣 Nearer Nearer-wf At turns first-turn
+      looped : Sq 𝓛 (At first_turn) (runs C Λ En mirs.t-3 (at_ret En Post'))
+      looped = first ! $ blocks ! $ loops ! 𝓣 Nearer Nearer-wf At turns first_turn
 
     walk : ent 𝓤 (on_entry 𝓛 here.signature (κ, tt) (q, tt) x at) (WpFn 𝓤 H C Λ code.function (qm s₀ ∷ slice_val (b, o) n ∷ []) Post')
     walk =
@@ -294,9 +294,9 @@ module _ {M : Type 1} {𝓤 : Ura M} (𝓛 : Logic 𝓤) (at_mem : Memory → SP
   meets : Meets 𝓛 here.signature (WpFn 𝓤 H 𝓣.C 𝓣.Λ code.function) (here.spec 𝓛 at_mem run)
   meets = walk_Meets 𝓛 here.ended stayed (Goes-none 𝓛 1 (λ _. Q.the_row) yes (λ κs x f. refl), (Goes-none_slice 𝓛 1 (0 ∷ []) tt (plain (λ _. P.the_row)) yes, tt)) (here.clauses 𝓛 at_mem run) (WpFn 𝓤 H 𝓣.C 𝓣.Λ code.function) (WpFn-mono 𝓤 H 𝓛.laws 𝓣 code.function) walks
 
-pub fold-spec : {M : Type 1} → stated.statement M
+pub fold_spec : {M : Type 1} → stated.statement M
 unfolding code.routine tables_of
-fold-spec 𝓤 𝓛 𝓜 𝓡 =
+fold_spec 𝓤 𝓛 𝓜 𝓡 =
     entered 𝓤 𝓛.H (triple_of 𝓛 here.signature (here.spec 𝓛 𝓜.mem 𝓡.run))
     (tables 𝓤 𝓛.H 𝓜 𝓡 code.env).C (tables 𝓤 𝓛.H 𝓜 𝓡 code.env).Λ #here code.function (code.unfolded 𝓤 𝓛.H 𝓜 𝓡)
     (meets 𝓛 𝓜.mem 𝓡.run (tables_of 𝓤 𝓛.H 𝓜 (tables 𝓤 𝓛.H 𝓜 𝓡 code.env))

@@ -1,5 +1,5 @@
 -- `decide_posts::line_of` meets its contract.
-use Rattle.decide_posts.specs.FoldLaws.{line-of-three}
+use Rattle.decide_posts.specs.FoldLaws.{line_of_three}
 use borrow.Author.Rules.{rules}
 use Rattle.decide_posts.proofs.line_of.Statement.{statement}
 use Rattle.decide_posts.proofs.line_of.Tie as tie
@@ -17,10 +17,10 @@ select-requires-3 : tie.Need-select-requires-3
 select-requires-3 c κs = search rules
 
 returns : tie.Need-returns
-returns c = simp (c.select3.ensures, c.before.is-supervisor-external.ensures, c.before.before.select2.ensures, c.before.before.before.select.ensures) (line-of-three _)
+returns c = simp (c.select3.ensures, c.before.is-supervisor-external.ensures, c.before.before.select2.ensures, c.before.before.before.select.ensures) (line_of_three _)
 
-pub line-of-spec : {M : Type 1} → statement M
-line-of-spec =
+pub line_of_spec : {M : Type 1} → statement M
+line_of_spec =
     tie.close
     (tie.spec
     select-requires

@@ -16,5 +16,5 @@ returns-2 : tie.Need-returns-2
 unfolding next_of
 returns-2 c = simp (ne_eqb _ _ c.if1.false)
 
-pub next-index-spec : {M : Type 1} → statement M
-next-index-spec = tie.close (tie.spec add-result returns returns-2)
+pub next_index_spec : {M : Type 1} → statement M
+next_index_spec = tie.close (tie.spec add-result returns returns-2)

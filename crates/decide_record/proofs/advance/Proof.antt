@@ -11,5 +11,5 @@ returns : tie.Need-returns
 unfolding moved
 returns c = simp c.before.plus.ensures
 
-pub advance-spec : {M : Type 1} → statement M
-advance-spec = tie.close (tie.spec plus-requires returns)
+pub advance_spec : {M : Type 1} → statement M
+advance_spec = tie.close (tie.spec plus-requires returns)

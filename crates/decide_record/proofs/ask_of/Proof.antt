@@ -1,5 +1,5 @@
 -- `decide_record::ask_of` meets its contract.
-use Rattle.scope.specs.Record.{waitingAsk}
+use Rattle.scope.specs.Record.{waiting_ask}
 use Rattle.std.proofs.Common.{rules}
 use Rattle.decide_record.proofs.ask_of.Statement.{statement}
 use Rattle.decide_record.proofs.ask_of.Tie as tie
@@ -23,27 +23,27 @@ ecall-ask-requires : tie.Need-ecall-ask-requires
 ecall-ask-requires c κs = search rules
 
 returns : tie.Need-returns
-unfolding waitingAsk
+unfolding waiting_ask
 returns c = simp c.enum_told.given.1
 
 returns-2 : tie.Need-returns-2
-unfolding waitingAsk
+unfolding waiting_ask
 returns-2 c = simp c.enum-told2.given.1
 
 returns-3 : tie.Need-returns-3
-unfolding waitingAsk
+unfolding waiting_ask
 returns-3 c = simp c.enum-told3.given.1
 
 returns-4 : tie.Need-returns-4
-unfolding waitingAsk
+unfolding waiting_ask
 returns-4 c = simp c.enum-told4.given.1
 
 returns-5 : tie.Need-returns-5
-unfolding waitingAsk
+unfolding waiting_ask
 returns-5 c = simp (c.ecall-ask.ensures, c.before.before.w.given.1)
 
-pub ask-of-spec : {M : Type 1} → statement M
-ask-of-spec =
+pub ask_of_spec : {M : Type 1} → statement M
+ask_of_spec =
     tie.close
     (tie.spec
     enum_told

@@ -1,5 +1,5 @@
 -- `decide_record::asked_count` meets its contract.
-use Rattle.scope.specs.Calls.{askedCount}
+use Rattle.scope.specs.Calls.{asked_count}
 use Rattle.std.proofs.Common.{rules}
 use Rattle.decide_record.proofs.asked_count.Statement.{statement}
 use Rattle.decide_record.proofs.asked_count.Tie as tie
@@ -32,43 +32,43 @@ enum-told-8 : tie.Need-enum-told-8
 enum-told-8 c = search rules
 
 returns : tie.Need-returns
-unfolding askedCount
+unfolding asked_count
 returns c = simp c.enum_told.given.1
 
 returns-2 : tie.Need-returns-2
-unfolding askedCount
+unfolding asked_count
 returns-2 c = simp c.enum-told2.given.1
 
 returns-3 : tie.Need-returns-3
-unfolding askedCount
+unfolding asked_count
 returns-3 c = simp c.before.a.given.1
 
 returns-4 : tie.Need-returns-4
-unfolding askedCount
+unfolding asked_count
 returns-4 c = simp c.enum-told3.given.1
 
 returns-5 : tie.Need-returns-5
-unfolding askedCount
+unfolding asked_count
 returns-5 c = simp c.enum-told4.given.1
 
 returns-6 : tie.Need-returns-6
-unfolding askedCount
+unfolding asked_count
 returns-6 c = simp c.enum-told5.given.1
 
 returns-7 : tie.Need-returns-7
-unfolding askedCount
+unfolding asked_count
 returns-7 c = simp c.enum-told6.given.1
 
 returns-8 : tie.Need-returns-8
-unfolding askedCount
+unfolding asked_count
 returns-8 c = simp c.enum-told7.given.1
 
 returns-9 : tie.Need-returns-9
-unfolding askedCount
+unfolding asked_count
 returns-9 c = simp c.enum-told8.given.1
 
-pub asked-count-spec : {M : Type 1} → statement M
-asked-count-spec =
+pub asked_count_spec : {M : Type 1} → statement M
+asked_count_spec =
     tie.close
     (tie.spec
     enum_told

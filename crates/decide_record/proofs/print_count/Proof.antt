@@ -1,5 +1,5 @@
 -- `decide_record::print_count` meets its contract.
-use Rattle.scope.specs.Calls.{printCount}
+use Rattle.scope.specs.Calls.{print_count}
 use Rattle.std.proofs.Common.{rules}
 use Rattle.decide_record.proofs.print_count.Statement.{statement}
 use Rattle.decide_record.proofs.print_count.Tie as tie
@@ -23,27 +23,27 @@ asked-count-requires : tie.Need-asked-count-requires
 asked-count-requires c κs = search rules
 
 returns : tie.Need-returns
-unfolding printCount
+unfolding print_count
 returns c = simp c.enum_told.given.1
 
 returns-2 : tie.Need-returns-2
-unfolding printCount
+unfolding print_count
 returns-2 c = simp c.enum-told2.given.1
 
 returns-3 : tie.Need-returns-3
-unfolding printCount
+unfolding print_count
 returns-3 c = simp c.enum-told3.given.1
 
 returns-4 : tie.Need-returns-4
-unfolding printCount
+unfolding print_count
 returns-4 c = simp c.enum-told4.given.1
 
 returns-5 : tie.Need-returns-5
-unfolding printCount
+unfolding print_count
 returns-5 c = simp (c.asked-count.ensures, c.before.before.w.given.1)
 
-pub print-count-spec : {M : Type 1} → statement M
-print-count-spec =
+pub print_count_spec : {M : Type 1} → statement M
+print_count_spec =
     tie.close
     (tie.spec
     enum_told

@@ -14,5 +14,5 @@ returns : tie.Need-returns
 unfolding printable
 returns c = simp (c.fit.ensures, c.before.print-count.ensures)
 
-pub printable-spec : {M : Type 1} → statement M
-printable-spec = tie.close (tie.spec print-count-requires fit-requires returns)
+pub printable_spec : {M : Type 1} → statement M
+printable_spec = tie.close (tie.spec print-count-requires fit-requires returns)

@@ -23,5 +23,5 @@ returns-3 : tie.Need-returns-3
 unfolding value_of
 returns-3 c = simp (le-ltb _ _ c.if2.false, le-leb _ _ c.if2.false, ne_eqb _ _ c.before.if1.false)
 
-pub register-spec : {M : Type 1} → statement M
-register-spec = tie.close (tie.spec returns mul-result array-read-result returns-2 returns-3)
+pub register_spec : {M : Type 1} → statement M
+register_spec = tie.close (tie.spec returns mul-result array-read-result returns-2 returns-3)

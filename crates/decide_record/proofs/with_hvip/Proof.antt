@@ -8,5 +8,5 @@ returns : tie.Need-returns
 unfolding pended
 returns c = refl
 
-pub with-hvip-spec : {M : Type 1} → statement M
-with-hvip-spec = tie.close (tie.spec returns)
+pub with_hvip_spec : {M : Type 1} → statement M
+with_hvip_spec = tie.close (tie.spec returns)

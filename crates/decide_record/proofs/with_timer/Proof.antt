@@ -8,5 +8,5 @@ returns : tie.Need-returns
 unfolding timed
 returns c = refl
 
-pub with-timer-spec : {M : Type 1} → statement M
-with-timer-spec = tie.close (tie.spec returns)
+pub with_timer_spec : {M : Type 1} → statement M
+with_timer_spec = tie.close (tie.spec returns)

@@ -1,5 +1,5 @@
 -- `decide_virtual_inst::decide` meets its contract.
-use Rattle.scope.specs.VirtualInstruction.{stimecmpWord}
+use Rattle.scope.specs.VirtualInstruction.{stimecmp_word}
 use borrow.Author.Rules.{rules}
 use Rattle.decide_virtual_inst.proofs.decide.Statement.{statement}
 use Rattle.decide_virtual_inst.proofs.decide.Tie as tie
@@ -14,8 +14,8 @@ decide-by-requires : tie.Need-decide-by-requires
 decide-by-requires c κs = search rules
 
 returns : tie.Need-returns
-unfolding stimecmpWord
+unfolding stimecmp_word
 returns c = simp (c.decide_by.ensures, c.before.csr.ensures, c.before.before.opcode.ensures)
 
-pub decide-spec : {M : Type 1} → statement M
-decide-spec = tie.close (tie.spec opcode-requires csr-requires decide-by-requires returns)
+pub decide_spec : {M : Type 1} → statement M
+decide_spec = tie.close (tie.spec opcode-requires csr-requires decide-by-requires returns)

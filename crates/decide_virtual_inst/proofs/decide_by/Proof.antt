@@ -25,8 +25,8 @@ returns-2 c = simp (ne_eqb _ _ c.if2.false, eq-eqb _ _ c.before.if1.true)
 returns-3 : tie.Need-returns-3
 returns-3 c = simp (ne_eqb _ _ c.if1.false)
 
-pub decide-by-spec : {M : Type 1} → statement M
-decide-by-spec =
+pub decide_by_spec : {M : Type 1} → statement M
+decide_by_spec =
     tie.close
     (tie.spec
     funct3-requires

@@ -13,5 +13,5 @@ returns c = simp (c.decide.ensures, eq-eqb _ _ c.before.if1.true)
 returns-2 : tie.Need-returns-2
 returns-2 c = simp (ne_eqb _ _ c.if1.false)
 
-pub stval-by-spec : {M : Type 1} → statement M
-stval-by-spec = tie.close (tie.spec decide-requires returns returns-2)
+pub stval_by_spec : {M : Type 1} → statement M
+stval_by_spec = tie.close (tie.spec decide-requires returns returns-2)

@@ -13,5 +13,5 @@ waits-requires c κs = search rules
 returns : tie.Need-returns
 returns c = c.waits.ensures c.before.before.before.waiting.ensures
 
-pub answer-spec : {M : Type 1} → statement M
-answer-spec = tie.close (tie.spec waiting-requires waits-requires returns)
+pub answer_spec : {M : Type 1} → statement M
+answer_spec = tie.close (tie.spec waiting-requires waits-requires returns)

@@ -1,8 +1,8 @@
 -- `in_place_answer::complete_load` meets its contract.
 use mathlib.Core.Path.{refl}
-use Rattle.scope.specs.Calls.{calledOf, base_of, effect_of}
-use Rattle.in_place_record.specs.Laws.{complete-done}
-use Rattle.in_place_answer.specs.Laws.{done-by}
+use Rattle.scope.specs.Calls.{called_of, base_of, effect_of}
+use Rattle.in_place_record.specs.Laws.{complete_done}
+use Rattle.in_place_answer.specs.Laws.{done_by}
 use borrow.Author.Rules.{rules}
 use Rattle.in_place_answer.proofs.complete_load.Statement.{statement}
 use Rattle.in_place_answer.proofs.complete_load.Tie as tie
@@ -17,8 +17,8 @@ complete-requires : tie.Need-complete-requires
 complete-requires c κs = search rules
 
 returns : tie.Need-returns
-unfolding calledOf base_of effect_of
-returns c = done-by (complete-done _ c.before.before.before.before.sized.ensures _ _ refl) (simp c.before.before.waiting.ensures at c.complete.ensures)
+unfolding called_of base_of effect_of
+returns c = done_by (complete_done _ c.before.before.before.before.sized.ensures _ _ refl) (simp c.before.before.waiting.ensures at c.complete.ensures)
 
-pub complete-load-spec : {M : Type 1} → statement M
-complete-load-spec = tie.close (tie.spec sized-requires waiting-requires complete-requires returns)
+pub complete_load_spec : {M : Type 1} → statement M
+complete_load_spec = tie.close (tie.spec sized-requires waiting-requires complete-requires returns)

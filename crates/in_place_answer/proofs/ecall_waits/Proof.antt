@@ -1,7 +1,7 @@
 -- `in_place_answer::ecall_waits` meets its contract.
 use mathlib.Core.Path.{refl}
 use Rattle.in_place_record.specs.View.{view_of}
-use Rattle.scope.specs.Record.{ecallAskNumber}
+use Rattle.scope.specs.Record.{ecall_ask_number}
 use Rattle.in_place_answer.specs.Laws.{known}
 use borrow.Author.Rules.{rules}
 use Rattle.in_place_answer.proofs.ecall_waits.Statement.{statement}
@@ -62,43 +62,43 @@ answered-requires-9 : tie.Need-answered-requires-9
 answered-requires-9 c κs = search rules
 
 returns : tie.Need-returns
-unfolding view_of ecallAskNumber
+unfolding view_of ecall_ask_number
 returns c = λ e. c.answered.ensures (known c.before.before.before.enum_told.given.1 e) refl
 
 returns-2 : tie.Need-returns-2
-unfolding view_of ecallAskNumber
+unfolding view_of ecall_ask_number
 returns-2 c = λ e. c.answered2.ensures (known c.before.before.before.before.e.given.1 e) refl
 
 returns-3 : tie.Need-returns-3
-unfolding view_of ecallAskNumber
+unfolding view_of ecall_ask_number
 returns-3 c = λ e. c.answered3.ensures (known c.before.before.before.before.e2.given.1 e) refl
 
 returns-4 : tie.Need-returns-4
-unfolding view_of ecallAskNumber
+unfolding view_of ecall_ask_number
 returns-4 c = λ e. c.answered4.ensures (known c.before.before.before.before.e3.given.1 e) refl
 
 returns-5 : tie.Need-returns-5
-unfolding view_of ecallAskNumber
+unfolding view_of ecall_ask_number
 returns-5 c = λ e. c.answered5.ensures (known c.before.before.before.before.e4.given.1 e) refl
 
 returns-6 : tie.Need-returns-6
-unfolding view_of ecallAskNumber
+unfolding view_of ecall_ask_number
 returns-6 c = λ e. c.answered6.ensures (known c.before.before.before.enum-told2.given.1 e) refl
 
 returns-7 : tie.Need-returns-7
-unfolding view_of ecallAskNumber
+unfolding view_of ecall_ask_number
 returns-7 c = λ e. c.answered7.ensures (known c.before.before.before.enum-told3.given.1 e) refl
 
 returns-8 : tie.Need-returns-8
-unfolding view_of ecallAskNumber
+unfolding view_of ecall_ask_number
 returns-8 c = λ e. c.answered8.ensures (known c.before.before.before.enum-told4.given.1 e) refl
 
 returns-9 : tie.Need-returns-9
-unfolding view_of ecallAskNumber
+unfolding view_of ecall_ask_number
 returns-9 c = λ e. c.answered9.ensures (known c.before.before.before.enum-told5.given.1 e) refl
 
-pub ecall-waits-spec : {M : Type 1} → statement M
-ecall-waits-spec =
+pub ecall_waits_spec : {M : Type 1} → statement M
+ecall_waits_spec =
     tie.close
     (tie.spec
     enum_told

@@ -1,5 +1,5 @@
 -- `in_place_answer::mmio_word` meets its contract.
-use Rattle.in_place_read.specs.Laws.{mmio-made}
+use Rattle.in_place_read.specs.Laws.{mmio_made}
 use Rattle.in_place_record.specs.Laws.{made_by}
 use borrow.Author.Rules.{rules}
 use Rattle.in_place_answer.proofs.mmio_word.Statement.{statement}
@@ -24,10 +24,10 @@ do-fault-requires : tie.Need-do-fault-requires
 do-fault-requires c κs = search rules
 
 returns : tie.Need-returns
-returns c = made_by (mmio-made _ _ c.before.before.before.before.before.before.before.before.sized.ensures _ _ _) (simp (c.before.decide.ensures, c.before.before.before.before.read.ensures, c.before.before.before.before.before.store-source.ensures, c.before.before.before.before.before.before.before.from-fetched.ensures) at c.do-fault.ensures)
+returns c = made_by (mmio_made _ _ c.before.before.before.before.before.before.before.before.sized.ensures _ _ _) (simp (c.before.decide.ensures, c.before.before.before.before.read.ensures, c.before.before.before.before.before.store-source.ensures, c.before.before.before.before.before.before.before.from-fetched.ensures) at c.do-fault.ensures)
 
-pub mmio-word-spec : {M : Type 1} → statement M
-mmio-word-spec =
+pub mmio_word_spec : {M : Type 1} → statement M
+mmio_word_spec =
     tie.close
     (tie.spec
     sized-requires

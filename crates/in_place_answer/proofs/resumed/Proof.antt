@@ -1,7 +1,7 @@
 -- `in_place_answer::resumed` meets its contract.
 use Rattle.in_place_record.specs.View.{view_of}
-use Rattle.scope.specs.Answers.{wordEffect}
-use Rattle.in_place_answer.specs.Laws.{refused-made}
+use Rattle.scope.specs.Answers.{word_effect}
+use Rattle.in_place_answer.specs.Laws.{refused_made}
 use mathlib.Core.Path.{sym, ◌∙◌}
 use borrow.Author.Rules.{rules}
 use Rattle.in_place_answer.proofs.resumed.Statement.{statement}
@@ -29,27 +29,27 @@ enum-told-4 : tie.Need-enum-told-4
 enum-told-4 c = search rules
 
 returns : tie.Need-returns
-unfolding view_of wordEffect
-returns c = λ e. rw c.enum_told.given.1 (refused-made _ _ _ (sym c.enum_told.given.1 ∙ e))
+unfolding view_of word_effect
+returns c = λ e. rw c.enum_told.given.1 (refused_made _ _ _ (sym c.enum_told.given.1 ∙ e))
 
 returns-2 : tie.Need-returns-2
-unfolding view_of wordEffect
-returns-2 c = λ e. rw c.enum-told2.given.1 (refused-made _ _ _ (sym c.enum-told2.given.1 ∙ e))
+unfolding view_of word_effect
+returns-2 c = λ e. rw c.enum-told2.given.1 (refused_made _ _ _ (sym c.enum-told2.given.1 ∙ e))
 
 returns-3 : tie.Need-returns-3
-unfolding view_of wordEffect
+unfolding view_of word_effect
 returns-3 c = λ e. rw c.before.before.before.enum-told3.given.1 c.stimecmp-word.ensures
 
 returns-4 : tie.Need-returns-4
-unfolding view_of wordEffect
+unfolding view_of word_effect
 returns-4 c = λ e. rw c.before.before.before.before.w.given.1 c.mmio-word.ensures
 
 returns-5 : tie.Need-returns-5
-unfolding view_of wordEffect
-returns-5 c = λ e. rw c.enum-told4.given.1 (refused-made _ _ _ (sym c.enum-told4.given.1 ∙ e))
+unfolding view_of word_effect
+returns-5 c = λ e. rw c.enum-told4.given.1 (refused_made _ _ _ (sym c.enum-told4.given.1 ∙ e))
 
-pub resumed-spec : {M : Type 1} → statement M
-resumed-spec =
+pub resumed_spec : {M : Type 1} → statement M
+resumed_spec =
     tie.close
     (tie.spec
     enum_told

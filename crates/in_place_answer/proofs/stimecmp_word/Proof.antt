@@ -26,8 +26,8 @@ do-csr-requires c κs = search rules
 returns : tie.Need-returns
 returns c = made_by (word_made _ _ c.before.before.before.before.before.before.before.before.sized.ensures _) (simp (c.before.before.before.decide.ensures, c.before.before.before.before.before.read.ensures, c.before.before.before.before.before.before.rs1.ensures) at c.do-csr.ensures)
 
-pub stimecmp-word-spec : {M : Type 1} → statement M
-stimecmp-word-spec =
+pub stimecmp_word_spec : {M : Type 1} → statement M
+stimecmp_word_spec =
     tie.close
     (tie.spec
     sized-requires

@@ -1,8 +1,8 @@
 -- `in_place_answer::waits` meets its contract.
 use mathlib.Core.Path.{refl}
 use Rattle.in_place_record.specs.View.{view_of}
-use Rattle.scope.specs.Record.{waitingAsk}
-use Rattle.in_place_answer.specs.Laws.{none-waits}
+use Rattle.scope.specs.Record.{waiting_ask}
+use Rattle.in_place_answer.specs.Laws.{none_waits}
 use mathlib.Core.Path.{refl, sym, ◌∙◌}
 use borrow.Author.Rules.{rules}
 use Rattle.in_place_answer.proofs.waits.Statement.{statement}
@@ -33,27 +33,27 @@ ecall-waits-requires : tie.Need-ecall-waits-requires
 ecall-waits-requires c κs = search rules
 
 returns : tie.Need-returns
-unfolding view_of waitingAsk
-returns c = λ e. none-waits _ _ _ _ _ _ (sym c.enum_told.given.1 ∙ e) refl
+unfolding view_of waiting_ask
+returns c = λ e. none_waits _ _ _ _ _ _ (sym c.enum_told.given.1 ∙ e) refl
 
 returns-2 : tie.Need-returns-2
-unfolding view_of waitingAsk
-returns-2 c = λ e. none-waits _ _ _ _ _ _ (sym c.enum-told2.given.1 ∙ e) refl
+unfolding view_of waiting_ask
+returns-2 c = λ e. none_waits _ _ _ _ _ _ (sym c.enum-told2.given.1 ∙ e) refl
 
 returns-3 : tie.Need-returns-3
-unfolding view_of waitingAsk
+unfolding view_of waiting_ask
 returns-3 c = λ e. c.fetch-waits.ensures e (rw c.before.before.before.enum-told3.given.1 refl)
 
 returns-4 : tie.Need-returns-4
-unfolding view_of waitingAsk
+unfolding view_of waiting_ask
 returns-4 c = λ e. c.fetch-waits2.ensures e (rw c.before.before.before.enum-told4.given.1 refl)
 
 returns-5 : tie.Need-returns-5
-unfolding view_of waitingAsk
+unfolding view_of waiting_ask
 returns-5 c = λ e. c.ecall-waits.ensures (sym c.before.before.before.before.w.given.1 ∙ e)
 
-pub waits-spec : {M : Type 1} → statement M
-waits-spec =
+pub waits_spec : {M : Type 1} → statement M
+waits_spec =
     tie.close
     (tie.spec
     enum_told

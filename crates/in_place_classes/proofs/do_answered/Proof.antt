@@ -1,6 +1,6 @@
 -- `in_place_classes::do_answered` meets its contract.
 use mathlib.Core.Path.{refl}
-use Rattle.in_place_record.specs.Rows.{answeredLeft}
+use Rattle.in_place_record.specs.Rows.{answered_left}
 use borrow.Author.Rules.{rules}
 use Rattle.in_place_classes.proofs.do_answered.Statement.{statement}
 use Rattle.in_place_classes.proofs.do_answered.Tie as tie
@@ -69,31 +69,31 @@ element-write-r-4 : tie.Need-element-write-r-4
 element-write-r-4 c = search rules
 
 returns : tie.Need-returns
-unfolding answeredLeft
+unfolding answered_left
 returns c = simp (c.step.ensures, c.before.before.enum_told.given.1) (record { rec = refl; out = refl; word = refl })
 
 returns-2 : tie.Need-returns-2
-unfolding answeredLeft
+unfolding answered_left
 returns-2 c = simp (c.give.ensures, c.before.before.before.d.given.1) (record { rec = refl; out = refl; word = refl })
 
 returns-3 : tie.Need-returns-3
-unfolding answeredLeft
+unfolding answered_left
 returns-3 c = simp (c.pair.ensures, c.before.before.before.d2.given.1) (record { rec = refl; out = refl; word = refl })
 
 returns-4 : tie.Need-returns-4
-unfolding answeredLeft
+unfolding answered_left
 returns-4 c = simp (c.step2.ensures, c.before.before.abi-number.ensures, c.before.before.before.before.d3.given.1) (record { rec = refl; out = refl; word = refl })
 
 returns-5 : tie.Need-returns-5
-unfolding answeredLeft
+unfolding answered_left
 returns-5 c = simp c.before.d4.given.1 (record { rec = refl; out = refl; word = refl })
 
 returns-6 : tie.Need-returns-6
-unfolding answeredLeft
+unfolding answered_left
 returns-6 c = simp c.before.d5.given.1 (record { rec = refl; out = refl; word = refl })
 
-pub do-answered-spec : {M : Type 1} → statement M
-do-answered-spec =
+pub do_answered_spec : {M : Type 1} → statement M
+do_answered_spec =
     tie.close
     (tie.spec
     enum_told

@@ -1,6 +1,6 @@
 -- `in_place_classes::do_csr` meets its contract.
 use mathlib.Core.Path.{refl}
-use Rattle.in_place_record.specs.Rows.{csrLeft}
+use Rattle.in_place_record.specs.Rows.{csr_left}
 use borrow.Author.Rules.{rules}
 use Rattle.in_place_classes.proofs.do_csr.Statement.{statement}
 use Rattle.in_place_classes.proofs.do_csr.Tie as tie
@@ -39,19 +39,19 @@ put-requires : tie.Need-put-requires
 put-requires c κs = search rules
 
 returns : tie.Need-returns
-unfolding csrLeft
+unfolding csr_left
 returns c = simp (c.bump.ensures, c.before.before.enum_told.given.1) (record { rec = refl; out = refl; word = refl })
 
 returns-2 : tie.Need-returns-2
-unfolding csrLeft
+unfolding csr_left
 returns-2 c = simp (c.ask-fetch.ensures, c.before.before.before.enum-told2.given.1) (record { rec = refl; out = refl; word = refl })
 
 returns-3 : tie.Need-returns-3
-unfolding csrLeft
+unfolding csr_left
 returns-3 c = simp (c.put.ensures, c.before.before.step.ensures, c.before.before.before.before.before.before.d.given.1) (record { rec = refl; out = refl; word = refl })
 
-pub do-csr-spec : {M : Type 1} → statement M
-do-csr-spec =
+pub do_csr_spec : {M : Type 1} → statement M
+do_csr_spec =
     tie.close
     (tie.spec
     enum_told

@@ -1,6 +1,6 @@
 -- `in_place_classes::do_fault` meets its contract.
 use mathlib.Core.Path.{refl}
-use Rattle.in_place_record.specs.Rows.{faultLeft}
+use Rattle.in_place_record.specs.Rows.{fault_left}
 use borrow.Author.Rules.{rules}
 use Rattle.in_place_classes.proofs.do_fault.Statement.{statement}
 use Rattle.in_place_classes.proofs.do_fault.Tie as tie
@@ -99,31 +99,31 @@ step-requires : tie.Need-step-requires
 step-requires c κs = search rules
 
 returns : tie.Need-returns
-unfolding faultLeft
+unfolding fault_left
 returns c = simp (c.access-number.ensures, c.before.ask-fetch.ensures, c.before.before.before.before.enum_told.given.1) (record { rec = refl; out = refl; word = refl })
 
 returns-2 : tie.Need-returns-2
-unfolding faultLeft
+unfolding fault_left
 returns-2 c = simp c.enum-told2.given.1 (record { rec = refl; out = refl; word = refl })
 
 returns-3 : tie.Need-returns-3
-unfolding faultLeft
+unfolding fault_left
 returns-3 c = simp c.enum-told3.given.1 (record { rec = refl; out = refl; word = refl })
 
 returns-4 : tie.Need-returns-4
-unfolding faultLeft
+unfolding fault_left
 returns-4 c = simp (c.access-number2.ensures, c.before.enum-told4.given.1) (record { rec = refl; out = refl; word = refl })
 
 returns-5 : tie.Need-returns-5
-unfolding faultLeft
+unfolding fault_left
 returns-5 c = simp (c.advance.ensures, c.before.before.flag.ensures, c.before.before.before.width-bytes.ensures, c.before.before.before.before.before.d.given.1) (record { rec = refl; out = refl; word = refl })
 
 returns-6 : tie.Need-returns-6
-unfolding faultLeft
+unfolding fault_left
 returns-6 c = simp (c.step.ensures, c.before.before.width-bytes2.ensures, c.before.before.before.before.d2.given.1) (record { rec = refl; out = refl; word = refl })
 
-pub do-fault-spec : {M : Type 1} → statement M
-do-fault-spec =
+pub do_fault_spec : {M : Type 1} → statement M
+do_fault_spec =
     tie.close
     (tie.spec
     enum_told

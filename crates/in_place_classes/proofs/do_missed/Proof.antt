@@ -1,6 +1,6 @@
 -- `in_place_classes::do_missed` meets its contract.
 use mathlib.Core.Path.{refl}
-use Rattle.in_place_record.specs.Rows.{missedLeft}
+use Rattle.in_place_record.specs.Rows.{missed_left}
 use borrow.Author.Rules.{rules}
 use Rattle.in_place_classes.proofs.do_missed.Statement.{statement}
 use Rattle.in_place_classes.proofs.do_missed.Tie as tie
@@ -36,19 +36,19 @@ element-write-r-2 : tie.Need-element-write-r-2
 element-write-r-2 c = search rules
 
 returns : tie.Need-returns
-unfolding missedLeft
+unfolding missed_left
 returns c = simp (c.inject2.ensures, c.before.inject.ensures, c.before.before.before.csrs.ensures, c.before.before.before.before.before.before.d.given.1) (record { rec = refl; out = refl; word = refl })
 
 returns-2 : tie.Need-returns-2
-unfolding missedLeft
+unfolding missed_left
 returns-2 c = simp c.before.d2.given.1 (record { rec = refl; out = refl; word = refl })
 
 returns-3 : tie.Need-returns-3
-unfolding missedLeft
+unfolding missed_left
 returns-3 c = simp c.enum_told.given.1 (record { rec = refl; out = refl; word = refl })
 
-pub do-missed-spec : {M : Type 1} → statement M
-do-missed-spec =
+pub do_missed_spec : {M : Type 1} → statement M
+do_missed_spec =
     tie.close
     (tie.spec
     enum-known-d

@@ -1,6 +1,6 @@
 -- `in_place_ecall::copy_in` meets its contract.
 use mathlib.Core.Path.{refl}
-use Rattle.in_place_record.specs.Rows.{callLeft}
+use Rattle.in_place_record.specs.Rows.{call_left}
 use borrow.Author.Rules.{rules}
 use Rattle.in_place_ecall.proofs.copy_in.Statement.{statement}
 use Rattle.in_place_ecall.proofs.copy_in.Tie as tie
@@ -18,7 +18,7 @@ element-write-r-2 : tie.Need-element-write-r-2
 element-write-r-2 c = search rules
 
 returns : tie.Need-returns
-unfolding callLeft
+unfolding call_left
 returns c = record { rec = refl; out = refl; word = refl }
 
 pub copy_in_spec : {M : Type 1} → statement M

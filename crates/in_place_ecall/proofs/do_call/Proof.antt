@@ -1,6 +1,6 @@
 -- `in_place_ecall::do_call` meets its contract.
 use mathlib.Core.Path.{refl}
-use Rattle.in_place_record.specs.Rows.{callLeft}
+use Rattle.in_place_record.specs.Rows.{call_left}
 use borrow.Author.Rules.{rules}
 use Rattle.in_place_ecall.proofs.do_call.Statement.{statement}
 use Rattle.in_place_ecall.proofs.do_call.Tie as tie
@@ -132,79 +132,79 @@ forward-requires : tie.Need-forward-requires
 forward-requires c κs = search rules
 
 returns : tie.Need-returns
-unfolding callLeft
+unfolding call_left
 returns c = simp (c.pair.ensures, c.before.before.before.d.given.1) (record { rec = refl; out = refl; word = refl })
 
 returns-2 : tie.Need-returns-2
-unfolding callLeft
+unfolding call_left
 returns-2 c = simp (c.step.ensures, c.before.before.enum_told.given.1) (record { rec = refl; out = refl; word = refl })
 
 returns-3 : tie.Need-returns-3
-unfolding callLeft
+unfolding call_left
 returns-3 c = simp (c.give.ensures, c.before.before.timer.ensures, c.before.before.before.before.before.d2.given.1) (record { rec = refl; out = refl; word = refl })
 
 returns-4 : tie.Need-returns-4
-unfolding callLeft
+unfolding call_left
 returns-4 c = simp (c.pair2.ensures, c.before.before.timer2.ensures, c.before.before.before.before.before.d3.given.1) (record { rec = refl; out = refl; word = refl })
 
 returns-5 : tie.Need-returns-5
-unfolding callLeft
+unfolding call_left
 returns-5 c = simp (c.give2.ensures, c.before.before.with-bits.ensures, c.before.before.before.before.enum-told2.given.1) (record { rec = refl; out = refl; word = refl })
 
 returns-6 : tie.Need-returns-6
-unfolding callLeft
+unfolding call_left
 returns-6 c = rw c.before.before.before.before.d4.given.1 c.tells.ensures
 
 returns-7 : tie.Need-returns-7
-unfolding callLeft
+unfolding call_left
 returns-7 c = rw c.before.before.enum-told3.given.1 (record { rec = c.waits.ensures.0; out = refl; word = c.waits.ensures.1 })
 
 returns-8 : tie.Need-returns-8
-unfolding callLeft
+unfolding call_left
 returns-8 c = rw c.before.before.before.before.d5.given.1 c.tells2.ensures
 
 returns-9 : tie.Need-returns-9
-unfolding callLeft
+unfolding call_left
 returns-9 c = rw c.before.before.before.before.before.d6.given.1 (rw c.before.abi-number.ensures at c.passes.ensures)
 
 returns-10 : tie.Need-returns-10
-unfolding callLeft
+unfolding call_left
 returns-10 c = rw c.before.before.before.before.d7.given.1 c.passes2.ensures
 
 returns-11 : tie.Need-returns-11
-unfolding callLeft
+unfolding call_left
 returns-11 c = rw c.before.before.before.enum-told4.given.1 c.tells3.ensures
 
 returns-12 : tie.Need-returns-12
-unfolding callLeft
+unfolding call_left
 returns-12 c = rw c.before.before.enum-told5.given.1 (record { rec = c.waits2.ensures.0; out = refl; word = c.waits2.ensures.1 })
 
 returns-13 : tie.Need-returns-13
-unfolding callLeft
+unfolding call_left
 returns-13 c = rw c.before.before.enum-told6.given.1 (record { rec = c.waits3.ensures.0; out = refl; word = c.waits3.ensures.1 })
 
 returns-14 : tie.Need-returns-14
-unfolding callLeft
+unfolding call_left
 returns-14 c = rw c.before.before.before.enum-told7.given.1 c.hypercall.ensures
 
 returns-15 : tie.Need-returns-15
-unfolding callLeft
-returns-15 c = rw c.before.before.before.before.d8.given.1 c.copy-in.ensures
+unfolding call_left
+returns-15 c = rw c.before.before.before.before.d8.given.1 c.copy_in.ensures
 
 returns-16 : tie.Need-returns-16
-unfolding callLeft
-returns-16 c = rw c.before.before.before.before.d9.given.1 c.read-console.ensures
+unfolding call_left
+returns-16 c = rw c.before.before.before.before.d9.given.1 c.read_console.ensures
 
 returns-17 : tie.Need-returns-17
-unfolding callLeft
+unfolding call_left
 returns-17 c = rw c.before.before.before.before.d10.given.1 c.tells4.ensures
 
 returns-18 : tie.Need-returns-18
-unfolding callLeft
+unfolding call_left
 returns-18 c = rw c.before.before.before.before.d11.given.1 c.forward.ensures
 
-pub do-call-spec : {M : Type 1} → statement M
-do-call-spec =
+pub do_call_spec : {M : Type 1} → statement M
+do_call_spec =
     tie.close
     (tie.spec
     enum-known-d

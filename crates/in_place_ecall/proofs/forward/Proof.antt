@@ -1,6 +1,6 @@
 -- `in_place_ecall::forward` meets its contract.
 use mathlib.Core.Path.{refl}
-use Rattle.in_place_record.specs.Rows.{callLeft}
+use Rattle.in_place_record.specs.Rows.{call_left}
 use borrow.Author.Rules.{rules}
 use Rattle.in_place_ecall.proofs.forward.Statement.{statement}
 use Rattle.in_place_ecall.proofs.forward.Tie as tie
@@ -30,11 +30,11 @@ element-write-r : tie.Need-element-write-r
 element-write-r c = search rules
 
 returns : tie.Need-returns
-unfolding callLeft
+unfolding call_left
 returns c = record { rec = rw (c.bump.ensures, c.before.event-number.ensures); out = c.before.before.before.six.ensures; word = refl }
 
-pub forward-spec : {M : Type 1} → statement M
-forward-spec =
+pub forward_spec : {M : Type 1} → statement M
+forward_spec =
     tie.close
     (tie.spec
     element-copy-out-out

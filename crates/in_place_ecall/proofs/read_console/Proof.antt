@@ -1,6 +1,6 @@
 -- `in_place_ecall::read_console` meets its contract.
 use mathlib.Core.Path.{refl}
-use Rattle.in_place_record.specs.Rows.{callLeft}
+use Rattle.in_place_record.specs.Rows.{call_left}
 use borrow.Author.Rules.{rules}
 use Rattle.in_place_ecall.proofs.read_console.Statement.{statement}
 use Rattle.in_place_ecall.proofs.read_console.Tie as tie
@@ -18,10 +18,10 @@ element-write-r-3 : tie.Need-element-write-r-3
 element-write-r-3 c = search rules
 
 returns : tie.Need-returns
-unfolding callLeft
+unfolding call_left
 returns c = record { rec = refl; out = refl; word = refl }
 
-pub read-console-spec : {M : Type 1} → statement M
-read-console-spec =
+pub read_console_spec : {M : Type 1} → statement M
+read_console_spec =
     tie.close
     (tie.spec element-write-out element-write-r element-write-r-2 element-write-r-3 returns)

@@ -1,7 +1,7 @@
 -- `in_place_entry_gprs::vcpu_get_gpr` meets its contract.
 use mathlib.Core.Path.{refl}
-use Rattle.scope.specs.Words.{call_by, waitingLeft}
-use Rattle.in_place_record.specs.Steps.{hostLeaves}
+use Rattle.scope.specs.Words.{call_by, waiting_left}
+use Rattle.in_place_record.specs.Steps.{host_leaves}
 use Rattle.in_place_record.specs.Cleared.{cleared}
 use mathlib.Core.Path.{refl}
 use Rattle.scope.specs.declared.hosts.HostCall.TheVariants as hostCall
@@ -13,8 +13,8 @@ get-gpr-requires : tie.Need-get-gpr-requires
 get-gpr-requires c κs = search rules
 
 returns : tie.Need-returns
-unfolding call_by hostLeaves waitingLeft
+unfolding call_by host_leaves waiting_left
 returns c = cleared (hostCall.GetGpr _) (λ o. refl) c.get-gpr.ensures
 
-pub vcpu-get-gpr-spec : {M : Type 1} → statement M
-vcpu-get-gpr-spec = tie.close (tie.spec get-gpr-requires returns)
+pub vcpu_get_gpr_spec : {M : Type 1} → statement M
+vcpu_get_gpr_spec = tie.close (tie.spec get-gpr-requires returns)

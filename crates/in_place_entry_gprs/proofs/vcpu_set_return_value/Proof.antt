@@ -1,7 +1,7 @@
 -- `in_place_entry_gprs::vcpu_set_return_value` meets its contract.
 use mathlib.Core.Path.{refl}
-use Rattle.scope.specs.Words.{call_by, waitingLeft}
-use Rattle.in_place_record.specs.Steps.{hostLeaves}
+use Rattle.scope.specs.Words.{call_by, waiting_left}
+use Rattle.in_place_record.specs.Steps.{host_leaves}
 use Rattle.in_place_record.specs.Cleared.{settled}
 use mathlib.Core.Path.{refl}
 use Rattle.scope.specs.declared.hosts.HostCall.TheVariants as hostCall
@@ -13,8 +13,8 @@ set-return-value-requires : tie.Need-set-return-value-requires
 set-return-value-requires c κs = search rules
 
 returns : tie.Need-returns
-unfolding call_by hostLeaves waitingLeft
+unfolding call_by host_leaves waiting_left
 returns c = settled (hostCall.SetReturnValue _) (λ o. refl) c.set-return-value.ensures
 
-pub vcpu-set-return-value-spec : {M : Type 1} → statement M
-vcpu-set-return-value-spec = tie.close (tie.spec set-return-value-requires returns)
+pub vcpu_set_return_value_spec : {M : Type 1} → statement M
+vcpu_set_return_value_spec = tie.close (tie.spec set-return-value-requires returns)

@@ -1,7 +1,7 @@
 -- `in_place_entry_interrupts::vcpu_complete_ipi` meets its contract.
 use mathlib.Core.Path.{refl}
-use Rattle.scope.specs.Words.{call_by, waitingLeft}
-use Rattle.in_place_record.specs.Steps.{hostLeaves}
+use Rattle.scope.specs.Words.{call_by, waiting_left}
+use Rattle.in_place_record.specs.Steps.{host_leaves}
 use Rattle.in_place_record.specs.Cleared.{settled}
 use mathlib.Core.Path.{refl}
 use Rattle.scope.specs.declared.hosts.HostCall.TheVariants as hostCall
@@ -19,9 +19,9 @@ complete-ipi-requires : tie.Need-complete-ipi-requires
 complete-ipi-requires c κs = search rules
 
 returns : tie.Need-returns
-unfolding call_by hostLeaves waitingLeft
+unfolding call_by host_leaves waiting_left
 returns c = settled (hostCall.CompleteIpi _ _) (λ o. refl) (simp (c.before.completion-of.ensures, c.before.before.abi-of.ensures) at c.complete-ipi.ensures)
 
-pub vcpu-complete-ipi-spec : {M : Type 1} → statement M
-vcpu-complete-ipi-spec =
+pub vcpu_complete_ipi_spec : {M : Type 1} → statement M
+vcpu_complete_ipi_spec =
     tie.close (tie.spec abi-of-requires completion-of-requires complete-ipi-requires returns)

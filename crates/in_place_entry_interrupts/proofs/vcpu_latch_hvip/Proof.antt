@@ -1,7 +1,7 @@
 -- `in_place_entry_interrupts::vcpu_latch_hvip` meets its contract.
 use mathlib.Core.Path.{refl}
-use Rattle.scope.specs.Words.{call_by, waitingLeft}
-use Rattle.in_place_record.specs.Steps.{hostLeaves}
+use Rattle.scope.specs.Words.{call_by, waiting_left}
+use Rattle.in_place_record.specs.Steps.{host_leaves}
 use Rattle.in_place_record.specs.Cleared.{settled}
 use mathlib.Core.Path.{refl}
 use Rattle.scope.specs.declared.hosts.HostCall.TheVariants as hostCall
@@ -13,8 +13,8 @@ latch-hvip-requires : tie.Need-latch-hvip-requires
 latch-hvip-requires c κs = search rules
 
 returns : tie.Need-returns
-unfolding call_by hostLeaves waitingLeft
+unfolding call_by host_leaves waiting_left
 returns c = settled (hostCall.LatchHvip _) (λ o. refl) c.latch-hvip.ensures
 
-pub vcpu-latch-hvip-spec : {M : Type 1} → statement M
-vcpu-latch-hvip-spec = tie.close (tie.spec latch-hvip-requires returns)
+pub vcpu_latch_hvip_spec : {M : Type 1} → statement M
+vcpu_latch_hvip_spec = tie.close (tie.spec latch-hvip-requires returns)

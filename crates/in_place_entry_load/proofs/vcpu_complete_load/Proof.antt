@@ -1,7 +1,7 @@
 -- `in_place_entry_load::vcpu_complete_load` meets its contract.
 use mathlib.Core.Path.{refl}
-use Rattle.scope.specs.Words.{call_by, waitingLeft}
-use Rattle.in_place_record.specs.Steps.{trapLeaves}
+use Rattle.scope.specs.Words.{call_by, waiting_left}
+use Rattle.in_place_record.specs.Steps.{trap_leaves}
 use Rattle.in_place_record.specs.Cleared.{settled}
 use mathlib.Core.Path.{refl}
 use Rattle.scope.specs.declared.hosts.HostCall.TheVariants as hostCall
@@ -13,8 +13,8 @@ complete-load-requires : tie.Need-complete-load-requires
 complete-load-requires c κs = search rules
 
 returns : tie.Need-returns
-unfolding call_by trapLeaves waitingLeft
+unfolding call_by trap_leaves waiting_left
 returns c = settled (hostCall.CompleteLoad _) (λ o. refl) c.complete-load.ensures
 
-pub vcpu-complete-load-spec : {M : Type 1} → statement M
-vcpu-complete-load-spec = tie.close (tie.spec complete-load-requires returns)
+pub vcpu_complete_load_spec : {M : Type 1} → statement M
+vcpu_complete_load_spec = tie.close (tie.spec complete-load-requires returns)

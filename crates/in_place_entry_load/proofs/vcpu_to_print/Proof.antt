@@ -13,5 +13,5 @@ printable-requires c κs = search rules
 returns : tie.Need-returns
 returns c = simp (c.printable.ensures, c.before.waiting.ensures)
 
-pub vcpu-to-print-spec : {M : Type 1} → statement M
-vcpu-to-print-spec = tie.close (tie.spec waiting-requires printable-requires returns)
+pub vcpu_to_print_spec : {M : Type 1} → statement M
+vcpu_to_print_spec = tie.close (tie.spec waiting-requires printable-requires returns)

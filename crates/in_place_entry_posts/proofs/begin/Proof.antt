@@ -1,6 +1,6 @@
 -- `in_place_entry_posts::begin` meets its contract.
-use Rattle.decide_posts.specs.Fold.{begunOf}
-use Rattle.in_place_entry_posts.specs.Laws.{hvip-word}
+use Rattle.decide_posts.specs.Fold.{begun_of}
+use Rattle.in_place_entry_posts.specs.Laws.{hvip_word}
 use borrow.Author.Rules.{rules}
 use Rattle.in_place_entry_posts.proofs.begin.Statement.{statement}
 use Rattle.in_place_entry_posts.proofs.begin.Tie as tie
@@ -21,11 +21,11 @@ begin-requires : tie.Need-begin-requires
 begin-requires c κs = search rules
 
 returns : tie.Need-returns
-unfolding begunOf
-returns c = simp (c.begin.ensures, c.before.ask-of.ensures, c.before.before.before.waiting.ensures, hvip-word c.before.before.before.before.before.args.r.now c.before.before.before.before.sized.ensures)
+unfolding begun_of
+returns c = simp (c.begin.ensures, c.before.ask-of.ensures, c.before.before.before.waiting.ensures, hvip_word c.before.before.before.before.before.args.r.now c.before.before.before.before.sized.ensures)
 
-pub begin-spec : {M : Type 1} → statement M
-begin-spec =
+pub begin_spec : {M : Type 1} → statement M
+begin_spec =
     tie.close
     (tie.spec
     sized-requires

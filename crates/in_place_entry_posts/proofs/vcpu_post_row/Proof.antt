@@ -42,7 +42,7 @@ use denote.Triple.Table.{entered, cited}
 use denote.Triple.Walked.{says, Stays, gave_ref, stay_none_slice, walk_of, AllGo, Goes-none_slice, Goes-gave_ref, Walks, ends_at, walked, walk_Meets}
 use denote.Triple.Clauses.{ensured, lasts}
 use denote.Exit.{yes}
-use Rattle.decide_posts.specs.Fold.{begunBy, begunOf, fold_of}
+use Rattle.decide_posts.specs.Fold.{begun_by, begun_of, fold_of}
 use Rattle.decide_posts.specs.declared.Row.{Row}
 use Rattle.in_place_record.specs.View.{MadeRow, view_of}
 use Rattle.scope.specs.declared.hosts.Post.{Post}
@@ -69,9 +69,9 @@ use Rattle.in_place_entry_posts.specs.contracts.vcpu_post_row as here
 use Rattle.in_place_entry_posts.proofs.vcpu_post_row.Statement as stated
 use Rattle.in_place_entry_posts.proofs.vcpu_post_row.Code as code
 
-none-applied : (v : Vcpu) → (begunOf v).applied ≡ 0
-unfolding begunOf begunBy
-none-applied v = refl
+none_applied : (v : Vcpu) → (begun_of v).applied ≡ 0
+unfolding begun_of begun_by
+none_applied v = refl
 
 -- the record's words
 abbrev X : RattleType
@@ -94,8 +94,8 @@ qm s = LL.val Q.the_type Q'.the_laws s
 abbrev gm : Posted → Val
 gm g = LL.val G.the_type G'.the_laws g
 
-again-is : (s : Row) (w : Val) → Is Q.the_row s (w ∷ []) → Is Q.the_row s (qm s ∷ [])
-again-is s w is = LL.owes Q.the_type Q'.the_laws s (LL.owed Q.the_type Q'.the_laws s (w ∷ []) is)
+again_is : (s : Row) (w : Val) → Is Q.the_row s (w ∷ []) → Is Q.the_row s (qm s ∷ [])
+again_is s w is = LL.owes Q.the_type Q'.the_laws s (LL.owed Q.the_type Q'.the_laws s (w ∷ []) is)
 
 given_is : (g : Posted) (w : Val) → Is G.the_row g (w ∷ []) → Is G.the_row g (gm g ∷ [])
 given_is g w is = LL.owes G.the_type G'.the_laws g (LL.owed G.the_type G'.the_laws g (w ∷ []) is)
@@ -114,8 +114,8 @@ module _ {M : Type 1} {𝓤 : Ura M} (𝓛 : Logic 𝓤) (at_mem : Memory → SP
   abbrev Finish : Contract 𝓤
   Finish = triple_of 𝓛 finish.signature (finish.spec 𝓛 at_mem run)
 
-  begun : (κ : Lft) (r : Bor (List ℕ)) (s : Row) → ent 𝓤 (ensured 𝓛 begin.ended (begin.clauses 𝓛 at_mem run) (κ, tt) (r, tt) tt s) (fact 𝓤 (s ≡ begunOf (view_of r.now)))
-  begun κ r s = ex_e 𝓤 _ (λ ws. snd∗ 𝓤 (sem 𝓛 (lasts begin.ended (κ, tt) (r, tt) ws)) (fact 𝓤 (s ≡ begunOf (view_of r.now))))
+  begun : (κ : Lft) (r : Bor (List ℕ)) (s : Row) → ent 𝓤 (ensured 𝓛 begin.ended (begin.clauses 𝓛 at_mem run) (κ, tt) (r, tt) tt s) (fact 𝓤 (s ≡ begun_of (view_of r.now)))
+  begun κ r s = ex_e 𝓤 _ (λ ws. snd∗ 𝓤 (sem 𝓛 (lasts begin.ended (κ, tt) (r, tt) ws)) (fact 𝓤 (s ≡ begun_of (view_of r.now))))
 
   folded : (κ : Lft) (s : Row) (sl : Bor (List Post)) (t : Row) → ent 𝓤 (ensured 𝓛 fold.ended (fold.clauses 𝓛 at_mem run) (κ, tt) (s, (sl, tt)) tt t) (fact 𝓤 (t ≡ fold_of s sl.now))
   folded κ s sl t = ex_e 𝓤 _ (λ ws. snd∗ 𝓤 (sem 𝓛 (lasts fold.ended (κ, tt) (s, (sl, tt)) ws)) (fact 𝓤 (t ≡ fold_of s sl.now)))
@@ -161,26 +161,26 @@ module _ {M : Type 1} {𝓤 : Ura M} (𝓛 : Logic 𝓤) (at_mem : Memory → SP
       nothing ! $ move ! (2 ∷ 0 ∷ []) $ fjoin ! $ move ! (1 ∷ 0 ∷ []) $ fjoin ! $ owned ! G.the_row (Is G.the_row) (LL.makes G.the_type G'.the_plain 𝓛) g _ gg $ move ! (1 ∷ 0 ∷ []) $ done !
 
   -- what the callees' triples bind outside
-  abbrev to-begin : ℕ → GName → (Begin 𝓛 at_mem run).Ghost
-  to-begin ν δ = (((ν ∷ [], tt), (full_share, tt), tt, (rec δ, tt), (vptr b o ∷ [], tt)), tt)
+  abbrev to_begin : ℕ → GName → (Begin 𝓛 at_mem run).Ghost
+  to_begin ν δ = (((ν ∷ [], tt), (full_share, tt), tt, (rec δ, tt), (vptr b o ∷ [], tt)), tt)
 
-  goes-begin : (ν : ℕ) (δ : GName) → ent 𝓤 (sep 𝓤 (A.lft (ν ∷ []) full_share) (sem 𝓛 (Shr ν δ))) ((Begin 𝓛 at_mem run).pre (to-begin ν δ))
-  goes-begin ν δ =
+  goes_begin : (ν : ℕ) (δ : GName) → ent 𝓤 (sep 𝓤 (A.lft (ν ∷ []) full_share) (sem 𝓛 (Shr ν δ))) ((Begin 𝓛 at_mem run).pre (to_begin ν δ))
+  goes_begin ν δ =
       qed 𝓛 (‵ (flft (ν ∷ []) full_share) ∷ ‵ (Shr ν δ) ∷ []) ∵ nothing ! $ move ! (2 ∷ 0 ∷ []) $ join ! $ nothing ! $ move ! (2 ∷ 0 ∷ []) $ join ! $ join ! $ frame ! $ done !
 
-  abbrev to-fold : Row → (Folds 𝓛 at_mem run).Ghost
-  to-fold s = (((κ', tt), (q', tt), tt, (s, (sl, tt)), (qm s ∷ [], (sm ∷ [], tt))), tt)
+  abbrev to_fold : Row → (Folds 𝓛 at_mem run).Ghost
+  to_fold s = (((κ', tt), (q', tt), tt, (s, (sl, tt)), (qm s ∷ [], (sm ∷ [], tt))), tt)
 
-  goes-fold : (s : Row) → s.applied ≡ 0 → ent 𝓤 (sep 𝓤 (A.lft κ' q') (sep 𝓤 (sem 𝓛 ((Q.the_row).own_val s (qm s ∷ []))) (sem 𝓛 Own))) ((Folds 𝓛 at_mem run).pre (to-fold s))
-  goes-fold s z =
+  goes_fold : (s : Row) → s.applied ≡ 0 → ent 𝓤 (sep 𝓤 (A.lft κ' q') (sep 𝓤 (sem 𝓛 ((Q.the_row).own_val s (qm s ∷ []))) (sem 𝓛 Own))) ((Folds 𝓛 at_mem run).pre (to_fold s))
+  goes_fold s z =
       qed 𝓛 (‵ (flft κ' q') ∷ ‵ ((Q.the_row).own_val s (qm s ∷ [])) ∷ ‵ Own ∷ []) ∵ says ! z $ nothing ! $ move ! (3 ∷ 0 ∷ []) $ join ! $ move ! (2 ∷ 0 ∷ []) $ join ! $
       nothing ! $ move ! (2 ∷ 0 ∷ []) $ join ! $ done !
 
-  abbrev to-finish : Row → (Finish 𝓛 at_mem run).Ghost
-  to-finish t = (((κ, tt), (q, tt), tt, (rec γ, (t, tt)), (vptr b o ∷ [], (qm t ∷ [], tt))), tt)
+  abbrev to_finish : Row → (Finish 𝓛 at_mem run).Ghost
+  to_finish t = (((κ, tt), (q, tt), tt, (rec γ, (t, tt)), (vptr b o ∷ [], (qm t ∷ [], tt))), tt)
 
-  goes-finish : (t : Row) → ent 𝓤 (sep 𝓤 (A.lft κ q) (sep 𝓤 (sem 𝓛 Mut) (sem 𝓛 ((Q.the_row).own_val t (qm t ∷ []))))) ((Finish 𝓛 at_mem run).pre (to-finish t))
-  goes-finish t =
+  goes_finish : (t : Row) → ent 𝓤 (sep 𝓤 (A.lft κ q) (sep 𝓤 (sem 𝓛 Mut) (sem 𝓛 ((Q.the_row).own_val t (qm t ∷ []))))) ((Finish 𝓛 at_mem run).pre (to_finish t))
+  goes_finish t =
       qed 𝓛 (‵ (flft κ q) ∷ ‵ Mut ∷ ‵ ((Q.the_row).own_val t (qm t ∷ [])) ∷ []) ∵ nothing ! $ move ! (3 ∷ 0 ∷ []) $ join ! $ move ! (2 ∷ 0 ∷ []) $ join ! $
       nothing ! $ move ! (2 ∷ 0 ∷ []) $ join ! $ join ! $ frame ! $ done !
 
@@ -199,20 +199,20 @@ module _ {M : Type 1} {𝓤 : Ura M} (𝓛 : Logic 𝓤) (at_mem : Memory → SP
         fpack ! (List Val) (λ us. fsep (cell_at full_share X.mir us b o) (X.own_val h us)) vs $
         -- [the record in memory; the open borrow; obs; auth; posts' token; what posts owns, twice; _6; …]
         lft_new ! tt (λ ν. move ! (1 ∷ []) $ use1 𝓛 (later (some (λ (δ : GName). ‵ (Shr ν δ) ⊛ ‵ (flent (ν ∷ []) (part_at X full_share h b o))))) (lends_shr 𝓛 X (named 0) (ν ∷ []) full_share h b o) $ await ! tt $ pick ! (λ δ. split ! $
-        move ! (2 ∷ 0 ∷ []) $ use2 𝓛 (raw ((Begin 𝓛 at_mem run).pre (to-begin ν δ))) (goes-begin ν δ) $
+        move ! (2 ∷ 0 ∷ []) $ use2 𝓛 (raw ((Begin 𝓛 at_mem run).pre (to_begin ν δ))) (goes_begin ν δ) $
         -- [begin's pre; the lender's part; the open borrow; obs; auth; posts' token; what posts owns, twice; _6; …; _5; …; _4; …; _3; …; _2; …; _1; …; _0; …]
-        calls_at ! fm (Begin 𝓛 at_mem run) known-begin (to-begin ν δ) (and_then ! (load ! (from ! (stop !)) (look ! 10 refl)) (no_more !)) (λ w₁.
+        calls_at ! fm (Begin 𝓛 at_mem run) known-begin (to_begin ν δ) (and_then ! (load ! (from ! (stop !)) (look ! 10 refl)) (no_more !)) (λ w₁.
         use1 𝓛 (later (some (λ (s : Row). ((‵ (flft (ν ∷ []) full_share) ⊛ ‵ ftrue) ⊛ ‵ ((Q.the_row).own_val s (w₁ ∷ []))) ⊛ raw (ensured 𝓛 begin.ended (begin.clauses 𝓛 at_mem run) (ν ∷ [], tt) (rec δ, tt) tt s)))) (id⊢ 𝓤 _) $ await ! tt $ pick ! (λ s.
-        split ! $ move ! (1 ∷ []) $ use1 𝓛 (raw (fact 𝓤 (s ≡ begunOf (view_of h)))) (begun 𝓛 at_mem run (ν ∷ []) (rec δ) s) $ heard ! (s ≡ begunOf (view_of h)) (λ e₁. split ! $ split ! $ move ! (2 ∷ []) $
+        split ! $ move ! (1 ∷ []) $ use1 𝓛 (raw (fact 𝓤 (s ≡ begun_of (view_of h)))) (begun 𝓛 at_mem run (ν ∷ []) (rec δ) s) $ heard ! (s ≡ begun_of (view_of h)) (λ e₁. split ! $ split ! $ move ! (2 ∷ []) $
         peeks ! Q.the_row (Is Q.the_row) (shows 𝓛 Q.the_row) s (w₁ ∷ []) (λ is₁.
         land ! (from ! (stop !)) (init ! 16 refl ((LL.lawful Q.the_type Q'.the_laws 𝓛).typed s _ is₁).0) $
         rewrite ! 16 (λ (u : Val). ‵ (fat full_share Q'.mir l₃ 0 u)) (ap only (LL.tells Q.the_type Q'.the_laws s (w₁ ∷ []) is₁)) refl $
         -- the lifetime is ended, the record comes back, and the borrow is closed
         drop ! $ lft_end ! tt $ move ! (0 ∷ 2 ∷ []) $ lent_back ! tt $ move ! (0 ∷ 2 ∷ 3 ∷ 4 ∷ []) $ close_ref ! tt (mem X) h {b = b} {o = o} $
-        owned ! Q.the_row (Is Q.the_row) (LL.makes Q.the_type Q'.the_plain 𝓛) s _ (again-is s w₁ is₁) $ move ! (5 ∷ 0 ∷ 6 ∷ []) $
-        use3 𝓛 (raw ((Folds 𝓛 at_mem run).pre (to-fold s))) (goes-fold s (ap (λ (u : Row). u.applied) e₁ ∙ none-applied (view_of h))) $
+        owned ! Q.the_row (Is Q.the_row) (LL.makes Q.the_type Q'.the_plain 𝓛) s _ (again_is s w₁ is₁) $ move ! (5 ∷ 0 ∷ 6 ∷ []) $
+        use3 𝓛 (raw ((Folds 𝓛 at_mem run).pre (to_fold s))) (goes_fold s (ap (λ (u : Row). u.applied) e₁ ∙ none_applied (view_of h))) $
         -- [fold's pre; obs; the borrow; its token; true; what posts owns; _6; …; _5; …; _4; …; _3; …; _2; …; _1; …; _0; …]
-        calls_at ! fm (Folds 𝓛 at_mem run) known-fold (to-fold s) (and_then ! (load ! (from ! (stop !)) (look ! 12 refl)) (and_then ! (load ! (from ! (stop !)) (look ! 14 refl)) (no_more !))) (λ w₂.
+        calls_at ! fm (Folds 𝓛 at_mem run) known-fold (to_fold s) (and_then ! (load ! (from ! (stop !)) (look ! 12 refl)) (and_then ! (load ! (from ! (stop !)) (look ! 14 refl)) (no_more !))) (λ w₂.
         use1 𝓛 (later (some (λ (t : Row). ((‵ (flft κ' q') ⊛ ‵ ftrue) ⊛ ‵ ((Q.the_row).own_val t (w₂ ∷ []))) ⊛ raw (ensured 𝓛 fold.ended (fold.clauses 𝓛 at_mem run) (κ', tt) (s, (sl, tt)) tt t)))) (id⊢ 𝓤 _) $ await ! tt $ pick ! (λ t.
         split ! $ move ! (1 ∷ []) $ use1 𝓛 (raw (fact 𝓤 (t ≡ fold_of s ys))) (folded 𝓛 at_mem run κ' s sl t) $ heard ! (t ≡ fold_of s ys) (λ e₂. split ! $ split ! $ move ! (2 ∷ []) $
         peeks ! Q.the_row (Is Q.the_row) (shows 𝓛 Q.the_row) t (w₂ ∷ []) (λ is₂.
@@ -220,10 +220,10 @@ module _ {M : Type 1} {𝓤 : Ura M} (𝓛 : Logic 𝓤) (at_mem : Memory → SP
         rewrite ! 12 (λ (u : Val). ‵ (fat full_share Q'.mir l₄ 0 u)) (ap only (LL.tells Q.the_type Q'.the_laws t (w₂ ∷ []) is₂)) refl $
         -- [what the row owns; posts' token; true; obs; the borrow; its token; true; what posts owns; _6; …; _5; …; _4; …; _3; …; _2; …; _1; …; _0; …]
         assigns ! (addr ! (from ! (hop ! (look ! 18 refl) (stop !)))) (from ! (stop !)) (init ! 8 refl (tt, tt)) $
-        drop ! $ owned ! Q.the_row (Is Q.the_row) (LL.makes Q.the_type Q'.the_plain 𝓛) t _ (again-is t w₂ is₂) $ feq_i ! (List Val) (vptr b o ∷ []) (vptr b o ∷ []) refl $ move ! (0 ∷ 4 ∷ 5 ∷ []) $ fjoin3 ! $
-        move ! (4 ∷ 0 ∷ 1 ∷ []) $ use3 𝓛 (raw ((Finish 𝓛 at_mem run).pre (to-finish t))) (goes-finish t) $
+        drop ! $ owned ! Q.the_row (Is Q.the_row) (LL.makes Q.the_type Q'.the_plain 𝓛) t _ (again_is t w₂ is₂) $ feq_i ! (List Val) (vptr b o ∷ []) (vptr b o ∷ []) refl $ move ! (0 ∷ 4 ∷ 5 ∷ []) $ fjoin3 ! $
+        move ! (4 ∷ 0 ∷ 1 ∷ []) $ use3 𝓛 (raw ((Finish 𝓛 at_mem run).pre (to_finish t))) (goes_finish t) $
         -- [finish's pre; posts' token; true; true; what posts owns; _6; …; _5; …; _4; …; _3; …; _2; …; _1; …; _0; …]
-        calls_at ! fm (Finish 𝓛 at_mem run) known-finish (to-finish t) (and_then ! (load ! (from ! (stop !)) (look ! 5 refl)) (and_then ! (load ! (from ! (stop !)) (look ! 9 refl)) (no_more !))) (λ w₃.
+        calls_at ! fm (Finish 𝓛 at_mem run) known-finish (to_finish t) (and_then ! (load ! (from ! (stop !)) (look ! 5 refl)) (and_then ! (load ! (from ! (stop !)) (look ! 9 refl)) (no_more !))) (λ w₃.
         use1 𝓛 (later (some (λ (g : Posted). ((‵ (flft κ q) ⊛ ‵ ftrue) ⊛ ‵ ((G.the_row).own_val g (w₃ ∷ []))) ⊛ raw (ensured 𝓛 finish.ended (finish.clauses 𝓛 at_mem run) (κ, tt) (rec γ, (t, tt)) tt g)))) (id⊢ 𝓤 _) $ await ! tt $ pick ! (λ g.
         split ! $ move ! (1 ∷ []) $ use1 𝓛 (some (λ (zs : List ℕ × (Unit {0} × Unit {0})). ‵ (lasts finish.ended (κ, tt) (rec γ, (t, tt)) zs) ⊛ raw (fact 𝓤 (Finished h t zs.0 g)))) (id⊢ 𝓤 _) $ pick ! (λ zs.
         split ! $ move ! (1 ∷ []) $ heard ! (Finished h t zs.0 g) (λ e₃. fsplit ! $ move ! (1 ∷ []) $ drop ! $ move ! (1 ∷ []) $ split ! $ split ! $ move ! (2 ∷ []) $
@@ -248,9 +248,9 @@ module _ {M : Type 1} {𝓤 : Ura M} (𝓛 : Logic 𝓤) (at_mem : Memory → SP
   meets : Meets 𝓛 here.signature (WpFn 𝓤 H 𝓣.C 𝓣.Λ code.function) (here.spec 𝓛 at_mem run)
   meets = walk_Meets 𝓛 here.ended stayed goes (here.clauses 𝓛 at_mem run) (WpFn 𝓤 H 𝓣.C 𝓣.Λ code.function) (WpFn-mono 𝓤 H 𝓛.laws 𝓣 code.function) walks
 
-pub vcpu-post-row-spec : {M : Type 1} → stated.statement M
+pub vcpu_post_row_spec : {M : Type 1} → stated.statement M
 unfolding code.routine tables_of
-vcpu-post-row-spec 𝓤 𝓛 𝓜 𝓡 =
+vcpu_post_row_spec 𝓤 𝓛 𝓜 𝓡 =
     entered 𝓤 𝓛.H (triple_of 𝓛 here.signature (here.spec 𝓛 𝓜.mem 𝓡.run))
     (tables 𝓤 𝓛.H 𝓜 𝓡 code.env).C (tables 𝓤 𝓛.H 𝓜 𝓡 code.env).Λ #here code.function (code.unfolded 𝓤 𝓛.H 𝓜 𝓡)
     (meets 𝓛 𝓜.mem 𝓡.run (tables_of 𝓤 𝓛.H 𝓜 (tables 𝓤 𝓛.H 𝓜 𝓡 code.env))

@@ -1,6 +1,6 @@
 -- `in_place_entry_setup::vcpu_new` meets its contract.
 use Rattle.scope.specs.Words.{call_by}
-use Rattle.in_place_host_calls.specs.SetupLaws.{new-done}
+use Rattle.in_place_host_calls.specs.SetupLaws.{new_done}
 use borrow.Author.Rules.{rules}
 use Rattle.in_place_entry_setup.proofs.vcpu_new.Statement.{statement}
 use Rattle.in_place_entry_setup.proofs.vcpu_new.Tie as tie
@@ -10,7 +10,7 @@ new-requires c κs = search rules
 
 returns : tie.Need-returns
 unfolding call_by
-returns c = new-done _ _ _ _ c.new.ensures
+returns c = new_done _ _ _ _ c.new.ensures
 
-pub vcpu-new-spec : {M : Type 1} → statement M
-vcpu-new-spec = tie.close (tie.spec new-requires returns)
+pub vcpu_new_spec : {M : Type 1} → statement M
+vcpu_new_spec = tie.close (tie.spec new-requires returns)

@@ -1,7 +1,7 @@
 -- `in_place_entry_setup::vcpu_set_nested_page_table` meets its contract.
 use mathlib.Core.Path.{refl}
-use Rattle.scope.specs.Words.{call_by, waitingLeft}
-use Rattle.in_place_record.specs.Steps.{hostLeaves}
+use Rattle.scope.specs.Words.{call_by, waiting_left}
+use Rattle.in_place_record.specs.Steps.{host_leaves}
 use Rattle.in_place_record.specs.Cleared.{settled}
 use mathlib.Core.Path.{refl}
 use Rattle.scope.specs.declared.hosts.HostCall.TheVariants as hostCall
@@ -13,8 +13,8 @@ set-nested-page-table-requires : tie.Need-set-nested-page-table-requires
 set-nested-page-table-requires c κs = search rules
 
 returns : tie.Need-returns
-unfolding call_by hostLeaves waitingLeft
+unfolding call_by host_leaves waiting_left
 returns c = settled (hostCall.SetNestedPageTable _ _ _) (λ o. refl) c.set-nested-page-table.ensures
 
-pub vcpu-set-nested-page-table-spec : {M : Type 1} → statement M
-vcpu-set-nested-page-table-spec = tie.close (tie.spec set-nested-page-table-requires returns)
+pub vcpu_set_nested_page_table_spec : {M : Type 1} → statement M
+vcpu_set_nested_page_table_spec = tie.close (tie.spec set-nested-page-table-requires returns)

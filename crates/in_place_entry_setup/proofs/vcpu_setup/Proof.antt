@@ -1,7 +1,7 @@
 -- `in_place_entry_setup::vcpu_setup` meets its contract.
 use mathlib.Core.Path.{refl}
-use Rattle.scope.specs.Words.{call_by, waitingLeft}
-use Rattle.in_place_record.specs.Steps.{hostLeaves}
+use Rattle.scope.specs.Words.{call_by, waiting_left}
+use Rattle.in_place_record.specs.Steps.{host_leaves}
 use Rattle.in_place_record.specs.Cleared.{settled}
 use mathlib.Core.Path.{refl}
 use Rattle.scope.specs.declared.hosts.HostCall.TheVariants as hostCall
@@ -13,8 +13,8 @@ setup-requires : tie.Need-setup-requires
 setup-requires c κs = search rules
 
 returns : tie.Need-returns
-unfolding call_by hostLeaves waitingLeft
+unfolding call_by host_leaves waiting_left
 returns c = settled hostCall.Setup (λ o. refl) c.setup.ensures
 
-pub vcpu-setup-spec : {M : Type 1} → statement M
-vcpu-setup-spec = tie.close (tie.spec setup-requires returns)
+pub vcpu_setup_spec : {M : Type 1} → statement M
+vcpu_setup_spec = tie.close (tie.spec setup-requires returns)

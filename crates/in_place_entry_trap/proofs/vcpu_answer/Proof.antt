@@ -1,8 +1,8 @@
 -- `in_place_entry_trap::vcpu_answer` meets its contract.
 use mathlib.Core.Path.{refl}
-use Rattle.in_place_entry_trap.specs.Calls.{answerCall}
-use Rattle.in_place_record.specs.Steps.{trapLeaves}
-use Rattle.scope.specs.Words.{waitingLeft}
+use Rattle.in_place_entry_trap.specs.Calls.{answer_call}
+use Rattle.in_place_record.specs.Steps.{trap_leaves}
+use Rattle.scope.specs.Words.{waiting_left}
 use Rattle.in_place_record.specs.Cleared.{cleared}
 use mathlib.Core.Path.{refl}
 use Rattle.scope.specs.declared.hosts.HostCall.TheVariants as hostCall
@@ -17,8 +17,8 @@ answer-requires : tie.Need-answer-requires
 answer-requires c κs = search rules
 
 returns : tie.Need-returns
-unfolding answerCall trapLeaves waitingLeft
+unfolding answer_call trap_leaves waiting_left
 returns c = cleared (hostCall.Answer _) (λ o. refl) (rw c.before.answer-words.ensures at c.answer.ensures)
 
-pub vcpu-answer-spec : {M : Type 1} → statement M
-vcpu-answer-spec = tie.close (tie.spec answer-words-requires answer-requires returns)
+pub vcpu_answer_spec : {M : Type 1} → statement M
+vcpu_answer_spec = tie.close (tie.spec answer-words-requires answer-requires returns)

@@ -1,8 +1,8 @@
 -- `in_place_entry_trap::vcpu_start` meets its contract.
 use mathlib.Core.Path.{refl}
-use Rattle.in_place_entry_trap.specs.Calls.{startCall}
-use Rattle.in_place_record.specs.Steps.{trapLeaves}
-use Rattle.scope.specs.Words.{waitingLeft}
+use Rattle.in_place_entry_trap.specs.Calls.{start_call}
+use Rattle.in_place_record.specs.Steps.{trap_leaves}
+use Rattle.scope.specs.Words.{waiting_left}
 use Rattle.in_place_record.specs.Cleared.{cleared}
 use mathlib.Core.Path.{refl}
 use Rattle.scope.specs.declared.hosts.HostCall.TheVariants as hostCall
@@ -17,8 +17,8 @@ start-requires : tie.Need-start-requires
 start-requires c κs = search rules
 
 returns : tie.Need-returns
-unfolding startCall trapLeaves waitingLeft
+unfolding start_call trap_leaves waiting_left
 returns c = cleared (hostCall.Start _) (λ o. refl) (simp c.before.trap-of.ensures at c.start.ensures)
 
-pub vcpu-start-spec : {M : Type 1} → statement M
-vcpu-start-spec = tie.close (tie.spec trap-of-requires start-requires returns)
+pub vcpu_start_spec : {M : Type 1} → statement M
+vcpu_start_spec = tie.close (tie.spec trap-of-requires start-requires returns)

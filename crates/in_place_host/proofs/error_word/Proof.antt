@@ -1,6 +1,6 @@
 -- `in_place_host::error_word` meets its contract.
 use borrow.Author.Rules.{rules}
-use Rattle.scope.specs.Refusals.{errorNumber}
+use Rattle.scope.specs.Refusals.{error_number}
 use Rattle.in_place_host.proofs.error_word.Statement.{statement}
 use Rattle.in_place_host.proofs.error_word.Tie as tie
 
@@ -26,35 +26,35 @@ enum-told-7 : tie.Need-enum-told-7
 enum-told-7 c = search rules
 
 returns : tie.Need-returns
-unfolding errorNumber
+unfolding error_number
 returns c = simp c.enum_told.given.1
 
 returns-2 : tie.Need-returns-2
-unfolding errorNumber
+unfolding error_number
 returns-2 c = simp c.enum-told2.given.1
 
 returns-3 : tie.Need-returns-3
-unfolding errorNumber
+unfolding error_number
 returns-3 c = simp c.enum-told3.given.1
 
 returns-4 : tie.Need-returns-4
-unfolding errorNumber
+unfolding error_number
 returns-4 c = simp c.enum-told4.given.1
 
 returns-5 : tie.Need-returns-5
-unfolding errorNumber
+unfolding error_number
 returns-5 c = simp c.enum-told5.given.1
 
 returns-6 : tie.Need-returns-6
-unfolding errorNumber
+unfolding error_number
 returns-6 c = simp c.enum-told6.given.1
 
 returns-7 : tie.Need-returns-7
-unfolding errorNumber
+unfolding error_number
 returns-7 c = simp c.enum-told7.given.1
 
-pub error-word-spec : {M : Type 1} → statement M
-error-word-spec =
+pub error_word_spec : {M : Type 1} → statement M
+error_word_spec =
     tie.close
     (tie.spec
     enum_told

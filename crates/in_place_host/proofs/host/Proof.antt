@@ -1,8 +1,8 @@
 -- `in_place_host::host` meets its contract.
 use borrow.Author.Rules.{rules}
 use mathlib.Core.Path.{refl}
-use Rattle.in_place_host.specs.Host.{hostWords}
-use Rattle.scope.specs.Words.{csrsWords}
+use Rattle.in_place_host.specs.Host.{host_words}
+use Rattle.scope.specs.Words.{csrs_words}
 use Rattle.in_place_host.proofs.host.Statement.{statement}
 use Rattle.in_place_host.proofs.host.Tie as tie
 
@@ -52,11 +52,11 @@ reply-word-requires : tie.Need-reply-word-requires
 reply-word-requires c κs = search rules
 
 returns : tie.Need-returns
-unfolding hostWords csrsWords
+unfolding host_words csrs_words
 returns c = simp (c.reply-word.ensures, c.before.write.ensures) (refl, refl)
 
-pub host-spec : {M : Type 1} → statement M
-host-spec =
+pub host_spec : {M : Type 1} → statement M
+host_spec =
     tie.close
     (tie.spec
     element-write-r

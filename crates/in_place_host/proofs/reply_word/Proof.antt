@@ -1,5 +1,5 @@
 -- `in_place_host::reply_word` meets its contract.
-use Rattle.scope.specs.ReplyWords.{replyWord}
+use Rattle.scope.specs.ReplyWords.{reply_word}
 use borrow.Author.Rules.{rules}
 use Rattle.in_place_host.proofs.reply_word.Statement.{statement}
 use Rattle.in_place_host.proofs.reply_word.Tie as tie
@@ -29,27 +29,27 @@ error-word-requires : tie.Need-error-word-requires
 error-word-requires c κs = search rules
 
 returns : tie.Need-returns
-unfolding replyWord
+unfolding reply_word
 returns c = simp (c.exit-number.ensures, c.before.before.p.given.1)
 
 returns-2 : tie.Need-returns-2
-unfolding replyWord
-returns-2 c = simp (c.ask-word.ensures, c.before.before.p2.given.1)
+unfolding reply_word
+returns-2 c = simp (c.ask_word.ensures, c.before.before.p2.given.1)
 
 returns-3 : tie.Need-returns-3
-unfolding replyWord
+unfolding reply_word
 returns-3 c = simp c.enum_told.given.1
 
 returns-4 : tie.Need-returns-4
-unfolding replyWord
+unfolding reply_word
 returns-4 c = simp c.enum-told2.given.1
 
 returns-5 : tie.Need-returns-5
-unfolding replyWord
-returns-5 c = simp (c.error-word.ensures, c.before.before.p3.given.1)
+unfolding reply_word
+returns-5 c = simp (c.error_word.ensures, c.before.before.p3.given.1)
 
-pub reply-word-spec : {M : Type 1} → statement M
-reply-word-spec =
+pub reply_word_spec : {M : Type 1} → statement M
+reply_word_spec =
     tie.close
     (tie.spec
     enum-known-p

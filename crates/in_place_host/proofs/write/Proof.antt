@@ -1,5 +1,5 @@
 -- `in_place_host::write` meets its contract.
-use Rattle.in_place_host.specs.Host.{writeWords}
+use Rattle.in_place_host.specs.Host.{write_words}
 use borrow.Author.Rules.{rules}
 use Rattle.in_place_host.proofs.write.Statement.{statement}
 use Rattle.in_place_host.proofs.write.Tie as tie
@@ -23,15 +23,15 @@ element-write-r-2 : tie.Need-element-write-r-2
 element-write-r-2 c = search rules
 
 returns : tie.Need-returns
-unfolding writeWords
+unfolding write_words
 returns c = simp c.enum_told.given.1
 
 returns-2 : tie.Need-returns-2
-unfolding writeWords
+unfolding write_words
 returns-2 c = simp (c.put.ensures, c.before.before.before.w.given.1)
 
 returns-3 : tie.Need-returns-3
-unfolding writeWords
+unfolding write_words
 returns-3 c = simp c.before.w2.given.1
 
 pub write_spec : {M : Type 1} → statement M

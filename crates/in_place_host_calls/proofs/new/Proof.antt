@@ -1,6 +1,6 @@
 -- `in_place_host_calls::new` meets its contract.
 use borrow.Author.Rules.{rules}
-use Rattle.in_place_host_calls.specs.SetupLaws.{new-shows}
+use Rattle.in_place_host_calls.specs.SetupLaws.{new_shows}
 use Rattle.in_place_host_calls.proofs.new.Statement.{statement}
 use Rattle.in_place_host_calls.proofs.new.Tie as tie
 
@@ -11,7 +11,7 @@ element-write-r-2 : tie.Need-element-write-r-2
 element-write-r-2 c = search rules
 
 returns : tie.Need-returns
-returns c = new-shows _ _
+returns c = new_shows _ _
 
 pub new_spec : {M : Type 1} → statement M
 new_spec = tie.close (tie.spec element-write-r element-write-r-2 returns)

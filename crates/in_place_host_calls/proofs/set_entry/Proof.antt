@@ -1,6 +1,6 @@
 -- `in_place_host_calls::set_entry` meets its contract.
-use Rattle.scope.specs.Calls.{base_of, calledOf, effect_of}
-use Rattle.in_place_host.specs.Laws.{done-keeps}
+use Rattle.scope.specs.Calls.{base_of, called_of, effect_of}
+use Rattle.in_place_host.specs.Laws.{done_keeps}
 use Rattle.in_place_host_calls.proofs.set_entry.Statement.{statement}
 use Rattle.in_place_host_calls.proofs.set_entry.Tie as tie
 use borrow.Author.Rules.{rules}
@@ -21,11 +21,11 @@ unless-asking-requires : tie.Need-unless-asking-requires
 unless-asking-requires c κs = search rules
 
 returns : tie.Need-returns
-unfolding calledOf base_of effect_of
-returns c = simp (c.before.before.done.ensures, c.before.before.before.entry-csrs.ensures, c.before.before.before.before.waiting.ensures, c.before.before.before.before.before.before.csrs.ensures) at (c.unless-asking.ensures c.before.before.before.before.waiting.ensures (rw c.before.before.done.ensures (done-keeps _ _ _)))
+unfolding called_of base_of effect_of
+returns c = simp (c.before.before.done.ensures, c.before.before.before.entry-csrs.ensures, c.before.before.before.before.waiting.ensures, c.before.before.before.before.before.before.csrs.ensures) at (c.unless-asking.ensures c.before.before.before.before.waiting.ensures (rw c.before.before.done.ensures (done_keeps _ _ _)))
 
-pub set-entry-spec : {M : Type 1} → statement M
-set-entry-spec =
+pub set_entry_spec : {M : Type 1} → statement M
+set_entry_spec =
     tie.close
     (tie.spec
     csrs-requires

@@ -1,5 +1,5 @@
 -- `in_place_host_calls::set_gpr` meets its contract.
-use Rattle.scope.specs.Calls.{base_of, calledOf, effect_of}
+use Rattle.scope.specs.Calls.{base_of, called_of, effect_of}
 use Rattle.in_place_host_calls.specs.GprsLaws.{write_keeps}
 use Rattle.in_place_host_calls.proofs.set_gpr.Statement.{statement}
 use Rattle.in_place_host_calls.proofs.set_gpr.Tie as tie
@@ -18,10 +18,10 @@ unless-asking-requires : tie.Need-unless-asking-requires
 unless-asking-requires c κs = search rules
 
 returns : tie.Need-returns
-unfolding calledOf base_of effect_of
+unfolding called_of base_of effect_of
 returns c = simp (c.before.before.write-effect.ensures, c.before.before.before.waiting.ensures, c.before.before.before.before.before.csrs.ensures) at (c.unless-asking.ensures c.before.before.before.waiting.ensures (rw c.before.before.write-effect.ensures (write_keeps _ _ _ _)))
 
-pub set-gpr-spec : {M : Type 1} → statement M
-set-gpr-spec =
+pub set_gpr_spec : {M : Type 1} → statement M
+set_gpr_spec =
     tie.close
     (tie.spec csrs-requires waiting-requires write-effect-requires unless-asking-requires returns)

@@ -1,6 +1,6 @@
 -- `in_place_host_calls::set_return_value` meets its contract.
-use Rattle.scope.specs.Calls.{base_of, calledOf, effect_of}
-use Rattle.in_place_host.specs.Laws.{done-keeps}
+use Rattle.scope.specs.Calls.{base_of, called_of, effect_of}
+use Rattle.in_place_host.specs.Laws.{done_keeps}
 use Rattle.in_place_host_calls.proofs.set_return_value.Statement.{statement}
 use Rattle.in_place_host_calls.proofs.set_return_value.Tie as tie
 use borrow.Author.Rules.{rules}
@@ -18,10 +18,10 @@ unless-asking-requires : tie.Need-unless-asking-requires
 unless-asking-requires c κs = search rules
 
 returns : tie.Need-returns
-unfolding calledOf base_of effect_of
-returns c = simp (c.before.before.done.ensures, c.before.before.before.waiting.ensures, c.before.before.before.before.before.csrs.ensures) at (c.unless-asking.ensures c.before.before.before.waiting.ensures (rw c.before.before.done.ensures (done-keeps _ _ _)))
+unfolding called_of base_of effect_of
+returns c = simp (c.before.before.done.ensures, c.before.before.before.waiting.ensures, c.before.before.before.before.before.csrs.ensures) at (c.unless-asking.ensures c.before.before.before.waiting.ensures (rw c.before.before.done.ensures (done_keeps _ _ _)))
 
-pub set-return-value-spec : {M : Type 1} → statement M
-set-return-value-spec =
+pub set_return_value_spec : {M : Type 1} → statement M
+set_return_value_spec =
     tie.close
     (tie.spec csrs-requires waiting-requires done-requires unless-asking-requires returns)

@@ -1,6 +1,6 @@
 -- `in_place_read::args` meets its contract.
 use mathlib.Core.Path.{refl}
-use Rattle.in_place_record.specs.Rows.{argsWords}
+use Rattle.in_place_record.specs.Rows.{args_words}
 use borrow.Author.Rules.{rules}
 use Rattle.in_place_read.proofs.args.Statement.{statement}
 use Rattle.in_place_read.proofs.args.Tie as tie
@@ -24,11 +24,11 @@ element-copy-out-t19 : tie.Need-element-copy-out-t19
 element-copy-out-t19 c = search rules
 
 returns : tie.Need-returns
-unfolding argsWords
+unfolding args_words
 returns c = refl
 
-pub args-spec : {M : Type 1} → statement M
-args-spec =
+pub args_spec : {M : Type 1} → statement M
+args_spec =
     tie.close
     (tie.spec
     element-copy-out-t4

@@ -1,5 +1,5 @@
 -- `in_place_read::ask_fetch` meets its contract.
-use Rattle.in_place_record.specs.Rows.{fetchOut}
+use Rattle.in_place_record.specs.Rows.{fetch_out}
 use borrow.Author.Rules.{rules}
 use Rattle.in_place_read.proofs.ask_fetch.Statement.{statement}
 use Rattle.in_place_read.proofs.ask_fetch.Tie as tie
@@ -23,11 +23,11 @@ element-write-out-2 : tie.Need-element-write-out-2
 element-write-out-2 c = search rules
 
 returns : tie.Need-returns
-unfolding fetchOut
+unfolding fetch_out
 returns c = simp (c.flag.ensures, c.before.spvp.ensures)
 
-pub ask-fetch-spec : {M : Type 1} → statement M
-ask-fetch-spec =
+pub ask_fetch_spec : {M : Type 1} → statement M
+ask_fetch_spec =
     tie.close
     (tie.spec
     element-copy-out-out

@@ -1,5 +1,5 @@
 -- `in_place_read::csrs` meets its contract.
-use Rattle.in_place_record.specs.Laws.{csrs-words}
+use Rattle.in_place_record.specs.Laws.{csrs_words_lem}
 use borrow.Author.Rules.{rules}
 use Rattle.in_place_read.proofs.csrs.Statement.{statement}
 use Rattle.in_place_read.proofs.csrs.Tie as tie
@@ -47,10 +47,10 @@ element-copy-out-t23-2 : tie.Need-element-copy-out-t23-2
 element-copy-out-t23-2 c = search rules
 
 returns : tie.Need-returns
-returns c = csrs-words _ c.before.before.before.before.before.before.before.before.before.before.before.before.before.sized.ensures
+returns c = csrs_words_lem _ c.before.before.before.before.before.before.before.before.before.before.before.before.before.sized.ensures
 
-pub csrs-spec : {M : Type 1} → statement M
-csrs-spec =
+pub csrs_spec : {M : Type 1} → statement M
+csrs_spec =
     tie.close
     (tie.spec
     sized-requires

@@ -1,6 +1,6 @@
 -- `in_place_read::read` meets its contract.
 use borrow.Author.Tests.{lt-ltb, le-ltb}
-use Rattle.in_place_record.specs.Laws.{read-straight, read-beyond}
+use Rattle.in_place_record.specs.Laws.{read_straight, read_beyond}
 use borrow.Author.Rules.{rules}
 use Rattle.in_place_read.proofs.read.Statement.{statement}
 use Rattle.in_place_read.proofs.read.Tie as tie
@@ -15,10 +15,10 @@ select-requires : tie.Need-select-requires
 select-requires c κs = search rules
 
 returns : tie.Need-returns
-returns c = rw c.select.ensures (read-straight _ _ (lt-ltb _ _ c.before.before.if1.true))
+returns c = rw c.select.ensures (read_straight _ _ (lt-ltb _ _ c.before.before.if1.true))
 
 returns-2 : tie.Need-returns-2
-returns-2 c = read-beyond _ _ (le-ltb _ _ c.if1.false)
+returns-2 c = read_beyond _ _ (le-ltb _ _ c.if1.false)
 
 pub read_spec : {M : Type 1} → statement M
 read_spec =

@@ -1,6 +1,6 @@
 -- `in_place_read::six` meets its contract.
 use mathlib.Core.Path.{refl}
-use Rattle.in_place_record.specs.Rows.{sixWords}
+use Rattle.in_place_record.specs.Rows.{six_words}
 use borrow.Author.Rules.{rules}
 use Rattle.in_place_read.proofs.six.Statement.{statement}
 use Rattle.in_place_read.proofs.six.Tie as tie
@@ -42,11 +42,11 @@ element-write-out-6 : tie.Need-element-write-out-6
 element-write-out-6 c = search rules
 
 returns : tie.Need-returns
-unfolding sixWords
+unfolding six_words
 returns c = refl
 
-pub six-spec : {M : Type 1} → statement M
-six-spec =
+pub six_spec : {M : Type 1} → statement M
+six_spec =
     tie.close
     (tie.spec
     element-copy-out-out

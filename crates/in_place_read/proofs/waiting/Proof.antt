@@ -1,5 +1,5 @@
 -- `in_place_read::waiting` meets its contract.
-use Rattle.in_place_record.specs.Laws.{waiting-words}
+use Rattle.in_place_record.specs.Laws.{waiting_words_lem}
 use borrow.Author.Rules.{rules}
 use Rattle.in_place_read.proofs.waiting.Statement.{statement}
 use Rattle.in_place_read.proofs.waiting.Tie as tie
@@ -23,10 +23,10 @@ waiting-by-requires : tie.Need-waiting-by-requires
 waiting-by-requires c κs = search rules
 
 returns : tie.Need-returns
-returns c = simp c.waiting-by.ensures (waiting-words _ c.before.before.before.before.before.sized.ensures)
+returns c = simp c.waiting-by.ensures (waiting_words_lem _ c.before.before.before.before.before.sized.ensures)
 
-pub waiting-spec : {M : Type 1} → statement M
-waiting-spec =
+pub waiting_spec : {M : Type 1} → statement M
+waiting_spec =
     tie.close
     (tie.spec
     sized-requires

@@ -1,5 +1,5 @@
 -- `in_place_record::advance` meets its contract.
-use Rattle.in_place_record.specs.Rows.{movedWords}
+use Rattle.in_place_record.specs.Rows.{moved_words}
 use borrow.Author.Rules.{rules}
 use Rattle.in_place_record.proofs.advance.Statement.{statement}
 use Rattle.in_place_record.proofs.advance.Tie as tie
@@ -14,8 +14,8 @@ element-write-r : tie.Need-element-write-r
 element-write-r c = search rules
 
 returns : tie.Need-returns
-unfolding movedWords
+unfolding moved_words
 returns c = simp c.plus.ensures
 
-pub advance-spec : {M : Type 1} → statement M
-advance-spec = tie.close (tie.spec element-copy-out-plus plus-requires element-write-r returns)
+pub advance_spec : {M : Type 1} → statement M
+advance_spec = tie.close (tie.spec element-copy-out-plus plus-requires element-write-r returns)

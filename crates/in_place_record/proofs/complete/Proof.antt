@@ -1,6 +1,6 @@
 -- `in_place_record::complete` meets its contract.
 use mathlib.Core.Path.{refl}
-use Rattle.in_place_record.specs.Rows.{completeWords, completeWord}
+use Rattle.in_place_record.specs.Rows.{complete_words, complete_word}
 use borrow.Author.Rules.{rules}
 use Rattle.in_place_record.proofs.complete.Statement.{statement}
 use Rattle.in_place_record.proofs.complete.Tie as tie
@@ -30,27 +30,27 @@ enum-told-4 : tie.Need-enum-told-4
 enum-told-4 c = search rules
 
 returns : tie.Need-returns
-unfolding completeWords completeWord
+unfolding complete_words complete_word
 returns c = simp c.enum_told.given.1 (refl, refl)
 
 returns-2 : tie.Need-returns-2
-unfolding completeWords completeWord
+unfolding complete_words complete_word
 returns-2 c = simp (c.put.ensures, c.before.extend.ensures, c.before.before.before.before.w.given.1) (refl, refl)
 
 returns-3 : tie.Need-returns-3
-unfolding completeWords completeWord
+unfolding complete_words complete_word
 returns-3 c = simp c.enum-told2.given.1 (refl, refl)
 
 returns-4 : tie.Need-returns-4
-unfolding completeWords completeWord
+unfolding complete_words complete_word
 returns-4 c = simp c.enum-told3.given.1 (refl, refl)
 
 returns-5 : tie.Need-returns-5
-unfolding completeWords completeWord
+unfolding complete_words complete_word
 returns-5 c = simp c.enum-told4.given.1 (refl, refl)
 
-pub complete-spec : {M : Type 1} → statement M
-complete-spec =
+pub complete_spec : {M : Type 1} → statement M
+complete_spec =
     tie.close
     (tie.spec
     enum_told

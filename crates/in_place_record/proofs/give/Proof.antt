@@ -1,5 +1,5 @@
 -- `in_place_record::give` meets its contract.
-use Rattle.in_place_record.specs.Rows.{giveWords}
+use Rattle.in_place_record.specs.Rows.{give_words}
 use borrow.Author.Rules.{rules}
 use Rattle.in_place_record.proofs.give.Statement.{statement}
 use Rattle.in_place_record.proofs.give.Tie as tie
@@ -14,7 +14,7 @@ advance-requires : tie.Need-advance-requires
 advance-requires c κs = search rules
 
 returns : tie.Need-returns
-unfolding giveWords
+unfolding give_words
 returns c = simp c.advance.ensures
 
 pub give_spec : {M : Type 1} → statement M

@@ -1,6 +1,6 @@
 -- `in_place_start::ecall` meets its contract.
 use Rattle.in_place_record.specs.Laws.{made_by}
-use Rattle.in_place_start.specs.Laws.{ecall-made}
+use Rattle.in_place_start.specs.Laws.{ecall_made}
 use borrow.Author.Rules.{rules}
 use Rattle.in_place_start.proofs.ecall.Statement.{statement}
 use Rattle.in_place_start.proofs.ecall.Tie as tie
@@ -24,10 +24,10 @@ do-call-requires : tie.Need-do-call-requires
 do-call-requires c κs = search rules
 
 returns : tie.Need-returns
-returns c = made_by (ecall-made _ _ c.before.before.before.before.before.before.before.before.sized.ensures _ _ (simp c.before.before.before.before.before.before.args2.ensures at c.before.before.before.decide.ensures)) c.do-call.ensures
+returns c = made_by (ecall_made _ _ c.before.before.before.before.before.before.before.before.sized.ensures _ _ (simp c.before.before.before.before.before.before.args2.ensures at c.before.before.before.decide.ensures)) c.do-call.ensures
 
-pub ecall-spec : {M : Type 1} → statement M
-ecall-spec =
+pub ecall_spec : {M : Type 1} → statement M
+ecall_spec =
     tie.close
     (tie.spec
     sized-requires

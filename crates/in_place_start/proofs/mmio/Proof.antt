@@ -1,5 +1,5 @@
 -- `in_place_start::mmio` meets its contract.
-use Rattle.in_place_read.specs.Laws.{mmio-made}
+use Rattle.in_place_read.specs.Laws.{mmio_made}
 use Rattle.in_place_record.specs.Laws.{made_by}
 use borrow.Author.Rules.{rules}
 use Rattle.in_place_start.proofs.mmio.Statement.{statement}
@@ -21,10 +21,10 @@ do-fault-requires : tie.Need-do-fault-requires
 do-fault-requires c κs = search rules
 
 returns : tie.Need-returns
-returns c = made_by (mmio-made _ _ c.before.before.before.before.before.before.before.sized.ensures _ _ _) (simp (c.before.decide.ensures, c.before.before.before.before.read.ensures, c.before.before.before.before.before.store-source.ensures) at c.do-fault.ensures)
+returns c = made_by (mmio_made _ _ c.before.before.before.before.before.before.before.sized.ensures _ _ _) (simp (c.before.decide.ensures, c.before.before.before.before.read.ensures, c.before.before.before.before.before.store-source.ensures) at c.do-fault.ensures)
 
-pub mmio-spec : {M : Type 1} → statement M
-mmio-spec =
+pub mmio_spec : {M : Type 1} → statement M
+mmio_spec =
     tie.close
     (tie.spec
     sized-requires

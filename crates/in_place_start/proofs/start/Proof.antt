@@ -1,6 +1,6 @@
 -- `in_place_start::start` meets its contract.
-use Rattle.scope.specs.Calls.{calledOf, base_of, effect_of}
-use Rattle.scope.specs.Classes.{startEffect}
+use Rattle.scope.specs.Calls.{called_of, base_of, effect_of}
+use Rattle.scope.specs.Classes.{start_effect}
 use borrow.Author.Rules.{rules}
 use Rattle.in_place_start.proofs.start.Statement.{statement}
 use Rattle.in_place_start.proofs.start.Tie as tie
@@ -15,7 +15,7 @@ started-requires : tie.Need-started-requires
 started-requires c κs = search rules
 
 returns : tie.Need-returns
-unfolding calledOf base_of effect_of startEffect
+unfolding called_of base_of effect_of start_effect
 returns c = simp (c.before.before.before.is-idle.ensures, c.before.before.before.before.waiting.ensures) at c.started.ensures
 
 pub start_spec : {M : Type 1} → statement M

@@ -1,5 +1,5 @@
 -- `in_place_start::started` meets its contract.
-use Rattle.in_place_start.specs.Laws.{busy-made}
+use Rattle.in_place_start.specs.Laws.{busy_made}
 use borrow.Author.Rules.{rules}
 use Rattle.in_place_start.proofs.started.Statement.{statement}
 use Rattle.in_place_start.proofs.started.Tie as tie
@@ -14,7 +14,7 @@ returns : tie.Need-returns
 returns c = rw c.before.before.before.before.if1.true (simp c.before.before.before.class_of.ensures at c.trapped.ensures)
 
 returns-2 : tie.Need-returns-2
-returns-2 c = rw c.if1.false (busy-made _ _)
+returns-2 c = rw c.if1.false (busy_made _ _)
 
-pub started-spec : {M : Type 1} → statement M
-started-spec = tie.close (tie.spec class-of-requires trapped-requires returns returns-2)
+pub started_spec : {M : Type 1} → statement M
+started_spec = tie.close (tie.spec class-of-requires trapped-requires returns returns-2)

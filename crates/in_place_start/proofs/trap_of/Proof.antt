@@ -1,6 +1,6 @@
 -- `in_place_start::trap_of` meets its contract.
 use mathlib.Core.Path.{refl}
-use Rattle.in_place_start.specs.Words.{trapWords}
+use Rattle.in_place_start.specs.Words.{trap_words}
 use borrow.Author.Rules.{rules}
 use Rattle.in_place_start.proofs.trap_of.Statement.{statement}
 use Rattle.in_place_start.proofs.trap_of.Tie as tie
@@ -21,11 +21,11 @@ element-copy-out-t16 : tie.Need-element-copy-out-t16
 element-copy-out-t16 c = search rules
 
 returns : tie.Need-returns
-unfolding trapWords
+unfolding trap_words
 returns c = refl
 
-pub trap-of-spec : {M : Type 1} → statement M
-trap-of-spec =
+pub trap_of_spec : {M : Type 1} → statement M
+trap_of_spec =
     tie.close
     (tie.spec
     element-copy-out-t4

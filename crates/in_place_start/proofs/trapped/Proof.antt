@@ -1,6 +1,6 @@
 -- `in_place_start::trapped` meets its contract.
-use Rattle.scope.specs.Classes.{classEffect}
-use Rattle.in_place_start.specs.Laws.{interrupt-made, not-handled-made, unknown-made}
+use Rattle.scope.specs.Classes.{class_effect}
+use Rattle.in_place_start.specs.Laws.{interrupt_made, not_handled_made, unknown_made}
 use borrow.Author.Rules.{rules}
 use Rattle.in_place_start.proofs.trapped.Statement.{statement}
 use Rattle.in_place_start.proofs.trapped.Tie as tie
@@ -48,31 +48,31 @@ element-write-r-3 : tie.Need-element-write-r-3
 element-write-r-3 c = search rules
 
 returns : tie.Need-returns
-unfolding classEffect
+unfolding class_effect
 returns c = rw c.before.before.before.enum_told.given.1 c.ecall.ensures
 
 returns-2 : tie.Need-returns-2
-unfolding classEffect
+unfolding class_effect
 returns-2 c = rw c.before.before.before.enum-told2.given.1 c.virtual-inst.ensures
 
 returns-3 : tie.Need-returns-3
-unfolding classEffect
-returns-3 c = rw c.before.before.before.before.class.given.1 c.page-fault.ensures
+unfolding class_effect
+returns-3 c = rw c.before.before.before.before.class.given.1 c.page_fault.ensures
 
 returns-4 : tie.Need-returns-4
-unfolding classEffect
-returns-4 c = rw c.enum-told3.given.1 (interrupt-made _ _ c.before.before.sized.ensures _)
+unfolding class_effect
+returns-4 c = rw c.enum-told3.given.1 (interrupt_made _ _ c.before.before.sized.ensures _)
 
 returns-5 : tie.Need-returns-5
-unfolding classEffect
-returns-5 c = rw c.enum-told4.given.1 (not-handled-made _ _ c.before.before.sized.ensures)
+unfolding class_effect
+returns-5 c = rw c.enum-told4.given.1 (not_handled_made _ _ c.before.before.sized.ensures)
 
 returns-6 : tie.Need-returns-6
-unfolding classEffect
-returns-6 c = rw c.enum-told5.given.1 (unknown-made _ _ c.before.before.sized.ensures)
+unfolding class_effect
+returns-6 c = rw c.enum-told5.given.1 (unknown_made _ _ c.before.before.sized.ensures)
 
-pub trapped-spec : {M : Type 1} → statement M
-trapped-spec =
+pub trapped_spec : {M : Type 1} → statement M
+trapped_spec =
     tie.close
     (tie.spec
     sized-requires

@@ -1,6 +1,6 @@
 -- `in_place_start::virtual_inst` meets its contract.
 use Rattle.in_place_record.specs.Laws.{made_by}
-use Rattle.in_place_start.specs.Laws.{virtual-made}
+use Rattle.in_place_start.specs.Laws.{virtual_made}
 use borrow.Author.Rules.{rules}
 use Rattle.in_place_start.proofs.virtual_inst.Statement.{statement}
 use Rattle.in_place_start.proofs.virtual_inst.Tie as tie
@@ -24,10 +24,10 @@ do-csr-requires : tie.Need-do-csr-requires
 do-csr-requires c κs = search rules
 
 returns : tie.Need-returns
-returns c = made_by (virtual-made _ _ c.before.before.before.before.before.before.before.before.sized.ensures _) (simp (c.before.before.before.decide-stval.ensures, c.before.before.before.before.before.read.ensures, c.before.before.before.before.before.before.rs1.ensures) at c.do-csr.ensures)
+returns c = made_by (virtual_made _ _ c.before.before.before.before.before.before.before.before.sized.ensures _) (simp (c.before.before.before.decide-stval.ensures, c.before.before.before.before.before.read.ensures, c.before.before.before.before.before.before.rs1.ensures) at c.do-csr.ensures)
 
-pub virtual-inst-spec : {M : Type 1} → statement M
-virtual-inst-spec =
+pub virtual_inst_spec : {M : Type 1} → statement M
+virtual_inst_spec =
     tie.close
     (tie.spec
     sized-requires

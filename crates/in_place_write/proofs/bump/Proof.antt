@@ -1,12 +1,12 @@
 -- `in_place_write::bump` meets its contract.
 use borrow.Author.Tests.{eq-eqb, ne_eqb, lt-ltb, lt-leb, le-ltb, le-leb}
-use Rattle.in_place_record.specs.Rows.{bumpWords}
+use Rattle.in_place_record.specs.Rows.{bump_words}
 use borrow.Author.Rules.{rules}
 use Rattle.in_place_write.proofs.bump.Statement.{statement}
 use Rattle.in_place_write.proofs.bump.Tie as tie
 
 returns : tie.Need-returns
-unfolding bumpWords
+unfolding bump_words
 returns c = simp (eq-eqb _ _ c.if1.true)
 
 add_at : tie.Need-overflow-add-at
@@ -28,15 +28,15 @@ element-write-r : tie.Need-element-write-r
 element-write-r c = search rules
 
 returns-2 : tie.Need-returns-2
-unfolding bumpWords
+unfolding bump_words
 returns-2 c = simp (c.plus.ensures, lt-ltb _ _ c.before.before.if2.true, lt-leb _ _ c.before.before.if2.true, ne_eqb _ _ c.before.before.before.if1.false)
 
 returns-3 : tie.Need-returns-3
-unfolding bumpWords
+unfolding bump_words
 returns-3 c = simp (le-ltb _ _ c.if2.false, le-leb _ _ c.if2.false, ne_eqb _ _ c.before.if1.false)
 
-pub bump-spec : {M : Type 1} → statement M
-bump-spec =
+pub bump_spec : {M : Type 1} → statement M
+bump_spec =
     tie.close
     (tie.spec
     returns

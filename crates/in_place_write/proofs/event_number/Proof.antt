@@ -1,5 +1,5 @@
 -- `in_place_write::event_number` meets its contract.
-use Rattle.scope.specs.Record.{eventNumber}
+use Rattle.scope.specs.Record.{event_number}
 use Rattle.in_place_write.proofs.event_number.Statement.{statement}
 use Rattle.in_place_write.proofs.event_number.Tie as tie
 use borrow.Author.Rules.{rules}
@@ -35,47 +35,47 @@ enum-told-10 : tie.Need-enum-told-10
 enum-told-10 c = search rules
 
 returns : tie.Need-returns
-unfolding eventNumber
+unfolding event_number
 returns c = simp c.enum_told.given.1
 
 returns-2 : tie.Need-returns-2
-unfolding eventNumber
+unfolding event_number
 returns-2 c = simp c.enum-told2.given.1
 
 returns-3 : tie.Need-returns-3
-unfolding eventNumber
+unfolding event_number
 returns-3 c = simp c.enum-told3.given.1
 
 returns-4 : tie.Need-returns-4
-unfolding eventNumber
+unfolding event_number
 returns-4 c = simp c.enum-told4.given.1
 
 returns-5 : tie.Need-returns-5
-unfolding eventNumber
+unfolding event_number
 returns-5 c = simp c.enum-told5.given.1
 
 returns-6 : tie.Need-returns-6
-unfolding eventNumber
+unfolding event_number
 returns-6 c = simp c.enum-told6.given.1
 
 returns-7 : tie.Need-returns-7
-unfolding eventNumber
+unfolding event_number
 returns-7 c = simp c.enum-told7.given.1
 
 returns-8 : tie.Need-returns-8
-unfolding eventNumber
+unfolding event_number
 returns-8 c = simp c.enum-told8.given.1
 
 returns-9 : tie.Need-returns-9
-unfolding eventNumber
+unfolding event_number
 returns-9 c = simp c.enum-told9.given.1
 
 returns-10 : tie.Need-returns-10
-unfolding eventNumber
+unfolding event_number
 returns-10 c = simp c.enum-told10.given.1
 
-pub event-number-spec : {M : Type 1} → statement M
-event-number-spec =
+pub event_number_spec : {M : Type 1} → statement M
+event_number_spec =
     tie.close
     (tie.spec
     enum_told

@@ -1,6 +1,6 @@
 -- `in_place_write::inject` meets its contract.
 use mathlib.Core.Path.{refl}
-use Rattle.in_place_record.specs.Rows.{injectWords}
+use Rattle.in_place_record.specs.Rows.{inject_words}
 use borrow.Author.Rules.{rules}
 use Rattle.in_place_write.proofs.inject.Statement.{statement}
 use Rattle.in_place_write.proofs.inject.Tie as tie
@@ -27,11 +27,11 @@ element-write-r-7 : tie.Need-element-write-r-7
 element-write-r-7 c = search rules
 
 returns : tie.Need-returns
-unfolding injectWords
+unfolding inject_words
 returns c = refl
 
-pub inject-spec : {M : Type 1} → statement M
-inject-spec =
+pub inject_spec : {M : Type 1} → statement M
+inject_spec =
     tie.close
     (tie.spec
     element-write-r

@@ -1,5 +1,5 @@
 -- `in_place_write::pair` meets its contract.
-use Rattle.in_place_record.specs.Rows.{pairWords}
+use Rattle.in_place_record.specs.Rows.{pair_words}
 use borrow.Author.Rules.{rules}
 use Rattle.in_place_write.proofs.pair.Statement.{statement}
 use Rattle.in_place_write.proofs.pair.Tie as tie
@@ -17,7 +17,7 @@ advance-requires : tie.Need-advance-requires
 advance-requires c κs = search rules
 
 returns : tie.Need-returns
-unfolding pairWords
+unfolding pair_words
 returns c = simp c.advance.ensures
 
 pub pair_spec : {M : Type 1} → statement M

@@ -1,5 +1,5 @@
 -- `in_place_write::timer` meets its contract.
-use Rattle.in_place_record.specs.Rows.{timerWords}
+use Rattle.in_place_record.specs.Rows.{timer_words}
 use borrow.Author.Rules.{rules}
 use Rattle.in_place_write.proofs.timer.Statement.{statement}
 use Rattle.in_place_write.proofs.timer.Tie as tie
@@ -20,11 +20,11 @@ bump-requires : tie.Need-bump-requires
 bump-requires c κs = search rules
 
 returns : tie.Need-returns
-unfolding timerWords
+unfolding timer_words
 returns c = simp (c.bump.ensures, c.before.before.with-bits.ensures)
 
-pub timer-spec : {M : Type 1} → statement M
-timer-spec =
+pub timer_spec : {M : Type 1} → statement M
+timer_spec =
     tie.close
     (tie.spec
     element-copy-out-with-bits

@@ -1,5 +1,5 @@
 -- `isa_decoder::decode` meets its contract.
-use Rattle.isa_decoder.specs.Decode.{decodeOf}
+use Rattle.isa_decoder.specs.Decode.{decode_of}
 use borrow.Author.Rules.{rules}
 use Rattle.isa_decoder.proofs.decode.Statement.{statement}
 use Rattle.isa_decoder.proofs.decode.Tie as tie
@@ -11,8 +11,8 @@ decode-by-requires : tie.Need-decode-by-requires
 decode-by-requires c κs = search rules
 
 returns : tie.Need-returns
-unfolding decodeOf
+unfolding decode_of
 returns c = simp (c.decode-by.ensures, c.before.opcode.ensures)
 
-pub decode-spec : {M : Type 1} → statement M
-decode-spec = tie.close (tie.spec opcode-requires decode-by-requires returns)
+pub decode_spec : {M : Type 1} → statement M
+decode_spec = tie.close (tie.spec opcode-requires decode-by-requires returns)

@@ -1,5 +1,5 @@
 -- `isa_decoder::quadrant2` meets its contract.
-use Rattle.isa_decoder.specs.Straight.{sp-load-straight, sp-store-straight, sp-neither}
+use Rattle.isa_decoder.specs.Straight.{sp_load_straight, sp_store_straight, sp_neither}
 use borrow.Author.Rules.{rules}
 use Rattle.isa_decoder.proofs.quadrant2.Statement.{statement}
 use Rattle.isa_decoder.proofs.quadrant2.Tie as tie
@@ -11,13 +11,13 @@ sp-load-requires : tie.Need-sp-load-requires
 sp-load-requires c κs = search rules
 
 returns : tie.Need-returns
-returns c = simp (c.sp-load.ensures, c.before.before.width.ensures) (sp-load-straight _ _ _ c.before.if1.true)
+returns c = simp (c.sp-load.ensures, c.before.before.width.ensures) (sp_load_straight _ _ _ c.before.if1.true)
 
 returns-2 : tie.Need-returns-2
-returns-2 c = simp c.before.before.width.ensures (sp-store-straight _ _ _ c.if2.true)
+returns-2 c = simp c.before.before.width.ensures (sp_store_straight _ _ _ c.if2.true)
 
 returns-3 : tie.Need-returns-3
-returns-3 c = sp-neither _ _ _ c.before.if1.false c.if2.false
+returns-3 c = sp_neither _ _ _ c.before.if1.false c.if2.false
 
-pub quadrant2-spec : {M : Type 1} → statement M
-quadrant2-spec = tie.close (tie.spec width-requires sp-load-requires returns returns-2 returns-3)
+pub quadrant2_spec : {M : Type 1} → statement M
+quadrant2_spec = tie.close (tie.spec width-requires sp-load-requires returns returns-2 returns-3)

@@ -1,5 +1,5 @@
 -- `isa_decoder::store_source` meets its contract.
-use Rattle.isa_decoder.specs.Length.{storeSource}
+use Rattle.isa_decoder.specs.Length.{store_source}
 use borrow.Author.Rules.{rules}
 use Rattle.isa_decoder.proofs.store_source.Statement.{statement}
 use Rattle.isa_decoder.proofs.store_source.Tie as tie
@@ -20,23 +20,23 @@ op-source-requires : tie.Need-op-source-requires
 op-source-requires c κs = search rules
 
 returns : tie.Need-returns
-unfolding storeSource
+unfolding store_source
 returns c = simp c.enum_told.given.1
 
 returns-2 : tie.Need-returns-2
-unfolding storeSource
+unfolding store_source
 returns-2 c = simp c.enum-told2.given.1
 
 returns-3 : tie.Need-returns-3
-unfolding storeSource
+unfolding store_source
 returns-3 c = simp c.enum-told3.given.1
 
 returns-4 : tie.Need-returns-4
-unfolding storeSource
+unfolding store_source
 returns-4 c = simp (c.op-source.ensures, c.before.before.t.given.1)
 
-pub store-source-spec : {M : Type 1} → statement M
-store-source-spec =
+pub store_source_spec : {M : Type 1} → statement M
+store_source_spec =
     tie.close
     (tie.spec
     enum_told

@@ -1,5 +1,5 @@
 -- `isa_extension::extend` meets its contract.
-use Rattle.isa_extension.proofs.Straight.{extend-straight}
+use Rattle.isa_extension.proofs.Straight.{extend_straight}
 use Rattle.std.proofs.Common.{rules}
 use Rattle.isa_extension.proofs.extend.Statement.{statement}
 use Rattle.isa_extension.proofs.extend.Tie as tie
@@ -23,10 +23,10 @@ wrapping-add-u64-requires : tie.Need-wrapping-add-u64-requires
 wrapping-add-u64-requires c κs = search rules
 
 returns : tie.Need-returns
-returns c = simp (c.wrapping-add-u64.ensures, c.before.select2.ensures, c.before.before.select.ensures, c.before.before.before.mask.ensures) (extend-straight _ _ _)
+returns c = simp (c.wrapping-add-u64.ensures, c.before.select2.ensures, c.before.before.select.ensures, c.before.before.before.mask.ensures) (extend_straight _ _ _)
 
-pub extend-spec : {M : Type 1} → statement M
-extend-spec =
+pub extend_spec : {M : Type 1} → statement M
+extend_spec =
     tie.close
     (tie.spec
     mask-requires

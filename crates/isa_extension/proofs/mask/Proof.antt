@@ -32,7 +32,7 @@ returns-4 : tie.Need-returns-4
 unfolding width_bits
 returns-4 c = simp c.enum-told4.given.1
 
-pub mask-spec : {M : Type 1} → statement M
-mask-spec =
+pub mask_spec : {M : Type 1} → statement M
+mask_spec =
     tie.close
     (tie.spec enum_told enum-told-2 enum-told-3 enum-told-4 returns returns-2 returns-3 returns-4)

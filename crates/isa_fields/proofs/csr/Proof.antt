@@ -1,12 +1,12 @@
 -- `isa_fields::csr` meets its contract.
 use mathlib.Core.Path.{refl}
-use Rattle.isa_fields.specs.Fields.{csrField}
+use Rattle.isa_fields.specs.Fields.{csr_field}
 use Rattle.isa_fields.proofs.csr.Statement.{statement}
 use Rattle.isa_fields.proofs.csr.Tie as tie
 
 returns : tie.Need-returns
-unfolding csrField
+unfolding csr_field
 returns c = refl
 
-pub csr-spec : {M : Type 1} → statement M
-csr-spec = tie.close (tie.spec returns)
+pub csr_spec : {M : Type 1} → statement M
+csr_spec = tie.close (tie.spec returns)

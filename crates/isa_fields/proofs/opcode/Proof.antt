@@ -1,12 +1,12 @@
 -- `isa_fields::opcode` meets its contract.
 use mathlib.Core.Path.{refl}
-use Rattle.isa_fields.specs.Fields.{opcodeField}
+use Rattle.isa_fields.specs.Fields.{opcode_field}
 use Rattle.isa_fields.proofs.opcode.Statement.{statement}
 use Rattle.isa_fields.proofs.opcode.Tie as tie
 
 returns : tie.Need-returns
-unfolding opcodeField
+unfolding opcode_field
 returns c = refl
 
-pub opcode-spec : {M : Type 1} → statement M
-opcode-spec = tie.close (tie.spec returns)
+pub opcode_spec : {M : Type 1} → statement M
+opcode_spec = tie.close (tie.spec returns)

@@ -1,6 +1,6 @@
 -- `isa_fields::prime` meets its contract.
 use mathlib.Core.Path.{refl}
-use Rattle.isa_fields.specs.Compressed.{primeField}
+use Rattle.isa_fields.specs.Compressed.{prime_field}
 use borrow.Author.Rules.{rules}
 use Rattle.isa_fields.proofs.prime.Statement.{statement}
 use Rattle.isa_fields.proofs.prime.Tie as tie
@@ -9,8 +9,8 @@ add-result : tie.Need-overflow-add-result
 add-result c = search rules
 
 returns : tie.Need-returns
-unfolding primeField
+unfolding prime_field
 returns c = refl
 
-pub prime-spec : {M : Type 1} → statement M
-prime-spec = tie.close (tie.spec add-result returns)
+pub prime_spec : {M : Type 1} → statement M
+prime_spec = tie.close (tie.spec add-result returns)

@@ -1,6 +1,6 @@
 -- `isa_registers::hgatp_value` meets its contract.
 use mathlib.Core.Path.{refl}
-use Rattle.isa_registers.specs.Values.{hgatpOf}
+use Rattle.isa_registers.specs.Values.{hgatp_of}
 use borrow.Author.Rules.{rules}
 use Rattle.isa_registers.proofs.hgatp_value.Statement.{statement}
 use Rattle.isa_registers.proofs.hgatp_value.Tie as tie
@@ -12,8 +12,8 @@ add-result : tie.Need-overflow-add-result
 add-result c = search rules
 
 returns : tie.Need-returns
-unfolding hgatpOf
+unfolding hgatp_of
 returns c = refl
 
-pub hgatp-value-spec : {M : Type 1} → statement M
-hgatp-value-spec = tie.close (tie.spec mul-result add-result returns)
+pub hgatp_value_spec : {M : Type 1} → statement M
+hgatp_value_spec = tie.close (tie.spec mul-result add-result returns)

@@ -1,12 +1,12 @@
 -- `isa_registers::sie` meets its contract.
 use mathlib.Core.Path.{refl}
-use Rattle.isa_registers.specs.Bits.{sieOf}
+use Rattle.isa_registers.specs.Bits.{sie_of}
 use Rattle.isa_registers.proofs.sie.Statement.{statement}
 use Rattle.isa_registers.proofs.sie.Tie as tie
 
 returns : tie.Need-returns
-unfolding sieOf
+unfolding sie_of
 returns c = refl
 
-pub sie-spec : {M : Type 1} → statement M
-sie-spec = tie.close (tie.spec returns)
+pub sie_spec : {M : Type 1} → statement M
+sie_spec = tie.close (tie.spec returns)

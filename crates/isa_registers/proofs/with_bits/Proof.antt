@@ -11,5 +11,5 @@ returns-2 : tie.Need-returns-2
 unfolding with_bits
 returns-2 c = simp c.if1.false
 
-pub with-bits-spec : {M : Type 1} → statement M
-with-bits-spec = tie.close (tie.spec returns returns-2)
+pub with_bits_spec : {M : Type 1} → statement M
+with_bits_spec = tie.close (tie.spec returns returns-2)

@@ -1,6 +1,6 @@
 -- `replay::feed` meets its contract.
 use borrow.Author.Rules.{rules}
-use Rattle.replay_capture.specs.Laws.{filled-high, filled-moves}
+use Rattle.replay_capture.specs.Laws.{filled_high, filled_moves}
 use Prim.Native.Nat.{◌-◌, ◌≤◌}
 use native.Mathlib.Omega.{arith}
 use Rattle.replay.proofs.feed.Statement.{statement}
@@ -28,7 +28,7 @@ fill-requires : tie.Need-fill-requires invariant-loop decreases-loop
 fill-requires c κs = search rules
 
 add-i : tie.Need-overflow-add-i invariant-loop decreases-loop
-add-i c = omega (arith, filled-high _ c.before.before.before.before.before.before.before.before.before.args.bytes.now c.before.before.before.before.before.before.before.loop.i c.before.before.before.before.before.before.before.before.before.args.n _ _ _ _ _ c.before.before.before.before.before.before.before.loop.invariant c.before.before.before.before.before.before.before.before.before.requires c.before.before.fill.ensures)
+add-i c = omega (arith, filled_high _ c.before.before.before.before.before.before.before.before.before.args.bytes.now c.before.before.before.before.before.before.before.loop.i c.before.before.before.before.before.before.before.before.before.args.n _ _ _ _ _ c.before.before.before.before.before.before.before.loop.invariant c.before.before.before.before.before.before.before.before.before.requires c.before.before.fill.ensures)
 
 say-requires : tie.Need-say-requires invariant-loop decreases-loop
 say-requires c κs = c.before.before.before.before.fill.ensures.fits
@@ -37,16 +37,16 @@ returns : tie.Need-returns invariant-loop decreases-loop
 returns c = search rules
 
 loop-less : tie.Need-loop-smaller invariant-loop decreases-loop
-loop-less c = omega (arith, filled-high _ c.before.before.before.before.before.before.before.before.before.before.before.before.before.args.bytes.now c.before.before.before.before.before.before.before.before.before.before.before.loop.i c.before.before.before.before.before.before.before.before.before.before.before.before.before.args.n _ _ _ _ _ c.before.before.before.before.before.before.before.before.before.before.before.loop.invariant c.before.before.before.before.before.before.before.before.before.before.before.before.before.requires c.before.before.before.before.before.before.fill.ensures, filled-moves _ c.before.before.before.before.before.before.before.before.before.before.before.before.before.args.bytes.now c.before.before.before.before.before.before.before.before.before.before.before.loop.i c.before.before.before.before.before.before.before.before.before.before.before.before.before.args.n _ _ _ _ _ c.before.before.before.before.before.before.before.before.before.before.loop-test.true c.before.before.before.before.before.before.before.before.before.before.before.before.before.requires (search rules) c.before.before.before.before.before.before.fill.ensures)
+loop-less c = omega (arith, filled_high _ c.before.before.before.before.before.before.before.before.before.before.before.before.before.args.bytes.now c.before.before.before.before.before.before.before.before.before.before.before.loop.i c.before.before.before.before.before.before.before.before.before.before.before.before.before.args.n _ _ _ _ _ c.before.before.before.before.before.before.before.before.before.before.before.loop.invariant c.before.before.before.before.before.before.before.before.before.before.before.before.before.requires c.before.before.before.before.before.before.fill.ensures, filled_moves _ c.before.before.before.before.before.before.before.before.before.before.before.before.before.args.bytes.now c.before.before.before.before.before.before.before.before.before.before.before.loop.i c.before.before.before.before.before.before.before.before.before.before.before.before.before.args.n _ _ _ _ _ c.before.before.before.before.before.before.before.before.before.before.loop-test.true c.before.before.before.before.before.before.before.before.before.before.before.before.before.requires (search rules) c.before.before.before.before.before.before.fill.ensures)
 
 loop-again : tie.Need-loop-preserved invariant-loop decreases-loop
-loop-again c = filled-high _ c.before.before.before.before.before.before.before.before.before.before.before.before.before.args.bytes.now c.before.before.before.before.before.before.before.before.before.before.before.loop.i c.before.before.before.before.before.before.before.before.before.before.before.before.before.args.n _ _ _ _ _ c.before.before.before.before.before.before.before.before.before.before.before.loop.invariant c.before.before.before.before.before.before.before.before.before.before.before.before.before.requires c.before.before.before.before.before.before.fill.ensures
+loop-again c = filled_high _ c.before.before.before.before.before.before.before.before.before.before.before.before.before.args.bytes.now c.before.before.before.before.before.before.before.before.before.before.before.loop.i c.before.before.before.before.before.before.before.before.before.before.before.before.before.args.n _ _ _ _ _ c.before.before.before.before.before.before.before.before.before.before.before.loop.invariant c.before.before.before.before.before.before.before.before.before.before.before.before.before.requires c.before.before.before.before.before.before.fill.ensures
 
 returns-2 : tie.Need-returns-2 invariant-loop decreases-loop
 returns-2 c = search rules
 
-pub feed-spec : {M : Type 1} → statement M
-feed-spec =
+pub feed_spec : {M : Type 1} → statement M
+feed_spec =
     tie.close
     (tie.spec
     invariant-loop

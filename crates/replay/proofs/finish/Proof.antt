@@ -1,5 +1,5 @@
 -- `replay::finish` meets its contract.
-use Rattle.replay_capture.specs.Laws.{written-end, written_same}
+use Rattle.replay_capture.specs.Laws.{written_end, written_same}
 use mathlib.Core.Path.{sym, ◌∙◌}
 use borrow.Author.Rules.{rules}
 use Rattle.replay.proofs.finish.Statement.{statement}
@@ -15,7 +15,7 @@ slice-aggregate-say : tie.Need-slice-aggregate-say
 slice-aggregate-say c = sym (written_same _ _ _ _ _ (search rules) c.before.write.ensures)
 
 say-requires : tie.Need-say-requires
-say-requires c κs = written-end _ _ _ _ _ (search rules) c.before.write.ensures
+say-requires c κs = written_end _ _ _ _ _ (search rules) c.before.write.ensures
 
 returns : tie.Need-returns
 returns c = search rules

@@ -1,5 +1,5 @@
 -- `replay_capture::put` meets its contract.
-use Rattle.replay_capture.specs.Laws.{nothing_put, trap-put, bad-put}
+use Rattle.replay_capture.specs.Laws.{nothing_put, trap_put, bad_put}
 use borrow.Author.Rules.{rules}
 use Rattle.replay_capture.proofs.put.Statement.{statement}
 use Rattle.replay_capture.proofs.put.Tie as tie
@@ -50,13 +50,13 @@ same_length : tie.Need-same-length
 same_length c = search rules
 
 returns-2 : tie.Need-returns-2
-returns-2 c = rw c.before.before.before.before.before.before.before.before.before.before.before.before.before.before.before.before.before.before.before.before.before.g.given.1 (trap-put _ _ _ _ _ _ _ _ _ _ _ _ _ _ c.before.before.before.before.before.before.before.before.before.before.before.before.before.before.before.before.before.before.before.before.before.before.before.before.requires c.before.before.before.before.before.before.before.before.before.before.before.before.before.before.before.before.before.put.ensures c.before.before.before.before.before.before.before.before.before.before.before.before.put2.ensures c.before.before.before.before.before.before.before.put3.ensures c.before.before.put4.ensures)
+returns-2 c = rw c.before.before.before.before.before.before.before.before.before.before.before.before.before.before.before.before.before.before.before.before.before.g.given.1 (trap_put _ _ _ _ _ _ _ _ _ _ _ _ _ _ c.before.before.before.before.before.before.before.before.before.before.before.before.before.before.before.before.before.before.before.before.before.before.before.before.requires c.before.before.before.before.before.before.before.before.before.before.before.before.before.before.before.before.before.put.ensures c.before.before.before.before.before.before.before.before.before.before.before.before.put2.ensures c.before.before.before.before.before.before.before.put3.ensures c.before.before.put4.ensures)
 
 same-length-2 : tie.Need-same-length-2
 same-length-2 c = search rules
 
 returns-3 : tie.Need-returns-3
-returns-3 c = rw c.before.before.before.before.before.before.g2.given.1 (bad-put _ _ _ _ _ c.before.before.before.before.before.before.before.before.before.requires c.before.before.put5.ensures)
+returns-3 c = rw c.before.before.before.before.before.before.g2.given.1 (bad_put _ _ _ _ _ c.before.before.before.before.before.before.before.before.before.requires c.before.before.put5.ensures)
 
 pub put_spec : {M : Type 1} → statement M
 put_spec =

@@ -1,5 +1,5 @@
 -- `replay_digits::eight` meets its contract.
-use Rattle.replay_digits.specs.Laws.{eight-of}
+use Rattle.replay_digits.specs.Laws.{eight_of}
 use native.Mathlib.Omega.{arith}
 use borrow.Author.Rules.{rules}
 use Rattle.replay_digits.proofs.eight.Statement.{statement}
@@ -21,8 +21,8 @@ add-result : tie.Need-overflow-add-result
 add-result c = search rules
 
 returns : tie.Need-returns
-returns c = omega (arith, eight-of c.before.before.before.args.s.now c.before.before.before.args.at c.before.before.before.requires, c.before.four.ensures.0, c.four2.ensures.0)
+returns c = omega (arith, eight_of c.before.before.before.args.s.now c.before.before.before.args.at c.before.before.before.requires, c.before.four.ensures.0, c.four2.ensures.0)
 
-pub eight-spec : {M : Type 1} → statement M
-eight-spec =
+pub eight_spec : {M : Type 1} → statement M
+eight_spec =
     tie.close (tie.spec four-requires add-four four-requires-2 mul-result add-result returns)

@@ -1,5 +1,5 @@
 -- `replay_digits::four` meets its contract.
-use Rattle.replay_digits.specs.Laws.{four-of}
+use Rattle.replay_digits.specs.Laws.{four_of}
 use native.Mathlib.Omega.{arith}
 use borrow.Author.Rules.{rules}
 use Rattle.replay_digits.proofs.four.Statement.{statement}
@@ -57,10 +57,10 @@ add-result-3 : tie.Need-overflow-add-result-3
 add-result-3 c = search rules
 
 returns : tie.Need-returns
-returns c = (omega (arith, four-of c.before.before.before.before.before.before.before.before.before.args.s.now c.before.before.before.before.before.before.before.before.before.args.at c.before.before.before.before.before.before.before.before.before.requires, c.before.before.before.before.before.before.wide.ensures.0, c.before.before.before.before.wide2.ensures.0, c.before.before.wide3.ensures.0, c.wide4.ensures.0), search rules)
+returns c = (omega (arith, four_of c.before.before.before.before.before.before.before.before.before.args.s.now c.before.before.before.before.before.before.before.before.before.args.at c.before.before.before.before.before.before.before.before.before.requires, c.before.before.before.before.before.before.wide.ensures.0, c.before.before.before.before.wide2.ensures.0, c.before.before.wide3.ensures.0, c.wide4.ensures.0), search rules)
 
-pub four-spec : {M : Type 1} → statement M
-four-spec =
+pub four_spec : {M : Type 1} → statement M
+four_spec =
     tie.close
     (tie.spec
     add-i

@@ -1,6 +1,6 @@
 -- `replay_digits::push` meets its contract.
 use mathlib.Core.Path.{refl}
-use Rattle.replay_scope.specs.Lines.{pushOf}
+use Rattle.replay_scope.specs.Lines.{push_of}
 use borrow.Author.Rules.{rules}
 use Rattle.replay_digits.proofs.push.Statement.{statement}
 use Rattle.replay_digits.proofs.push.Tie as tie
@@ -12,7 +12,7 @@ add-result : tie.Need-overflow-add-result
 add-result c = search rules
 
 returns : tie.Need-returns
-unfolding pushOf
+unfolding push_of
 returns c = refl
 
 pub push_spec : {M : Type 1} → statement M

@@ -1,7 +1,7 @@
 -- `replay_lines::begins` meets its contract.
 use borrow.Author.Rules.{rules}
 use mathlib.Core.Path.{refl}
-use Rattle.replay_lines.specs.Whole.{begins-next, begins-not, begins-all}
+use Rattle.replay_lines.specs.Whole.{begins_next, begins_not, begins_all}
 use Prim.Native.Nat.{◌-◌, ◌≤◌, ◌<◌}
 use mathlib.Core.Path.{◌≡◌, sym, ◌∙◌}
 use native.Mathlib.Omega.{arith}
@@ -26,7 +26,7 @@ shared-slice-read-if1-2 : tie.Need-shared-slice-read-if1-2 invariant-loop decrea
 shared-slice-read-if1-2 c = search rules
 
 returns : tie.Need-returns invariant-loop decreases-loop
-returns c = begins-not c.before.before.before.before.before.args.key.now c.before.before.before.before.before.args.s.now c.before.before.before.before.loop.i c.before.before.before.loop-test.true (omega arith) c.if1.true ∙ sym c.before.before.before.before.loop.invariant.1
+returns c = begins_not c.before.before.before.before.before.args.key.now c.before.before.before.before.before.args.s.now c.before.before.before.before.loop.i c.before.before.before.loop-test.true (omega arith) c.if1.true ∙ sym c.before.before.before.before.loop.invariant.1
 
 add-i : tie.Need-overflow-add-i invariant-loop decreases-loop
 add-i c = search rules
@@ -35,13 +35,13 @@ loop-less : tie.Need-loop-smaller invariant-loop decreases-loop
 loop-less c = search rules
 
 loop-again : tie.Need-loop-preserved invariant-loop decreases-loop
-loop-again c = (search rules, c.before.before.before.before.loop.invariant.1 ∙ begins-next c.before.before.before.before.before.args.key.now c.before.before.before.before.before.args.s.now c.before.before.before.before.loop.i c.before.before.before.loop-test.true (omega arith) c.if1.false)
+loop-again c = (search rules, c.before.before.before.before.loop.invariant.1 ∙ begins_next c.before.before.before.before.before.args.key.now c.before.before.before.before.before.args.s.now c.before.before.before.before.loop.i c.before.before.before.loop-test.true (omega arith) c.if1.false)
 
 returns-2 : tie.Need-returns-2 invariant-loop decreases-loop
-returns-2 c = begins-all c.before.before.args.key.now c.before.before.args.s.now c.before.loop.i c.loop-test.false ∙ sym c.before.loop.invariant.1
+returns-2 c = begins_all c.before.before.args.key.now c.before.before.args.s.now c.before.loop.i c.loop-test.false ∙ sym c.before.loop.invariant.1
 
-pub begins-spec : {M : Type 1} → statement M
-begins-spec =
+pub begins_spec : {M : Type 1} → statement M
+begins_spec =
     tie.close
     (tie.spec
     invariant-loop

@@ -48,8 +48,8 @@ returns-6 : tie.Need-returns-6
 unfolding line_of
 returns-6 c = simp (ne_eqb _ _ c.if5.false, le-ltb _ _ c.before.if3.false, le-leb _ _ c.before.if3.false, le-ltb _ _ c.before.before.if1.false, le-leb _ _ c.before.before.if1.false)
 
-pub line-spec : {M : Type 1} → statement M
-line-spec =
+pub line_spec : {M : Type 1} → statement M
+line_spec =
     tie.close
     (tie.spec
     shared-slice-read-if2

@@ -1,5 +1,5 @@
 -- `replay_lines::read` meets its contract.
-use Rattle.replay_lines.specs.Whole.{spelled-read}
+use Rattle.replay_lines.specs.Whole.{spelled_read}
 use native.Mathlib.Omega.{arith}
 use mathlib.Core.Path.{sym, ◌∙◌}
 use borrow.Author.Rules.{rules}
@@ -25,7 +25,7 @@ add-t17 : tie.Need-overflow-add-t17
 add-t17 c = omega (arith, (c.before.before.before.before.before.before.before.spell.ensures c.before.before.before.before.before.before.if3.true).1)
 
 returns : tie.Need-returns
-returns c = spelled-read _ _ _ _ _ _ c.before.before.before.before.before.before.before.before.before.if1.true c.before.before.before.before.before.before.before.before.if2.true c.before.before.before.before.before.before.if3.true c.before.before.before.before.before.before.before.spell.ensures c.before.before.before.before.if4.true (sym c.before.before.before.read.ensures ∙ c.before.d.given.1)
+returns c = spelled_read _ _ _ _ _ _ c.before.before.before.before.before.before.before.before.before.if1.true c.before.before.before.before.before.before.before.before.if2.true c.before.before.before.before.before.before.if3.true c.before.before.before.before.before.before.before.spell.ensures c.before.before.before.before.if4.true (sym c.before.before.before.read.ensures ∙ c.before.d.given.1)
 
 enum_told : tie.Need-enum-told
 enum_told c = search rules

@@ -1,7 +1,7 @@
 -- `replay_lines::scan` meets its contract.
 use borrow.Author.Rules.{rules}
 use mathlib.Core.Path.{refl}
-use Rattle.replay_lines.specs.Laws.{taken_next, taken-end}
+use Rattle.replay_lines.specs.Laws.{taken_next, taken_end}
 use Rattle.replay_lines.specs.Read.{taken_of}
 use Prim.Native.Nat.{◌-◌, ◌≤◌, ◌<◌}
 use mathlib.Core.Path.{◌≡◌, sym, ◌∙◌}
@@ -69,11 +69,11 @@ returns-3 : tie.Need-returns-3 invariant-loop decreases-loop
 returns-3 c = record {
   high = omega arith;
   moves = λ h. omega arith;
-  reads = c.before.loop.invariant.1 ∙ taken-end _ _ _ _ _ c.loop-test.false;
+  reads = c.before.loop.invariant.1 ∙ taken_end _ _ _ _ _ c.loop-test.false;
 }
 
-pub scan-spec : {M : Type 1} → statement M
-scan-spec =
+pub scan_spec : {M : Type 1} → statement M
+scan_spec =
     tie.close
     (tie.spec
     invariant-loop

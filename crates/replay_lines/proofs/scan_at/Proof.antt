@@ -92,8 +92,8 @@ returns-7 : tie.Need-returns-7
 unfolding key_of
 returns-7 c = rw c.before.before.enum-told6.given.1 c.scan6.ensures
 
-pub scan-at-spec : {M : Type 1} → statement M
-scan-at-spec =
+pub scan_at_spec : {M : Type 1} → statement M
+scan_at_spec =
     tie.close
     (tie.spec
     enum-known-place

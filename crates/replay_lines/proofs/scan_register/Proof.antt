@@ -1,5 +1,5 @@
 -- `replay_lines::scan_register` meets its contract.
-use Rattle.replay_lines.specs.Laws.{read-four, read_none}
+use Rattle.replay_lines.specs.Laws.{read_four, read_none}
 use borrow.Author.Rules.{rules}
 use Rattle.replay_lines.proofs.scan_register.Statement.{statement}
 use Rattle.replay_lines.proofs.scan_register.Tie as tie
@@ -23,7 +23,7 @@ scan-requires : tie.Need-scan-requires
 scan-requires c κs = search rules
 
 returns : tie.Need-returns
-returns c = read-four c.before.before.before.before.before.args.keys.now c.before.before.before.before.before.args.i _ _ _ _ c.scan.ensures
+returns c = read_four c.before.before.before.before.before.args.keys.now c.before.before.before.before.before.args.i _ _ _ _ c.scan.ensures
 
 slice-aggregate-scan : tie.Need-slice-aggregate-scan
 slice-aggregate-scan c = search rules
@@ -34,8 +34,8 @@ scan-requires-2 c κs = search rules
 returns-2 : tie.Need-returns-2
 returns-2 c = read_none c.before.before.before.before.before.args.keys.now c.before.before.before.before.before.args.i _ _ _ _ c.before.before.before.before.before.requires c.before.before.if1.false c.scan2.ensures
 
-pub scan-register-spec : {M : Type 1} → statement M
-scan-register-spec =
+pub scan_register_spec : {M : Type 1} → statement M
+scan_register_spec =
     tie.close
     (tie.spec
     mul-a

@@ -92,8 +92,8 @@ returns-7 : tie.Need-returns-7
 unfolding key_of
 returns-7 c = rw c.before.before.enum-told6.given.1 c.spell-by6.ensures
 
-pub spell-spec : {M : Type 1} → statement M
-spell-spec =
+pub spell_spec : {M : Type 1} → statement M
+spell_spec =
     tie.close
     (tie.spec
     enum-known-place

@@ -1,6 +1,6 @@
 -- `replay_lines::spell_header` meets its contract.
 use borrow.Author.Tests.{ne_eqb}
-use Rattle.replay_scope.specs.Lines.{headerKey, registerKeys}
+use Rattle.replay_scope.specs.Lines.{header_key, register_keys}
 use borrow.Author.Rules.{rules}
 use Rattle.replay_lines.proofs.spell_header.Statement.{statement}
 use Rattle.replay_lines.proofs.spell_header.Tie as tie
@@ -27,19 +27,19 @@ spell-register-requires : tie.Need-spell-register-requires
 spell-register-requires c κs = search rules
 
 returns : tie.Need-returns
-unfolding headerKey registerKeys
+unfolding header_key register_keys
 returns c = rw c.before.before.match.keys1 c.spell-by.ensures
 
 returns-2 : tie.Need-returns-2
-unfolding headerKey registerKeys
+unfolding header_key register_keys
 returns-2 c = rw c.before.before.match.keys2 c.spell-by2.ensures
 
 returns-3 : tie.Need-returns-3
-unfolding headerKey registerKeys
+unfolding header_key register_keys
 returns-3 c = simp (ne_eqb _ _ c.before.before.match.rest.1, ne_eqb _ _ c.before.before.match.rest.0.1) c.spell-register.ensures
 
-pub spell-header-spec : {M : Type 1} → statement M
-spell-header-spec =
+pub spell_header_spec : {M : Type 1} → statement M
+spell_header_spec =
     tie.close
     (tie.spec
     slice-aggregate-spell-by

@@ -1,5 +1,5 @@
 -- `replay_lines::spell_register` meets its contract.
-use Rattle.replay_lines.specs.Whole.{spelled-four}
+use Rattle.replay_lines.specs.Whole.{spelled_four}
 use native.Mathlib.Nat.{not-suc-le-zero}
 use borrow.Author.Rules.{rules}
 use Rattle.replay_lines.proofs.spell_register.Statement.{statement}
@@ -24,13 +24,13 @@ spell-by-requires : tie.Need-spell-by-requires
 spell-by-requires c κs = search rules
 
 returns : tie.Need-returns
-returns c = spelled-four c.before.before.before.before.before.args.keys.now c.before.before.before.before.before.args.i _ _ c.spell-by.ensures
+returns c = spelled_four c.before.before.before.before.before.args.keys.now c.before.before.before.before.before.args.i _ _ c.spell-by.ensures
 
 returns-2 : tie.Need-returns-2
 returns-2 c = λ h. absurd (not-suc-le-zero h)
 
-pub spell-register-spec : {M : Type 1} → statement M
-spell-register-spec =
+pub spell_register_spec : {M : Type 1} → statement M
+spell_register_spec =
     tie.close
     (tie.spec
     mul-a

@@ -1,6 +1,6 @@
 -- `replay_order::do_line` meets its contract.
-use Rattle.replay_scope.specs.Output.{lineDoes}
-use Rattle.replay_traps.specs.InPlace.{stepIn, stateIn}
+use Rattle.replay_scope.specs.Output.{line_does}
+use Rattle.replay_traps.specs.InPlace.{step_in, state_in}
 use borrow.Author.Rules.{rules}
 use Rattle.replay_order.proofs.do_line.Statement.{statement}
 use Rattle.replay_order.proofs.do_line.Tie as tie
@@ -54,35 +54,35 @@ pair-requires : tie.Need-pair-requires
 pair-requires c κs = search rules
 
 returns : tie.Need-returns
-unfolding lineDoes stepIn stateIn
+unfolding line_does step_in state_in
 returns c = rw (c.before.before.before.before.before.place.given.1, c.follow.ensures, c.before.after-header.ensures, c.before.before.head.ensures)
 
 returns-2 : tie.Need-returns-2
-unfolding lineDoes stepIn stateIn
+unfolding line_does step_in state_in
 returns-2 c = rw (c.before.enum_told.given.1, c.keep.ensures.0, c.keep.ensures.1)
 
 returns-3 : tie.Need-returns-3
-unfolding lineDoes stepIn stateIn
+unfolding line_does step_in state_in
 returns-3 c = rw (c.before.enum-told2.given.1, c.keep2.ensures.0, c.keep2.ensures.1)
 
 returns-4 : tie.Need-returns-4
-unfolding lineDoes stepIn stateIn
+unfolding line_does step_in state_in
 returns-4 c = rw (c.before.enum-told3.given.1, c.keep3.ensures.0, c.keep3.ensures.1)
 
 returns-5 : tie.Need-returns-5
-unfolding lineDoes stepIn stateIn
+unfolding line_does step_in state_in
 returns-5 c = rw c.before.before.enum-told4.given.1 c.start.ensures
 
 returns-6 : tie.Need-returns-6
-unfolding lineDoes stepIn stateIn
+unfolding line_does step_in state_in
 returns-6 c = rw (c.before.enum-told5.given.1, c.keep4.ensures.0, c.keep4.ensures.1)
 
 returns-7 : tie.Need-returns-7
-unfolding lineDoes stepIn stateIn
+unfolding line_does step_in state_in
 returns-7 c = rw c.before.before.enum-told6.given.1 c.pair.ensures
 
-pub do-line-spec : {M : Type 1} → statement M
-do-line-spec =
+pub do_line_spec : {M : Type 1} → statement M
+do_line_spec =
     tie.close
     (tie.spec
     enum-known-place

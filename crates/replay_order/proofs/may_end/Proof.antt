@@ -1,5 +1,5 @@
 -- `replay_order::may_end` meets its contract.
-use Rattle.replay_scope.specs.Output.{mayEnd}
+use Rattle.replay_scope.specs.Output.{may_end}
 use borrow.Author.Rules.{rules}
 use Rattle.replay_order.proofs.may_end.Statement.{statement}
 use Rattle.replay_order.proofs.may_end.Tie as tie
@@ -26,35 +26,35 @@ enum-told-7 : tie.Need-enum-told-7
 enum-told-7 c = search rules
 
 returns : tie.Need-returns
-unfolding mayEnd
+unfolding may_end
 returns c = simp c.enum_told.given.1
 
 returns-2 : tie.Need-returns-2
-unfolding mayEnd
+unfolding may_end
 returns-2 c = simp c.enum-told2.given.1
 
 returns-3 : tie.Need-returns-3
-unfolding mayEnd
+unfolding may_end
 returns-3 c = simp c.enum-told3.given.1
 
 returns-4 : tie.Need-returns-4
-unfolding mayEnd
+unfolding may_end
 returns-4 c = simp c.enum-told4.given.1
 
 returns-5 : tie.Need-returns-5
-unfolding mayEnd
+unfolding may_end
 returns-5 c = simp c.enum-told5.given.1
 
 returns-6 : tie.Need-returns-6
-unfolding mayEnd
+unfolding may_end
 returns-6 c = simp c.enum-told6.given.1
 
 returns-7 : tie.Need-returns-7
-unfolding mayEnd
+unfolding may_end
 returns-7 c = simp c.enum-told7.given.1
 
-pub may-end-spec : {M : Type 1} → statement M
-may-end-spec =
+pub may_end_spec : {M : Type 1} → statement M
+may_end_spec =
     tie.close
     (tie.spec
     enum_told

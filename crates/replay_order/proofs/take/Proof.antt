@@ -1,6 +1,6 @@
 -- `replay_order::take` meets its contract.
-use Rattle.replay_scope.specs.Output.{gotOf, numberTaken}
-use Rattle.replay_traps.specs.InPlace.{stepIn, stateIn}
+use Rattle.replay_scope.specs.Output.{got_of, number_taken}
+use Rattle.replay_traps.specs.InPlace.{step_in, state_in}
 use borrow.Author.Rules.{rules}
 use Rattle.replay_order.proofs.take.Statement.{statement}
 use Rattle.replay_order.proofs.take.Tie as tie
@@ -24,15 +24,15 @@ unfit-requires : tie.Need-unfit-requires
 unfit-requires c κs = search rules
 
 returns : tie.Need-returns
-unfolding gotOf numberTaken stepIn stateIn
+unfolding got_of number_taken step_in state_in
 returns c = rw (c.before.before.g.given.1, c.go_on.ensures)
 
 returns-2 : tie.Need-returns-2
-unfolding gotOf numberTaken stepIn stateIn
+unfolding got_of number_taken step_in state_in
 returns-2 c = rw c.before.before.before.before.g2.given.1 c.do-line.ensures
 
 returns-3 : tie.Need-returns-3
-unfolding gotOf numberTaken stepIn stateIn
+unfolding got_of number_taken step_in state_in
 returns-3 c = rw c.before.before.enum_told.given.1 c.unfit.ensures
 
 pub take_spec : {M : Type 1} → statement M

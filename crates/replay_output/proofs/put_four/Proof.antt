@@ -1,5 +1,5 @@
 -- `replay_output::put_four` meets its contract.
-use Rattle.replay_output.specs.EightLaws.{four-put}
+use Rattle.replay_output.specs.EightLaws.{four_put}
 use native.Mathlib.Omega.{arith}
 use lib.ListN.{length-set}
 use borrow.Author.Rules.{rules}
@@ -43,10 +43,10 @@ same_length : tie.Need-same-length
 same_length c = search rules
 
 returns : tie.Need-returns
-returns c = four-put _ _ _ c.requires
+returns c = four_put _ _ _ c.requires
 
-pub put-four-spec : {M : Type 1} → statement M
-put-four-spec =
+pub put_four_spec : {M : Type 1} → statement M
+put_four_spec =
     tie.close
     (tie.spec
     add-i

@@ -2,7 +2,7 @@
 use borrow.Author.Rules.{rules}
 use mathlib.Core.Path.{refl}
 use Rattle.replay_output.specs.Put.{put_at}
-use Rattle.replay_output.specs.PutLaws.{put-none, put_next, put_all}
+use Rattle.replay_output.specs.PutLaws.{put_none, put_next, put_all}
 use Prim.Native.Nat.{◌-◌, ◌≤◌}
 use mathlib.Core.Path.{◌≡◌, ◌∙◌}
 use lib.ListN.{length, take}
@@ -16,7 +16,7 @@ abbrev decreases-loop : tie.decreases-loop
 decreases-loop key out₀ at i₀ out i = length key - i
 
 loop-holds : tie.Need-loop-init invariant-loop decreases-loop
-loop-holds c = (search rules, refl, put-none _ _)
+loop-holds c = (search rules, refl, put_none _ _)
 
 add-j : tie.Need-overflow-add-j invariant-loop decreases-loop
 add-j c = search rules
@@ -46,8 +46,8 @@ same_length c = search rules
 returns : tie.Need-returns invariant-loop decreases-loop
 returns c = put_all _ _ _ _ _ c.loop-test.false c.before.loop.invariant.2
 
-pub put-key-spec : {M : Type 1} → statement M
-put-key-spec =
+pub put_key_spec : {M : Type 1} → statement M
+put_key_spec =
     tie.close
     (tie.spec
     invariant-loop

@@ -1,5 +1,5 @@
 -- `replay_output::put_line` meets its contract.
-use Rattle.replay_output.specs.PutLaws.{put_same, line-put, line-fits}
+use Rattle.replay_output.specs.PutLaws.{put_same, line_put, line_fits}
 use borrow.Author.Rules.{rules}
 use Rattle.replay_output.proofs.put_line.Statement.{statement}
 use Rattle.replay_output.proofs.put_line.Tie as tie
@@ -23,13 +23,13 @@ add-result : tie.Need-overflow-add-result
 add-result c = search rules
 
 same_length : tie.Need-same-length
-same_length c = put_same (line-fits c.before.before.before.before.before.before.before.before.before.before.args.out.now c.before.before.before.before.before.before.before.before.before.before.args.key.now c.before.before.before.before.before.before.before.before.before.before.args.at c.before.before.before.before.before.before.before.before.before.before.args.v c.before.before.before.before.before.before.before.before.before.before.requires) (line-put _ _ _ _ _ _ c.before.before.before.before.before.before.before.before.before.before.requires c.before.before.before.before.before.before.put-key.ensures c.before.before.put-digits.ensures)
+same_length c = put_same (line_fits c.before.before.before.before.before.before.before.before.before.before.args.out.now c.before.before.before.before.before.before.before.before.before.before.args.key.now c.before.before.before.before.before.before.before.before.before.before.args.at c.before.before.before.before.before.before.before.before.before.before.args.v c.before.before.before.before.before.before.before.before.before.before.requires) (line_put _ _ _ _ _ _ c.before.before.before.before.before.before.before.before.before.before.requires c.before.before.before.before.before.before.put-key.ensures c.before.before.put-digits.ensures)
 
 returns : tie.Need-returns
-returns c = line-put _ _ _ _ _ _ c.before.before.before.before.before.before.before.before.before.before.requires c.before.before.before.before.before.before.put-key.ensures c.before.before.put-digits.ensures
+returns c = line_put _ _ _ _ _ _ c.before.before.before.before.before.before.before.before.before.before.requires c.before.before.before.before.before.before.put-key.ensures c.before.before.put-digits.ensures
 
-pub put-line-spec : {M : Type 1} → statement M
-put-line-spec =
+pub put_line_spec : {M : Type 1} → statement M
+put_line_spec =
     tie.close
     (tie.spec
     put-key-requires

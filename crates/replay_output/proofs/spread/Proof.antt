@@ -1,5 +1,5 @@
 -- `replay_output::spread` meets its contract.
-use Rattle.replay_output.specs.Eight.{spread_of, foursApart}
+use Rattle.replay_output.specs.Eight.{spread_of, fours_apart}
 use Prim.Native.Nat.{◌*◌, ◌/◌}
 use native.Mathlib.Omega.{arith}
 use lib.Bits.{and_le_r, bit_or}
@@ -18,11 +18,11 @@ mul-pairs c = search rules
 
 mul-result : tie.Need-overflow-mul-result
 unfolding spread_of
-mul-result c = omega (arith, and_le_r (bit_or (foursApart c.args.v / 256) (foursApart c.args.v * 65536)) 0x00ff00ff00ff00ff)
+mul-result c = omega (arith, and_le_r (bit_or (fours_apart c.args.v / 256) (fours_apart c.args.v * 65536)) 0x00ff00ff00ff00ff)
 
 returns : tie.Need-returns
 unfolding spread_of
 returns c = search rules
 
-pub spread-spec : {M : Type 1} → statement M
-spread-spec = tie.close (tie.spec mul-fours add-fours mul-pairs mul-result returns)
+pub spread_spec : {M : Type 1} → statement M
+spread_spec = tie.close (tie.spec mul-fours add-fours mul-pairs mul-result returns)

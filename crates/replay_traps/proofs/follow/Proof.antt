@@ -1,5 +1,5 @@
 -- `replay_traps::follow` meets its contract.
-use Rattle.replay_scope.specs.Output.{followedBy}
+use Rattle.replay_scope.specs.Output.{followed_by}
 use Rattle.std.proofs.Common.{rules}
 use Rattle.replay_traps.proofs.follow.Statement.{statement}
 use Rattle.replay_traps.proofs.follow.Tie as tie
@@ -8,8 +8,8 @@ wrapping-add-u64-requires : tie.Need-wrapping-add-u64-requires
 wrapping-add-u64-requires c κs = search rules
 
 returns : tie.Need-returns
-unfolding followedBy
+unfolding followed_by
 returns c = simp c.wrapping-add-u64.ensures
 
-pub follow-spec : {M : Type 1} → statement M
-follow-spec = tie.close (tie.spec wrapping-add-u64-requires returns)
+pub follow_spec : {M : Type 1} → statement M
+follow_spec = tie.close (tie.spec wrapping-add-u64-requires returns)

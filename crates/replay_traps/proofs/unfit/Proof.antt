@@ -1,13 +1,13 @@
 -- `replay_traps::unfit` meets its contract.
 use Rattle.std.proofs.Common.{refl}
-use Rattle.replay_traps.specs.InPlace.{stepIn, stateIn}
-use Rattle.replay_scope.specs.Output.{unfitOf, overAt}
+use Rattle.replay_traps.specs.InPlace.{step_in, state_in}
+use Rattle.replay_scope.specs.Output.{unfit_of, over_at}
 use Rattle.replay_traps.proofs.unfit.Statement.{statement}
 use Rattle.replay_traps.proofs.unfit.Tie as tie
 
 returns : tie.Need-returns
-unfolding stepIn stateIn unfitOf overAt
+unfolding step_in state_in unfit_of over_at
 returns c = refl
 
-pub unfit-spec : {M : Type 1} → statement M
-unfit-spec = tie.close (tie.spec returns)
+pub unfit_spec : {M : Type 1} → statement M
+unfit_spec = tie.close (tie.spec returns)

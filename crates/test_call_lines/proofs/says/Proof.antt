@@ -45,8 +45,8 @@ element-copy-out-result c = omega arith
 returns-2 : tie.Need-returns-2 invariant-loop decreases-loop
 returns-2 c = tt
 
-pub says-spec : {M : Type 1} → statement M
-says-spec =
+pub says_spec : {M : Type 1} → statement M
+says_spec =
     tie.close
     (tie.spec
     invariant-loop

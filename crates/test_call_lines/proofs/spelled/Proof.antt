@@ -39,8 +39,8 @@ loop-again c = search rules
 returns-2 : tie.Need-returns-2 invariant-loop decreases-loop
 returns-2 c = search rules
 
-pub spelled-spec : {M : Type 1} → statement M
-spelled-spec =
+pub spelled_spec : {M : Type 1} → statement M
+spelled_spec =
     tie.close
     (tie.spec
     invariant-loop

@@ -67,15 +67,15 @@ Y = Array P.the_row 64
 abbrev slot : Slot 1
 slot = ArrayOf (plain (λ _. u64)) (λ _. tt) 58
 
-abbrev posts-slot : Slot 1
-posts-slot = ArrayOf (plain (λ _. P.the_row)) (λ _. tt) 64
+abbrev posts_slot : Slot 1
+posts_slot = ArrayOf (plain (λ _. P.the_row)) (λ _. tt) 64
 
 abbrev Arg : Type 0
 Arg = Bor (List ℕ) × (List Post × (ℕ × Unit {0}))
 
 -- the record is given up for good, to `vcpu_post_row`; of the others nothing is said at exit
 abbrev stayed : Stays (here.ended).signature.params (here.ended).kept
-stayed = (gave_ref (0 ∷ []) tt slot, (stay_dropped posts-slot yes, (stay_dropped (plain (λ _. usize)) yes, tt)))
+stayed = (gave_ref (0 ∷ []) tt slot, (stay_dropped posts_slot yes, (stay_dropped (plain (λ _. usize)) yes, tt)))
 
 -- the posts' type as the code spells it, and their machine value
 abbrev τ : Ty
@@ -132,16 +132,16 @@ module _ {M : Type 1} {𝓤 : Ura M} (𝓛 : Logic 𝓤) (l : ℕ) (ps : List Po
       qed 𝓛 (‵ (fat full_share τ l 0 (ym ps)) ∷ ‵ (Y.own_val ps (ym ps ∷ [])) ∷ []) ∵ use1 𝓛 (‵ (cell_at full_share (τ ∷ []) (ym ps ∷ []) l 0)) (𝓛.laws.at_raw full_share τ l 0 (ym ps)) $
       fjoin ! $ fpack ! (List Val) (λ vs. fsep (cell_at full_share (τ ∷ []) vs l 0) (Y.own_val ps vs)) (ym ps ∷ []) $ done !
 
-  comes-out : ent 𝓤 (sem 𝓛 (Whole l ps)) (H.room τ l 0)
+  comes_out : ent 𝓤 (sem 𝓛 (Whole l ps)) (H.room τ l 0)
   unfolding part_of
-  comes-out =
+  comes_out =
       qed 𝓛 (‵ (Whole l ps) ∷ []) ∵ fpick ! (λ vs. fsplit ! $ move ! (1 ∷ []) $ fpick ! (λ us. fsplit ! $ fsplit ! $ feq_l ! (λ e. feq_l ! (λ _.
       rewrite ! 1 (λ (ws : List Val). ‵ (cell_at full_share (τ ∷ []) ws l 0)) e refl $ move ! (1 ∷ []) $
       use1 𝓛 (‵ (fat full_share τ l 0 (array_val us))) (𝓛.laws.raw_at full_share τ l 0 (array_val us)) $ forget ! 0 refl $ keep ! (0 ∷ []) $ done !))))
 
   module _ (e : length ps ≡ 64) where
     back : ent 𝓤 (sem 𝓛 (Apart l ps)) (H.room τ l 0)
-    back = qed 𝓛 (‵ (Apart l ps) ∷ []) ∵ fsplit ! $ drop ! $ feq_i ! ℕ (length ps) 64 e $ fjoin ! $ use1 𝓛 (‵ (Whole l ps)) (Array-whole 𝓛 P.the_row full_share 64 ps l 0) $ by ! comes-out
+    back = qed 𝓛 (‵ (Apart l ps) ∷ []) ∵ fsplit ! $ drop ! $ feq_i ! ℕ (length ps) 64 e $ fjoin ! $ use1 𝓛 (‵ (Whole l ps)) (Array-whole 𝓛 P.the_row full_share 64 ps l 0) $ by ! comes_out
 
     module _ (n ν : ℕ) (few : n ≤ 64) where
       abbrev Lent : GName → SProp 𝓤
@@ -185,11 +185,11 @@ module _ {M : Type 1} {𝓤 : Ura M} (𝓛 : Logic 𝓤) (at_mem : Memory → SP
       nothing ! $ move ! (2 ∷ 0 ∷ []) $ join ! $ join ! $ frame ! $ done !
 
   -- what the callee's triple binds outside
-  abbrev to-posts : ℕ → ℕ → GName → (Posts 𝓛 at_mem run).Ghost
-  to-posts l ν δ = (((κ, (ν ∷ [], tt)), (q, (full_share, tt)), tt, (rec, (first l ps n δ, tt)), (vptr b o ∷ [], (slice_val (l, 0) n ∷ [], tt))), tt)
+  abbrev to_posts : ℕ → ℕ → GName → (Posts 𝓛 at_mem run).Ghost
+  to_posts l ν δ = (((κ, (ν ∷ [], tt)), (q, (full_share, tt)), tt, (rec, (first l ps n δ, tt)), (vptr b o ∷ [], (slice_val (l, 0) n ∷ [], tt))), tt)
 
-  goes-posts : (l ν : ℕ) (δ : GName) → ent 𝓤 (sep 𝓤 (A.lft κ q) (sep 𝓤 (A.lft (ν ∷ []) full_share) (sep 𝓤 (sem 𝓛 Mut) (sem 𝓛 (Sl l ps n ν δ))))) ((Posts 𝓛 at_mem run).pre (to-posts l ν δ))
-  goes-posts l ν δ =
+  goes_posts : (l ν : ℕ) (δ : GName) → ent 𝓤 (sep 𝓤 (A.lft κ q) (sep 𝓤 (A.lft (ν ∷ []) full_share) (sep 𝓤 (sem 𝓛 Mut) (sem 𝓛 (Sl l ps n ν δ))))) ((Posts 𝓛 at_mem run).pre (to_posts l ν δ))
+  goes_posts l ν δ =
       qed 𝓛 (‵ (flft κ q) ∷ ‵ (flft (ν ∷ []) full_share) ∷ ‵ Mut ∷ ‵ (Sl l ps n ν δ) ∷ []) ∵ nothing ! $ move ! (4 ∷ 0 ∷ []) $ join ! $ move ! (3 ∷ 0 ∷ []) $ join ! $
       nothing ! $ move ! (3 ∷ 0 ∷ []) $ join ! $ move ! (2 ∷ 0 ∷ []) $ join ! $ join ! $ frame ! $ done !
 
@@ -209,9 +209,9 @@ module _ {M : Type 1} {𝓤 : Ura M} (𝓛 : Logic 𝓤) (at_mem : Memory → SP
         move ! (9 ∷ 1 ∷ []) $ use2 𝓛 (‵ (Whole l₄ ps)) (goes_in 𝓛 l₄ ps) $
         -- [the posts in _4; the token; the borrow; _7; …; _6; …; _5; …; what frees _4; _3; …; _2; …; _1; …; _0; …]
         lft_new ! tt (λ ν. use2 𝓛 (later (some (λ (δ : GName). ‵ (Sl l₄ ps n ν δ) ⊛ (‵ (flft (ν ∷ []) full_share) ⊛ ‵ (flent (ν ∷ []) (Apart l₄ ps)))))) (lends 𝓛 l₄ ps e n ν few) $ await ! tt $ pick ! (λ δ.
-        split ! $ move ! (1 ∷ []) $ split ! $ move ! (4 ∷ 2 ∷ []) $ join ! $ move ! (3 ∷ 1 ∷ 0 ∷ []) $ use3 𝓛 (raw ((Posts 𝓛 at_mem run).pre (to-posts l₄ ν δ))) (goes-posts l₄ ν δ) $
+        split ! $ move ! (1 ∷ []) $ split ! $ move ! (4 ∷ 2 ∷ []) $ join ! $ move ! (3 ∷ 1 ∷ 0 ∷ []) $ use3 𝓛 (raw ((Posts 𝓛 at_mem run).pre (to_posts l₄ ν δ))) (goes_posts l₄ ν δ) $
         -- [the callee's pre; the lender's part; _7; …; _6; …; _5; …; what frees _4; _3; …; _2; …; _1; …; _0; …]
-        calls_at ! fm (Posts 𝓛 at_mem run) known (to-posts l₄ ν δ) (and_then ! (load ! (from ! (stop !)) (look ! 6 refl)) (and_then ! (load ! (from ! (stop !)) (look ! 2 refl)) (no_more !))) (λ w.
+        calls_at ! fm (Posts 𝓛 at_mem run) known (to_posts l₄ ν δ) (and_then ! (load ! (from ! (stop !)) (look ! 6 refl)) (and_then ! (load ! (from ! (stop !)) (look ! 2 refl)) (no_more !))) (λ w.
         use1 𝓛 (later (some (λ (g : Posted). ((‵ (flft κ q) ⊛ (‵ (flft (ν ∷ []) full_share) ⊛ ‵ ftrue)) ⊛ ‵ ((G.the_row).own_val g (w ∷ []))) ⊛ raw (Ensured 𝓛 at_mem run κ (ν ∷ []) rec (first l₄ ps n δ) g)))) (id⊢ 𝓤 _) $ await ! tt $ pick ! (λ g.
         split ! $ move ! (1 ∷ []) $ use1 𝓛 (some (λ (zs : List ℕ × (Unit {0} × Unit {0})). ‵ (Last 𝓛 at_mem run κ (ν ∷ []) rec (first l₄ ps n δ) zs))) (last 𝓛 at_mem run κ (ν ∷ []) rec (first l₄ ps n δ) g) $ pick ! (λ zs.
         fsplit ! $ move ! (1 ∷ []) $ drop ! $ move ! (1 ∷ []) $ split ! $ split ! $ move ! (1 ∷ []) $ split ! $ move ! (1 ∷ []) $ drop ! $ move ! (2 ∷ []) $
@@ -226,15 +226,15 @@ module _ {M : Type 1} {𝓤 : Ura M} (𝓛 : Logic 𝓤) (at_mem : Memory → SP
 module _ {M : Type 1} {𝓤 : Ura M} (𝓛 : Logic 𝓤) (at_mem : Memory → SProp 𝓤) (run : Routine → Fun 𝓤) (𝓣 : Tables 𝓤 𝓛.H) (known : Triple 𝓤 (𝓣.C row_def.name) (Posts 𝓛 at_mem run)) where
   open 𝓛 use {H}
 
-  posts-fit : (ps : List Post) → Is Y ps (spelt ps) → T (has_ty τ (ym ps)) × WT (ym ps)
-  posts-fit ps is = (Array-Typed P.the_row (LL.lawful P.the_type P'.the_laws 𝓛).typed 64 ps (spelt ps) is).0
+  posts_fit : (ps : List Post) → Is Y ps (spelt ps) → T (has_ty τ (ym ps)) × WT (ym ps)
+  posts_fit ps is = (Array-Typed P.the_row (LL.lawful P.the_type P'.the_laws 𝓛).typed 64 ps (spelt ps) is).0
 
   walks : Walks 𝓛 here.ended stayed (WpFn 𝓤 H 𝓣.C 𝓣.Λ code.function) (here.clauses 𝓛 at_mem run)
   walks = walked 𝓛 here.ended stayed (here.clauses 𝓛 at_mem run) (WpFn 𝓤 H 𝓣.C 𝓣.Λ code.function) (λ κs. (mut_vals, (spelt, (uint_vals w64, tt)))) (λ κs. (mut_Tells (named 0) κs.0 X, (Array-Tells P.the_row (LL.vals P.the_type P'.the_laws) (LL.tells P.the_type P'.the_laws) 64, (uint_Tells w64, tt))))
-      (λ κs qs bounds a _ are. needs 𝓤 (a.1.1.0 ≤ 64) _ (λ few. walk 𝓛 at_mem run κs.0 qs.0 a.0.ref_ptr.0 a.0.ref_ptr.1 a.0.ghost_name a.0.now a.1.0 a.1.1.0 𝓣.C 𝓣.Λ (fm_of 𝓤 H 𝓛.laws 𝓣) known few are.1.1.0.1 are.1.0.1.0.1 (posts-fit a.1.0 are.1.0)))
+      (λ κs qs bounds a _ are. needs 𝓤 (a.1.1.0 ≤ 64) _ (λ few. walk 𝓛 at_mem run κs.0 qs.0 a.0.ref_ptr.0 a.0.ref_ptr.1 a.0.ghost_name a.0.now a.1.0 a.1.1.0 𝓣.C 𝓣.Λ (fm_of 𝓤 H 𝓛.laws 𝓣) known few are.1.1.0.1 are.1.0.1.0.1 (posts_fit a.1.0 are.1.0)))
 
   goes : AllGo 𝓛 1 (here.signature).params (here.ended).kept stayed
-  goes = (Goes-gave_ref 𝓛 1 0 tt slot, (Goes-dropped 𝓛 1 posts-slot yes (λ κs p f. refl), (Goes-dropped 𝓛 1 (plain (λ _. usize)) yes (λ κs p f. refl), tt)))
+  goes = (Goes-gave_ref 𝓛 1 0 tt slot, (Goes-dropped 𝓛 1 posts_slot yes (λ κs p f. refl), (Goes-dropped 𝓛 1 (plain (λ _. usize)) yes (λ κs p f. refl), tt)))
 
   meets : Meets 𝓛 here.signature (WpFn 𝓤 H 𝓣.C 𝓣.Λ code.function) (here.spec 𝓛 at_mem run)
   meets = walk_Meets 𝓛 here.ended stayed goes (here.clauses 𝓛 at_mem run) (WpFn 𝓤 H 𝓣.C 𝓣.Λ code.function) (WpFn-mono 𝓤 H 𝓛.laws 𝓣 code.function) walks

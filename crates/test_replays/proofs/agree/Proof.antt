@@ -37,8 +37,8 @@ returns-2 c = search rules
 returns-3 : tie.Need-returns-3 invariant-loop decreases-loop
 returns-3 c = search rules
 
-pub agree-spec : {M : Type 1} → statement M
-agree-spec =
+pub agree_spec : {M : Type 1} → statement M
+agree_spec =
     tie.close
     (tie.spec
     invariant-loop

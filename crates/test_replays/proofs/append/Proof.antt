@@ -42,8 +42,8 @@ same-length-2 c = search rules
 returns-2 : tie.Need-returns-2 invariant-loop decreases-loop
 returns-2 c = (c.before.before.loop.invariant.0, sym (length-take-le _ _ c.before.before.loop.invariant.0))
 
-pub append-spec : {M : Type 1} → statement M
-append-spec =
+pub append_spec : {M : Type 1} → statement M
+append_spec =
     tie.close
     (tie.spec
     invariant-loop

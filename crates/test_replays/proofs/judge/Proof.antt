@@ -1,6 +1,6 @@
 -- `test_replays::judge` meets its contract.
-use Rattle.replay_traps.specs.InPlace.{stateIn}
-use Rattle.replay_capture.specs.Laws.{written-end}
+use Rattle.replay_traps.specs.InPlace.{state_in}
+use Rattle.replay_capture.specs.Laws.{written_end}
 use Rattle.test_replays.proofs.Judging.{judged}
 use Rattle.std.proofs.Common.{sym, length-take-le, rules}
 use Rattle.test_replays.proofs.judge.Statement.{statement}
@@ -25,7 +25,7 @@ array-share-prefix-out : tie.Need-array-share-prefix-out
 array-share-prefix-out c = search rules
 
 slice-aggregate-agree : tie.Need-slice-aggregate-agree
-unfolding stateIn
+unfolding state_in
 slice-aggregate-agree c = sym (length-take-le _ _ c.before.before.before.before.fill.ensures.fits)
 
 agree-requires : tie.Need-agree-requires
@@ -41,12 +41,12 @@ write-requires : tie.Need-write-requires
 write-requires c κs = search rules
 
 array-share-prefix-last : tie.Need-array-share-prefix-last
-unfolding stateIn
-array-share-prefix-last c = written-end _ _ _ _ _ (search rules) c.write.ensures
+unfolding state_in
+array-share-prefix-last c = written_end _ _ _ _ _ (search rules) c.write.ensures
 
 slice-aggregate-agree-2 : tie.Need-slice-aggregate-agree-2
-unfolding stateIn
-slice-aggregate-agree-2 c = sym (length-take-le _ _ (written-end _ _ _ _ _ (search rules) c.before.write.ensures))
+unfolding state_in
+slice-aggregate-agree-2 c = sym (length-take-le _ _ (written_end _ _ _ _ _ (search rules) c.before.write.ensures))
 
 sub-agree : tie.Need-overflow-sub-agree
 sub-agree c = search rules
@@ -76,11 +76,11 @@ returns-4 : tie.Need-returns-4
 returns-4 c = search rules
 
 returns-5 : tie.Need-returns-5
-unfolding stateIn
+unfolding state_in
 returns-5 c = judged _ c.before.before.before.before.before.before.before.before.before.before.before.before.before.before.before.before.before.before.before.before.before.before.before.args.capture.now c.before.before.before.before.before.before.before.before.before.before.before.before.before.before.before.before.before.before.before.before.before.before.before.args.expected.now _ _ _ _ _ _ _ _ _ _ _ c.before.before.before.before.before.before.before.before.before.before.before.before.before.before.before.before.before.before.begin.ensures c.before.before.before.before.before.before.before.before.before.before.before.before.before.before.before.fill.ensures c.before.before.before.before.before.before.before.before.before.before.before.before.if1.false c.before.before.before.before.before.before.before.before.before.before.agree.ensures c.before.before.before.before.before.before.before.before.before.if2.false c.before.before.before.before.before.before.before.end.ensures (search rules) c.before.before.before.before.before.write.ensures c.before.before.agree2.ensures c.before.if3.false c.if4.false
 
-pub judge-spec : {M : Type 1} → statement M
-judge-spec =
+pub judge_spec : {M : Type 1} → statement M
+judge_spec =
     tie.close
     (tie.spec
     large-buffer-requires

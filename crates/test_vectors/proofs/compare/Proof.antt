@@ -68,8 +68,8 @@ print-requires-3 c κs = tt
 returns : tie.Need-returns invariant-loop decreases-loop
 returns c = tt
 
-pub compare-spec : {M : Type 1} → statement M
-compare-spec =
+pub compare_spec : {M : Type 1} → statement M
+compare_spec =
     tie.close
     (tie.spec
     invariant-loop

@@ -46,8 +46,8 @@ element-copy-out-result c = omega arith
 returns-2 : tie.Need-returns-2 invariant-loop decreases-loop
 returns-2 c = tt
 
-pub is-packed-spec : {M : Type 1} → statement M
-is-packed-spec =
+pub is_packed_spec : {M : Type 1} → statement M
+is_packed_spec =
     tie.close
     (tie.spec
     invariant-loop

@@ -30,8 +30,8 @@ returns-2 c = tt
 returns-3 : tie.Need-returns-3
 returns-3 c = tt
 
-pub next-line-spec : {M : Type 1} → statement M
-next-line-spec =
+pub next_line_spec : {M : Type 1} → statement M
+next_line_spec =
     tie.close
     (tie.spec
     line-size-requires

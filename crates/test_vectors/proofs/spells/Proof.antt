@@ -40,8 +40,8 @@ loop-again c = tt
 returns-2 : tie.Need-returns-2 invariant-loop decreases-loop
 returns-2 c = tt
 
-pub spells-spec : {M : Type 1} → statement M
-spells-spec =
+pub spells_spec : {M : Type 1} → statement M
+spells_spec =
     tie.close
     (tie.spec
     invariant-loop

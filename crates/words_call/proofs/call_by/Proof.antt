@@ -77,8 +77,8 @@ returns-15 : tie.Need-returns-15
 unfolding call_by
 returns-15 c = simp (ne_eqb _ _ c.match.rest.1, ne_eqb _ _ c.match.rest.0.1, ne_eqb _ _ c.match.rest.0.0.1, ne_eqb _ _ c.match.rest.0.0.0.1, ne_eqb _ _ c.match.rest.0.0.0.0.1, ne_eqb _ _ c.match.rest.0.0.0.0.0.1, ne_eqb _ _ c.match.rest.0.0.0.0.0.0.1, ne_eqb _ _ c.match.rest.0.0.0.0.0.0.0.1, ne_eqb _ _ c.match.rest.0.0.0.0.0.0.0.0.1, ne_eqb _ _ c.match.rest.0.0.0.0.0.0.0.0.0.1, ne_eqb _ _ c.match.rest.0.0.0.0.0.0.0.0.0.0.1, ne_eqb _ _ c.match.rest.0.0.0.0.0.0.0.0.0.0.0.1, ne_eqb _ _ c.match.rest.0.0.0.0.0.0.0.0.0.0.0.0.1, ne_eqb _ _ c.match.rest.0.0.0.0.0.0.0.0.0.0.0.0.0.1)
 
-pub call-by-spec : {M : Type 1} → statement M
-call-by-spec =
+pub call_by_spec : {M : Type 1} → statement M
+call_by_spec =
     tie.close
     (tie.spec
     test-requires

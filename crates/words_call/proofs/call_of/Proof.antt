@@ -26,8 +26,8 @@ returns : tie.Need-returns
 unfolding call_of
 returns c = simp c.call_by.ensures
 
-pub call-of-spec : {M : Type 1} → statement M
-call-of-spec =
+pub call_of_spec : {M : Type 1} → statement M
+call_of_spec =
     tie.close
     (tie.spec
     array-read-call-by

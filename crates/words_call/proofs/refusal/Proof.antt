@@ -53,8 +53,8 @@ returns-7 : tie.Need-returns-7
 unfolding refusal
 returns-7 c = simp c.enum-told7.given.1
 
-pub refusal-spec : {M : Type 1} → statement M
-refusal-spec =
+pub refusal_spec : {M : Type 1} → statement M
+refusal_spec =
     tie.close
     (tie.spec
     enum_told

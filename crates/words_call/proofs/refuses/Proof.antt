@@ -42,8 +42,8 @@ returns-5 : tie.Need-returns-5
 unfolding refuses
 returns-5 c = simp (c.refusal.ensures, c.before.before.p.given.1)
 
-pub refuses-spec : {M : Type 1} → statement M
-refuses-spec =
+pub refuses_spec : {M : Type 1} → statement M
+refuses_spec =
     tie.close
     (tie.spec
     enum_told

@@ -1,5 +1,5 @@
 -- `words_call::reply_kind` meets its contract.
-use Rattle.scope.specs.ReplyWords.{replyKind}
+use Rattle.scope.specs.ReplyWords.{reply_kind}
 use borrow.Author.Rules.{rules}
 use Rattle.words_call.proofs.reply_kind.Statement.{statement}
 use Rattle.words_call.proofs.reply_kind.Tie as tie
@@ -20,27 +20,27 @@ enum-told-5 : tie.Need-enum-told-5
 enum-told-5 c = search rules
 
 returns : tie.Need-returns
-unfolding replyKind
+unfolding reply_kind
 returns c = simp c.enum_told.given.1
 
 returns-2 : tie.Need-returns-2
-unfolding replyKind
+unfolding reply_kind
 returns-2 c = simp c.enum-told2.given.1
 
 returns-3 : tie.Need-returns-3
-unfolding replyKind
+unfolding reply_kind
 returns-3 c = simp c.enum-told3.given.1
 
 returns-4 : tie.Need-returns-4
-unfolding replyKind
+unfolding reply_kind
 returns-4 c = simp c.enum-told4.given.1
 
 returns-5 : tie.Need-returns-5
-unfolding replyKind
+unfolding reply_kind
 returns-5 c = simp c.enum-told5.given.1
 
-pub reply-kind-spec : {M : Type 1} → statement M
-reply-kind-spec =
+pub reply_kind_spec : {M : Type 1} → statement M
+reply_kind_spec =
     tie.close
     (tie.spec
     enum_told

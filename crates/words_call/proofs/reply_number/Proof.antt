@@ -1,5 +1,5 @@
 -- `words_call::reply_number` meets its contract.
-use Rattle.scope.specs.ReplyWords.{replyNumber}
+use Rattle.scope.specs.ReplyWords.{reply_number}
 use borrow.Author.Rules.{rules}
 use Rattle.words_call.proofs.reply_number.Statement.{statement}
 use Rattle.words_call.proofs.reply_number.Tie as tie
@@ -29,27 +29,27 @@ error-number-requires : tie.Need-error-number-requires
 error-number-requires c κs = search rules
 
 returns : tie.Need-returns
-unfolding replyNumber
+unfolding reply_number
 returns c = simp (c.exit-number.ensures, c.before.before.p.given.1)
 
 returns-2 : tie.Need-returns-2
-unfolding replyNumber
+unfolding reply_number
 returns-2 c = simp (c.ask-number.ensures, c.before.before.p2.given.1)
 
 returns-3 : tie.Need-returns-3
-unfolding replyNumber
+unfolding reply_number
 returns-3 c = simp c.enum_told.given.1
 
 returns-4 : tie.Need-returns-4
-unfolding replyNumber
+unfolding reply_number
 returns-4 c = simp c.enum-told2.given.1
 
 returns-5 : tie.Need-returns-5
-unfolding replyNumber
+unfolding reply_number
 returns-5 c = simp (c.error-number.ensures, c.before.before.p3.given.1)
 
-pub reply-number-spec : {M : Type 1} → statement M
-reply-number-spec =
+pub reply_number_spec : {M : Type 1} → statement M
+reply_number_spec =
     tie.close
     (tie.spec
     enum-known-p

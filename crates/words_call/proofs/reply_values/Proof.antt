@@ -1,5 +1,5 @@
 -- `words_call::reply_values` meets its contract.
-use Rattle.scope.specs.ReplyWords.{replyValues}
+use Rattle.scope.specs.ReplyWords.{reply_values}
 use borrow.Author.Rules.{rules}
 use Rattle.words_call.proofs.reply_values.Statement.{statement}
 use Rattle.words_call.proofs.reply_values.Tie as tie
@@ -35,27 +35,27 @@ enum-told-2 : tie.Need-enum-told-2
 enum-told-2 c = search rules
 
 returns : tie.Need-returns
-unfolding replyValues
+unfolding reply_values
 returns c = simp (c.exit-values.ensures, c.before.before.p.given.1)
 
 returns-2 : tie.Need-returns-2
-unfolding replyValues
+unfolding reply_values
 returns-2 c = simp (c.ask-values.ensures, c.before.before.p2.given.1)
 
 returns-3 : tie.Need-returns-3
-unfolding replyValues
+unfolding reply_values
 returns-3 c = simp c.enum_told.given.1
 
 returns-4 : tie.Need-returns-4
-unfolding replyValues
+unfolding reply_values
 returns-4 c = simp c.before.p3.given.1
 
 returns-5 : tie.Need-returns-5
-unfolding replyValues
+unfolding reply_values
 returns-5 c = simp c.enum-told2.given.1
 
-pub reply-values-spec : {M : Type 1} → statement M
-reply-values-spec =
+pub reply_values_spec : {M : Type 1} → statement M
+reply_values_spec =
     tie.close
     (tie.spec
     enum-known-p

@@ -1,5 +1,5 @@
 -- `words_call::told` meets its contract.
-use Rattle.words_call.specs.Words.{replyWordsOf}
+use Rattle.words_call.specs.Words.{reply_words_of}
 use borrow.Author.Rules.{rules}
 use Rattle.words_call.proofs.told.Statement.{statement}
 use Rattle.words_call.proofs.told.Tie as tie
@@ -14,9 +14,9 @@ reply-values-requires : tie.Need-reply-values-requires
 reply-values-requires c κs = search rules
 
 returns : tie.Need-returns
-unfolding replyWordsOf
+unfolding reply_words_of
 returns c = simp (c.reply-values.ensures, c.before.reply-number.ensures, c.before.before.reply-kind.ensures)
 
-pub told-spec : {M : Type 1} → statement M
-told-spec =
+pub told_spec : {M : Type 1} → statement M
+told_spec =
     tie.close (tie.spec reply-kind-requires reply-number-requires reply-values-requires returns)

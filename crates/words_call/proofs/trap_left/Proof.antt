@@ -13,5 +13,5 @@ waiting-over-requires c κs = search rules
 returns-2 : tie.Need-returns-2
 returns-2 c = simp (c.waiting-over.ensures, c.before.if1.false)
 
-pub trap-left-spec : {M : Type 1} → statement M
-trap-left-spec = tie.close (tie.spec returns waiting-over-requires returns-2)
+pub trap_left_spec : {M : Type 1} → statement M
+trap_left_spec = tie.close (tie.spec returns waiting-over-requires returns-2)

@@ -1,5 +1,5 @@
 -- `words_call::waiting_left` meets its contract.
-use Rattle.scope.specs.Words.{waitingLeft, trapLeft}
+use Rattle.scope.specs.Words.{waiting_left, trap_left}
 use borrow.Author.Rules.{rules}
 use Rattle.words_call.proofs.waiting_left.Statement.{statement}
 use Rattle.words_call.proofs.waiting_left.Tie as tie
@@ -68,63 +68,63 @@ enum-told-14 : tie.Need-enum-told-14
 enum-told-14 c = search rules
 
 returns : tie.Need-returns
-unfolding waitingLeft trapLeft
-returns c = simp (c.waiting-words.ensures, c.before.enum_told.given.1)
+unfolding waiting_left trap_left
+returns c = simp (c.waiting_words_lem.ensures, c.before.enum_told.given.1)
 
 returns-2 : tie.Need-returns-2
-unfolding waitingLeft trapLeft
+unfolding waiting_left trap_left
 returns-2 c = simp c.enum-told2.given.1
 
 returns-3 : tie.Need-returns-3
-unfolding waitingLeft trapLeft
+unfolding waiting_left trap_left
 returns-3 c = simp c.enum-told3.given.1
 
 returns-4 : tie.Need-returns-4
-unfolding waitingLeft trapLeft
+unfolding waiting_left trap_left
 returns-4 c = simp c.enum-told4.given.1
 
 returns-5 : tie.Need-returns-5
-unfolding waitingLeft trapLeft
+unfolding waiting_left trap_left
 returns-5 c = simp c.enum-told5.given.1
 
 returns-6 : tie.Need-returns-6
-unfolding waitingLeft trapLeft
+unfolding waiting_left trap_left
 returns-6 c = simp c.enum-told6.given.1
 
 returns-7 : tie.Need-returns-7
-unfolding waitingLeft trapLeft
+unfolding waiting_left trap_left
 returns-7 c = simp c.enum-told7.given.1
 
 returns-8 : tie.Need-returns-8
-unfolding waitingLeft trapLeft
+unfolding waiting_left trap_left
 returns-8 c = simp c.enum-told8.given.1
 
 returns-9 : tie.Need-returns-9
-unfolding waitingLeft trapLeft
+unfolding waiting_left trap_left
 returns-9 c = simp c.enum-told9.given.1
 
 returns-10 : tie.Need-returns-10
-unfolding waitingLeft trapLeft
+unfolding waiting_left trap_left
 returns-10 c = simp c.enum-told10.given.1
 
 returns-11 : tie.Need-returns-11
-unfolding waitingLeft trapLeft
+unfolding waiting_left trap_left
 returns-11 c = simp (c.trap-left.ensures, c.before.refuses.ensures, c.before.before.enum-told11.given.1)
 
 returns-12 : tie.Need-returns-12
-unfolding waitingLeft trapLeft
+unfolding waiting_left trap_left
 returns-12 c = simp (c.trap-left2.ensures, c.before.refuses2.ensures, c.before.before.enum-told12.given.1)
 
 returns-13 : tie.Need-returns-13
-unfolding waitingLeft trapLeft
+unfolding waiting_left trap_left
 returns-13 c = simp (c.trap-left3.ensures, c.before.refuses3.ensures, c.before.before.enum-told13.given.1)
 
 returns-14 : tie.Need-returns-14
-unfolding waitingLeft trapLeft
+unfolding waiting_left trap_left
 returns-14 c = simp c.enum-told14.given.1
 
-pub waiting-left-spec : {M : Type 1} → statement M
-waiting-left-spec =
+pub waiting_left_spec : {M : Type 1} → statement M
+waiting_left_spec =
     tie.close
     (tie.spec
     enum_told

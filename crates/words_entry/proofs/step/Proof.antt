@@ -1,5 +1,5 @@
 -- `words_entry::step` meets its contract.
-use Rattle.words_entry.specs.Words.{exportedOf}
+use Rattle.words_entry.specs.Words.{exported_of}
 use Rattle.scope.specs.Words.{left_of}
 use borrow.Author.Rules.{rules}
 use Rattle.words_entry.proofs.step.Statement.{statement}
@@ -21,7 +21,7 @@ told-requires : tie.Need-told-requires
 told-requires c κs = search rules
 
 returns : tie.Need-returns
-unfolding exportedOf left_of
+unfolding exported_of left_of
 returns c = simp (c.told.ensures, c.before.left.ensures, c.before.before.call.ensures, c.before.before.before.unpack.ensures, c.before.before.before.before.call-of.ensures)
 
 pub step_spec : {M : Type 1} → statement M

@@ -10,5 +10,5 @@ lay-requires c κs = search rules
 returns : tie.Need-returns
 returns c = simp c.before.lay.ensures
 
-pub told-spec : {M : Type 1} → statement M
-told-spec = tie.close (tie.spec lay-requires returns)
+pub told_spec : {M : Type 1} → statement M
+told_spec = tie.close (tie.spec lay-requires returns)

@@ -1,5 +1,5 @@
 -- `words_numbers::answer_number` meets its contract.
-use Rattle.scope.specs.OneTrap.{answerNumber}
+use Rattle.scope.specs.OneTrap.{answer_number}
 use borrow.Author.Rules.{rules}
 use Rattle.words_numbers.proofs.answer_number.Statement.{statement}
 use Rattle.words_numbers.proofs.answer_number.Tie as tie
@@ -35,47 +35,47 @@ enum-told-10 : tie.Need-enum-told-10
 enum-told-10 c = search rules
 
 returns : tie.Need-returns
-unfolding answerNumber
+unfolding answer_number
 returns c = simp c.enum_told.given.1
 
 returns-2 : tie.Need-returns-2
-unfolding answerNumber
+unfolding answer_number
 returns-2 c = simp c.enum-told2.given.1
 
 returns-3 : tie.Need-returns-3
-unfolding answerNumber
+unfolding answer_number
 returns-3 c = simp c.enum-told3.given.1
 
 returns-4 : tie.Need-returns-4
-unfolding answerNumber
+unfolding answer_number
 returns-4 c = simp c.enum-told4.given.1
 
 returns-5 : tie.Need-returns-5
-unfolding answerNumber
+unfolding answer_number
 returns-5 c = simp c.enum-told5.given.1
 
 returns-6 : tie.Need-returns-6
-unfolding answerNumber
+unfolding answer_number
 returns-6 c = simp c.enum-told6.given.1
 
 returns-7 : tie.Need-returns-7
-unfolding answerNumber
+unfolding answer_number
 returns-7 c = simp c.enum-told7.given.1
 
 returns-8 : tie.Need-returns-8
-unfolding answerNumber
+unfolding answer_number
 returns-8 c = simp c.enum-told8.given.1
 
 returns-9 : tie.Need-returns-9
-unfolding answerNumber
+unfolding answer_number
 returns-9 c = simp c.enum-told9.given.1
 
 returns-10 : tie.Need-returns-10
-unfolding answerNumber
+unfolding answer_number
 returns-10 c = simp c.enum-told10.given.1
 
-pub answer-number-spec : {M : Type 1} → statement M
-answer-number-spec =
+pub answer_number_spec : {M : Type 1} → statement M
+answer_number_spec =
     tie.close
     (tie.spec
     enum_told

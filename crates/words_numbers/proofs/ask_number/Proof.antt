@@ -1,5 +1,5 @@
 -- `words_numbers::ask_number` meets its contract.
-use Rattle.scope.specs.OneTrap.{askNumber}
+use Rattle.scope.specs.OneTrap.{ask_number}
 use Rattle.words_numbers.proofs.ask_number.Statement.{statement}
 use Rattle.words_numbers.proofs.ask_number.Tie as tie
 use borrow.Author.Rules.{rules}
@@ -32,43 +32,43 @@ enum-told-9 : tie.Need-enum-told-9
 enum-told-9 c = search rules
 
 returns : tie.Need-returns
-unfolding askNumber
+unfolding ask_number
 returns c = simp c.enum_told.given.1
 
 returns-2 : tie.Need-returns-2
-unfolding askNumber
+unfolding ask_number
 returns-2 c = simp c.enum-told2.given.1
 
 returns-3 : tie.Need-returns-3
-unfolding askNumber
+unfolding ask_number
 returns-3 c = simp c.enum-told3.given.1
 
 returns-4 : tie.Need-returns-4
-unfolding askNumber
+unfolding ask_number
 returns-4 c = simp c.enum-told4.given.1
 
 returns-5 : tie.Need-returns-5
-unfolding askNumber
+unfolding ask_number
 returns-5 c = simp c.enum-told5.given.1
 
 returns-6 : tie.Need-returns-6
-unfolding askNumber
+unfolding ask_number
 returns-6 c = simp c.enum-told6.given.1
 
 returns-7 : tie.Need-returns-7
-unfolding askNumber
+unfolding ask_number
 returns-7 c = simp c.enum-told7.given.1
 
 returns-8 : tie.Need-returns-8
-unfolding askNumber
+unfolding ask_number
 returns-8 c = simp c.enum-told8.given.1
 
 returns-9 : tie.Need-returns-9
-unfolding askNumber
+unfolding ask_number
 returns-9 c = simp c.enum-told9.given.1
 
-pub ask-number-spec : {M : Type 1} → statement M
-ask-number-spec =
+pub ask_number_spec : {M : Type 1} → statement M
+ask_number_spec =
     tie.close
     (tie.spec
     enum_told

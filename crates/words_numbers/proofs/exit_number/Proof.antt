@@ -1,5 +1,5 @@
 -- `words_numbers::exit_number` meets its contract.
-use Rattle.scope.specs.OneTrap.{exitNumber}
+use Rattle.scope.specs.OneTrap.{exit_number}
 use Rattle.words_numbers.proofs.exit_number.Statement.{statement}
 use Rattle.words_numbers.proofs.exit_number.Tie as tie
 use borrow.Author.Rules.{rules}
@@ -38,51 +38,51 @@ enum-told-11 : tie.Need-enum-told-11
 enum-told-11 c = search rules
 
 returns : tie.Need-returns
-unfolding exitNumber
+unfolding exit_number
 returns c = simp c.enum_told.given.1
 
 returns-2 : tie.Need-returns-2
-unfolding exitNumber
+unfolding exit_number
 returns-2 c = simp c.enum-told2.given.1
 
 returns-3 : tie.Need-returns-3
-unfolding exitNumber
+unfolding exit_number
 returns-3 c = simp c.enum-told3.given.1
 
 returns-4 : tie.Need-returns-4
-unfolding exitNumber
+unfolding exit_number
 returns-4 c = simp c.enum-told4.given.1
 
 returns-5 : tie.Need-returns-5
-unfolding exitNumber
+unfolding exit_number
 returns-5 c = simp c.enum-told5.given.1
 
 returns-6 : tie.Need-returns-6
-unfolding exitNumber
+unfolding exit_number
 returns-6 c = simp c.enum-told6.given.1
 
 returns-7 : tie.Need-returns-7
-unfolding exitNumber
+unfolding exit_number
 returns-7 c = simp c.enum-told7.given.1
 
 returns-8 : tie.Need-returns-8
-unfolding exitNumber
+unfolding exit_number
 returns-8 c = simp c.enum-told8.given.1
 
 returns-9 : tie.Need-returns-9
-unfolding exitNumber
+unfolding exit_number
 returns-9 c = simp c.enum-told9.given.1
 
 returns-10 : tie.Need-returns-10
-unfolding exitNumber
+unfolding exit_number
 returns-10 c = simp c.enum-told10.given.1
 
 returns-11 : tie.Need-returns-11
-unfolding exitNumber
+unfolding exit_number
 returns-11 c = simp c.enum-told11.given.1
 
-pub exit-number-spec : {M : Type 1} → statement M
-exit-number-spec =
+pub exit_number_spec : {M : Type 1} → statement M
+exit_number_spec =
     tie.close
     (tie.spec
     enum_told

@@ -1,5 +1,5 @@
 -- `words_numbers::exit_values` meets its contract.
-use Rattle.scope.specs.OneTrap.{exitValues}
+use Rattle.scope.specs.OneTrap.{exit_values}
 use Rattle.words_numbers.proofs.exit_values.Statement.{statement}
 use Rattle.words_numbers.proofs.exit_values.Tie as tie
 use borrow.Author.Rules.{rules}
@@ -50,51 +50,51 @@ width-bytes-requires-2 : tie.Need-width-bytes-requires-2
 width-bytes-requires-2 c κs = search rules
 
 returns : tie.Need-returns
-unfolding exitValues
+unfolding exit_values
 returns c = simp c.enum_told.given.1
 
 returns-2 : tie.Need-returns-2
-unfolding exitValues
+unfolding exit_values
 returns-2 c = simp c.before.e.given.1
 
 returns-3 : tie.Need-returns-3
-unfolding exitValues
+unfolding exit_values
 returns-3 c = simp (c.abi-number.ensures, c.before.before.e2.given.1)
 
 returns-4 : tie.Need-returns-4
-unfolding exitValues
+unfolding exit_values
 returns-4 c = simp c.before.e3.given.1
 
 returns-5 : tie.Need-returns-5
-unfolding exitValues
+unfolding exit_values
 returns-5 c = simp c.before.e4.given.1
 
 returns-6 : tie.Need-returns-6
-unfolding exitValues
+unfolding exit_values
 returns-6 c = simp c.enum-told2.given.1
 
 returns-7 : tie.Need-returns-7
-unfolding exitValues
+unfolding exit_values
 returns-7 c = simp c.before.e5.given.1
 
 returns-8 : tie.Need-returns-8
-unfolding exitValues
+unfolding exit_values
 returns-8 c = simp c.enum-told3.given.1
 
 returns-9 : tie.Need-returns-9
-unfolding exitValues
+unfolding exit_values
 returns-9 c = simp (c.access-number.ensures, c.before.before.e6.given.1)
 
 returns-10 : tie.Need-returns-10
-unfolding exitValues
+unfolding exit_values
 returns-10 c = simp (c.width-bytes.ensures, c.before.before.e7.given.1)
 
 returns-11 : tie.Need-returns-11
-unfolding exitValues
+unfolding exit_values
 returns-11 c = simp (c.width-bytes2.ensures, c.before.before.e8.given.1)
 
-pub exit-values-spec : {M : Type 1} → statement M
-exit-values-spec =
+pub exit_values_spec : {M : Type 1} → statement M
+exit_values_spec =
     tie.close
     (tie.spec
     enum_told

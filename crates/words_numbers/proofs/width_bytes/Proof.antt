@@ -32,7 +32,7 @@ returns-4 : tie.Need-returns-4
 unfolding width_bytes
 returns-4 c = simp c.enum-told4.given.1
 
-pub width-bytes-spec : {M : Type 1} → statement M
-width-bytes-spec =
+pub width_bytes_spec : {M : Type 1} → statement M
+width_bytes_spec =
     tie.close
     (tie.spec enum_told enum-told-2 enum-told-3 enum-told-4 returns returns-2 returns-3 returns-4)

@@ -1,5 +1,5 @@
 -- `words_record::asked_over` meets its contract.
-use Rattle.scope.specs.Words.{askedWordCount, askedWords}
+use Rattle.scope.specs.Words.{asked_word_count, asked_words}
 use borrow.Author.Rules.{rules}
 use Rattle.words_record.proofs.asked_over.Statement.{statement}
 use Rattle.words_record.proofs.asked_over.Tie as tie
@@ -59,43 +59,43 @@ one-requires-5 : tie.Need-one-requires-5
 one-requires-5 c κs = search rules
 
 returns : tie.Need-returns
-unfolding askedWordCount askedWords
+unfolding asked_word_count asked_words
 returns c = simp (c.one.ensures, c.before.enum_told.given.1)
 
 returns-2 : tie.Need-returns-2
-unfolding askedWordCount askedWords
+unfolding asked_word_count asked_words
 returns-2 c = simp (c.two.ensures, c.before.before.a.given.1)
 
 returns-3 : tie.Need-returns-3
-unfolding askedWordCount askedWords
+unfolding asked_word_count asked_words
 returns-3 c = simp (c.two2.ensures, c.before.before.a2.given.1)
 
 returns-4 : tie.Need-returns-4
-unfolding askedWordCount askedWords
+unfolding asked_word_count asked_words
 returns-4 c = simp (c.three.ensures, c.before.before.a3.given.1)
 
 returns-5 : tie.Need-returns-5
-unfolding askedWordCount askedWords
+unfolding asked_word_count asked_words
 returns-5 c = simp (c.two3.ensures, c.before.before.a4.given.1)
 
 returns-6 : tie.Need-returns-6
-unfolding askedWordCount askedWords
+unfolding asked_word_count asked_words
 returns-6 c = simp (c.one2.ensures, c.before.enum-told2.given.1)
 
 returns-7 : tie.Need-returns-7
-unfolding askedWordCount askedWords
+unfolding asked_word_count asked_words
 returns-7 c = simp (c.one3.ensures, c.before.enum-told3.given.1)
 
 returns-8 : tie.Need-returns-8
-unfolding askedWordCount askedWords
+unfolding asked_word_count asked_words
 returns-8 c = simp (c.one4.ensures, c.before.enum-told4.given.1)
 
 returns-9 : tie.Need-returns-9
-unfolding askedWordCount askedWords
+unfolding asked_word_count asked_words
 returns-9 c = simp (c.one5.ensures, c.before.enum-told5.given.1)
 
-pub asked-over-spec : {M : Type 1} → statement M
-asked-over-spec =
+pub asked_over_spec : {M : Type 1} → statement M
+asked_over_spec =
     tie.close
     (tie.spec
     enum_told

@@ -1,6 +1,6 @@
 -- `words_record::csrs_of` meets its contract.
 use mathlib.Core.Path.{refl}
-use Rattle.scope.specs.Words.{csrsOf}
+use Rattle.scope.specs.Words.{csrs_of}
 use Rattle.words_record.proofs.csrs_of.Statement.{statement}
 use Rattle.words_record.proofs.csrs_of.Tie as tie
 use borrow.Author.Rules.{rules}
@@ -45,11 +45,11 @@ array-read-t23-2 : tie.Need-array-read-t23-2
 array-read-t23-2 c = search rules
 
 returns : tie.Need-returns
-unfolding csrsOf
+unfolding csrs_of
 returns c = refl
 
-pub csrs-of-spec : {M : Type 1} → statement M
-csrs-of-spec =
+pub csrs_of_spec : {M : Type 1} → statement M
+csrs_of_spec =
     tie.close
     (tie.spec
     array-read-t8

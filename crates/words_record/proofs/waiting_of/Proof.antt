@@ -1,5 +1,5 @@
 -- `words_record::waiting_of` meets its contract.
-use Rattle.scope.specs.Words.{waitingOf}
+use Rattle.scope.specs.Words.{waiting_of}
 use Rattle.words_record.proofs.waiting_of.Statement.{statement}
 use Rattle.words_record.proofs.waiting_of.Tie as tie
 use borrow.Author.Rules.{rules}
@@ -20,11 +20,11 @@ waiting-by-requires : tie.Need-waiting-by-requires
 waiting-by-requires c κs = search rules
 
 returns : tie.Need-returns
-unfolding waitingOf
+unfolding waiting_of
 returns c = simp c.waiting-by.ensures
 
-pub waiting-of-spec : {M : Type 1} → statement M
-waiting-of-spec =
+pub waiting_of_spec : {M : Type 1} → statement M
+waiting_of_spec =
     tie.close
     (tie.spec
     array-read-waiting-by

@@ -1,5 +1,5 @@
 -- `words_record::waiting_over` meets its contract.
-use Rattle.scope.specs.Words.{waitingCount, waitingWords}
+use Rattle.scope.specs.Words.{waiting_count, waiting_words}
 use borrow.Author.Rules.{rules}
 use Rattle.words_record.proofs.waiting_over.Statement.{statement}
 use Rattle.words_record.proofs.waiting_over.Tie as tie
@@ -47,27 +47,27 @@ asked-over-requires : tie.Need-asked-over-requires
 asked-over-requires c κs = search rules
 
 returns : tie.Need-returns
-unfolding waitingCount waitingWords
+unfolding waiting_count waiting_words
 returns c = simp (c.one.ensures, c.before.enum_told.given.1)
 
 returns-2 : tie.Need-returns-2
-unfolding waitingCount waitingWords
+unfolding waiting_count waiting_words
 returns-2 c = simp (c.fourth.ensures, c.before.flag.ensures, c.before.before.three.ensures, c.before.before.before.width-bytes.ensures, c.before.before.before.before.before.w.given.1)
 
 returns-3 : tie.Need-returns-3
-unfolding waitingCount waitingWords
+unfolding waiting_count waiting_words
 returns-3 c = simp (c.one2.ensures, c.before.enum-told2.given.1)
 
 returns-4 : tie.Need-returns-4
-unfolding waitingCount waitingWords
+unfolding waiting_count waiting_words
 returns-4 c = simp (c.three2.ensures, c.before.access-number.ensures, c.before.before.before.w2.given.1)
 
 returns-5 : tie.Need-returns-5
-unfolding waitingCount waitingWords
-returns-5 c = simp (c.asked-over.ensures, c.before.before.w3.given.1)
+unfolding waiting_count waiting_words
+returns-5 c = simp (c.asked_over.ensures, c.before.before.w3.given.1)
 
-pub waiting-over-spec : {M : Type 1} → statement M
-waiting-over-spec =
+pub waiting_over_spec : {M : Type 1} → statement M
+waiting_over_spec =
     tie.close
     (tie.spec
     enum_told

@@ -1,5 +1,5 @@
 -- `words_record::waiting_words` meets its contract.
-use Rattle.scope.specs.Words.{waitingWords}
+use Rattle.scope.specs.Words.{waiting_words}
 use borrow.Author.Rules.{rules}
 use Rattle.words_record.proofs.waiting_words.Statement.{statement}
 use Rattle.words_record.proofs.waiting_words.Tie as tie
@@ -32,27 +32,27 @@ asked-words-requires : tie.Need-asked-words-requires
 asked-words-requires c κs = search rules
 
 returns : tie.Need-returns
-unfolding waitingWords
+unfolding waiting_words
 returns c = simp c.enum_told.given.1
 
 returns-2 : tie.Need-returns-2
-unfolding waitingWords
+unfolding waiting_words
 returns-2 c = simp (c.flag.ensures, c.before.width-bytes.ensures, c.before.before.before.w.given.1)
 
 returns-3 : tie.Need-returns-3
-unfolding waitingWords
+unfolding waiting_words
 returns-3 c = simp c.enum-told2.given.1
 
 returns-4 : tie.Need-returns-4
-unfolding waitingWords
+unfolding waiting_words
 returns-4 c = simp (c.access-number.ensures, c.before.before.w2.given.1)
 
 returns-5 : tie.Need-returns-5
-unfolding waitingWords
+unfolding waiting_words
 returns-5 c = simp (c.asked-words.ensures, c.before.before.w3.given.1)
 
-pub waiting-words-spec : {M : Type 1} → statement M
-waiting-words-spec =
+pub waiting_words_spec : {M : Type 1} → statement M
+waiting_words_spec =
     tie.close
     (tie.spec
     enum_told
