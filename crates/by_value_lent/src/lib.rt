@@ -1,4 +1,5 @@
 // 01's thin entry: every call on a vCPU record behind one function, made where the host's record lies.
+#![tactic(auto)]
 ghost use Rattle.by_value_lent.specs.Lent.{Stored};
 
 use scope::{HostCall, Reply, Vcpu};

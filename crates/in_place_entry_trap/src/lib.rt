@@ -1,6 +1,7 @@
 // The entry for cost, traps: a trap started and answered, on a vCPU record of 58 words where it lies, exported.
 // A host calls these. Each takes the by-value step's decisions and is promised the by-value outcome: `in_place_record/specs/View.antt` has
 // the meaning of the words.
+#![tactic(auto)]
 ghost use Rattle.in_place_record.specs.View.{Made};
 ghost use Rattle.in_place_entry_trap.specs.Calls.{answer_call, start_call};
 

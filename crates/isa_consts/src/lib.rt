@@ -1,5 +1,7 @@
 // The numbers of the RISC-V privileged architecture and of SBI that the handler goes by, one place for each.
 // specs/ has the numbers that definitions go by; every function that uses a constant here is proved against those.
+#![tactic(auto)]
+
 ghost use Rattle.std.specs.Prelude.{◌≡◌};
 ghost use Rattle.isa_consts.specs.Traps.{known_cause, known_exception, known_interrupt, supervisor_external};
 

@@ -1,4 +1,6 @@
 // The fields of an instruction word: of 32 bits, and of 16.
+#![tactic(auto)]
+
 ghost use Rattle.std.specs.Prelude.{◌≡◌};
 ghost use Rattle.isa_fields.specs.Compressed.{c_funct3_field, c_rs2_field, prime_field, quadrant_field};
 ghost use Rattle.isa_fields.specs.Fields.{csr_field, funct3_field, opcode_field, rd_field, rs1_field, rs2_field};

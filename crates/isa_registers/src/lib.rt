@@ -1,4 +1,6 @@
 // Values of hypervisor CSRs: the two delegation masks, hgatp, the address behind a guest page fault, single bits.
+#![tactic(auto)]
+
 ghost use Rattle.std.specs.Prelude.{◌≡◌};
 ghost use Rattle.isa_registers.specs.Values.{delegated_exceptions, delegated_interrupts, guest_page_fault_addr, hgatp_of};
 ghost use Rattle.isa_registers.specs.Bits.{sie_of, spvp_of, with_bits};

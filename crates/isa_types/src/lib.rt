@@ -1,5 +1,6 @@
 // The types that stand below all others: the two kinds of guest address, and the width of an access. specs/Pick.antt has the
 // choice by a test that every definition is written with.
+#![tactic(auto)]
 ghost use Rattle.std.specs.Prelude.{◌≡◌};
 ghost use Rattle.isa_types.specs.Pick.{pick};
 

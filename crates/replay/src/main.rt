@@ -1,5 +1,6 @@
 // Replays a capture from standard input, or from the file that its first argument names, to standard output
 // (01, Replay program). It only reads, feeds and writes: crate replay_capture says what comes out.
+#![tactic(auto)]
 ghost use Rattle.std.specs.Prelude.{◌≤◌, length};
 
 use libc::{STDIN_FILENO, STDOUT_FILENO};

@@ -1,6 +1,7 @@
 // The lines of a capture, read: a key, sixteen lowercase hex digits, LF (01, Replay program). Keys are read here and
 // nowhere else. A line that lies whole in the slice is read at once, its digits by crate replay_digits; byte by byte
 // only one that the slice's end cuts, that began in the slice before, or that has a byte that does not fit.
+#![tactic(auto)]
 ghost use Rattle.std.specs.Prelude.{◌≡◌, ◌+◌, ◌≤◌, length};
 ghost use Rattle.replay_scope.specs.Lines.{four_at, header_key, key_of, line_of};
 ghost use Rattle.replay_lines.specs.Read.{Read, Spelled, begins as beginsWith};

@@ -1,5 +1,6 @@
 // What a replay is (01, Replay program): the types here, and in specs/ one file for the lines (Lines.antt) and one for
 // the whole output (Output.antt). There is no code; the other replay crates cite these definitions.
+#![tactic(auto)]
 use scope::Vcpu;
 
 // Where a line stands in a capture.

@@ -1,6 +1,7 @@
 // Runs the fixed list of calls in data/ on the entry that hosts call and counts the lines on which it gives something else.
 // A line is a call's six words, what it returns, and the sum of what it gives and of the record after it, each of 16 hex digits;
 // docs/CALLS.md says what they mean.
+#![tactic(auto)]
 use libc::STDOUT_FILENO;
 
 // A list that never ends is cut here.

@@ -1,1 +1,2 @@
 // The definitions, held to the lists by computing. There is no code here.
+#![tactic(auto)]

@@ -1,5 +1,6 @@
 // Replays the captures that its arguments name and compares each output with the expected one, byte for byte. For an
 // argument NAME the capture is NAME.capture and its output NAME.replay; docs/CAPTURES.md says where both come from.
+#![tactic(auto)]
 ghost use Rattle.std.specs.Prelude.{◌≡◌, ◌≤◌, length, take};
 ghost use Rattle.io.specs.Counts.{IsPrefixLen};
 ghost use Rattle.test_replays.specs.Judged.{Judged};

@@ -1,4 +1,5 @@
 // A row of posts as the host's compiler sees it: one exported function over words. words_record has the record. 02, W4.
+#![tactic(auto)]
 ghost use Rattle.std.specs.Prelude.{◌≡◌};
 ghost use Rattle.scope.specs.Words.{laid_with};
 ghost use Rattle.words_entry_posts.specs.Words.{ExportedRow, exported_row};
