@@ -1,6 +1,7 @@
 // The instruction behind a guest page fault: its length, and whether it is a load or a store.
 // The handler knows this crate by its promises alone.
 #![tactic(auto)]
+
 ghost use Rattle.std.specs.Prelude.{◌≡◌};
 ghost use Rattle.isa_decoder.specs.Compressed.{compressed_by, compressed_of, quadrant0_of, quadrant2_of, sp_load_of};
 ghost use Rattle.isa_decoder.specs.Decode.{decode_by, decode_of, load_of, store_of};

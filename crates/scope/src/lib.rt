@@ -1,5 +1,6 @@
 // The definitions that every promise cites, by the chapters of document 01, and the types that they speak of. No code.
 #![tactic(auto)]
+
 pub mod decided;
 pub mod hosts;
 pub mod machine;

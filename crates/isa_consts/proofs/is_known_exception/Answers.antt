@@ -1,5 +1,3 @@
-use Rattle.std.proofs.Common.{arith}
-use Rattle.std.proofs.Common.{arith}
 use borrow.Author.Rules.{rules}
 use borrow.Author.Tests.{ne_eqb, lt-ltb, lt-leb, le-ltb, le-leb}
 use Rattle.isa_consts.specs.Traps.{known_exception}
@@ -31,4 +29,4 @@ returns-in-20 c = simp (c.in-20.is, lt-ltb _ _ c.if-code-le9.false, lt-leb _ _ c
 
 pub returns-in_default : goal.returns-in_default
 unfolding known_exception
-returns-in_default c = simp (ne_eqb _ _ c.in_default.in_default-own.1, ne_eqb _ _ c.in_default.in_default-own.0.1, ne_eqb _ _ c.in_default.in_default-own.0.0.1, ne_eqb _ _ c.in_default.in_default-own.0.0.0.1, ne_eqb _ _ c.in_default.in_default-own.0.0.0.0.1, lt-ltb _ _ c.if-code-le9.false, lt-leb _ _ c.if-code-le9.false)
+returns-in_default c = search rules
