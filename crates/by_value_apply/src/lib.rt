@@ -1,5 +1,6 @@
 // An effect applied to a record: the one place where a record changes. scope/specs/Record.antt defines it.
 #![tactic(auto)]
+
 ghost use Rattle.std.specs.Prelude.{◌≡◌};
 ghost use Rattle.scope.specs.Record.{bumped, counted, event_number, stored, applied};
 ghost use Rattle.scope.specs.Refusals.{unless_asking};

@@ -1,5 +1,6 @@
 // The effects of a virtual instruction, a guest page fault and a failed fetch, each once it is decided, and of a load's completion.
 #![tactic(auto)]
+
 ghost use Rattle.std.specs.Prelude.{◌≡◌};
 ghost use Rattle.scope.specs.GuestPageFault.{completed_of, fault_effect};
 ghost use Rattle.scope.specs.VirtualInstruction.{ask_fetch_of, missed_effect, stimecmp_effect};

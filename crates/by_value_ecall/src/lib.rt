@@ -1,5 +1,6 @@
 // SBI calls by value: the effect of each, and of the answer to its ask.
 #![tactic(auto)]
+
 ghost use Rattle.std.specs.Prelude.{◌≡◌};
 ghost use Rattle.scope.specs.Ecalls.{asks_of, clear_ipi_of, hypercall_of, moves_of, returns_of, set_timer_of, stays_of, gives_of};
 ghost use Rattle.scope.specs.Decided.{call_effect, answered_effect};

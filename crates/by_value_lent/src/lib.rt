@@ -5,7 +5,7 @@ ghost use Rattle.by_value_lent.specs.Lent.{Stored};
 use scope::{HostCall, Reply, Vcpu};
 
 // What the host gets back when its record is changed where it lies: an outcome less the record.
-#[derive(Drop)]
+#[derive(Clone, Copy)]
 pub struct Given {
     pub reply: Reply,
     pub args: [u64; 6],

@@ -1,5 +1,6 @@
 // The part of the lent buffer that ask 4 prints. The buffer is lent to be read: no call writes it.
 #![tactic(auto)]
+
 ghost use Rattle.std.specs.Prelude.{◌≡◌, length, take};
 ghost use Rattle.scope.specs.Calls.{fitted, printed_of};
 

@@ -1,5 +1,6 @@
 // The host's answers to an ecall's asks, 2 to 9.
 #![tactic(auto)]
+
 ghost use Rattle.std.specs.Prelude.{◌≡◌};
 ghost use Rattle.scope.specs.Ecalls.{console_read_effect, copied_effect, copied_out_effect, ecall_answer, mask_effect};
 ghost use Rattle.scope.specs.declared.machine.Csrs.{Csrs};

@@ -1,5 +1,6 @@
 // What a trap is handled as, by scause. 01, Classes.
 #![tactic(auto)]
+
 ghost use Rattle.std.specs.Prelude.{◌≡◌};
 ghost use Rattle.isa_types.specs.Pick.{pick};
 ghost use Rattle.scope.specs.declared.decided.Class.TheVariants as class;

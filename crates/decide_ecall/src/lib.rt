@@ -1,5 +1,6 @@
 // A guest's SBI call: what is to be done, decided from the call's numbers alone.
 #![tactic(auto)]
+
 ghost use Rattle.std.specs.Prelude.{◌≡◌};
 ghost use Rattle.scope.specs.declared.machine.Csrs.{Csrs};
 ghost use Rattle.scope.specs.declared.traps.Args.{Args};

@@ -1,5 +1,6 @@
 // SBI, 'Debug Console Extension': what a call does, by its function, its arguments and the room in the console buffer.
 #![tactic(auto)]
+
 ghost use Rattle.std.specs.Prelude.{◌≡◌, ℕ};
 ghost use Rattle.scope.specs.declared.machine.Csrs.{Csrs};
 ghost use Rattle.scope.specs.declared.traps.Args.{Args};

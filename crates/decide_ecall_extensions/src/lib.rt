@@ -1,5 +1,6 @@
 // The SBI extensions whose calls are decided by their function and arguments alone: TIME, sPI, HSM, SRST, RFNC.
 #![tactic(auto)]
+
 ghost use Rattle.std.specs.Prelude.{◌≡◌, ℕ};
 ghost use Rattle.scope.specs.declared.machine.Csrs.{Csrs};
 ghost use Rattle.scope.specs.declared.traps.Args.{Args};

@@ -1,5 +1,6 @@
 // How a call ends: an effect for each kind of end, built in one place. scope/specs/Refusals.antt defines them.
 #![tactic(auto)]
+
 ghost use Rattle.std.specs.Prelude.{◌≡◌, eqb};
 ghost use Rattle.scope.specs.Refusals.{asking_of, done_of, failed_of, finished_of, refused_of};
 ghost use Rattle.scope.specs.Record.{no_args};

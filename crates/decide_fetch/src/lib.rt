@@ -1,5 +1,6 @@
 // What a failed fetch of the guest's instruction does, and injection into the guest.
 #![tactic(auto)]
+
 ghost use Rattle.std.specs.Prelude.{◌≡◌};
 ghost use Rattle.scope.specs.VirtualInstruction.{injected_of, missed_of, trap_status_of};
 

@@ -1,5 +1,6 @@
 // What the host's own calls do to a record: setup, entry, registers, page table, interrupts, IPI results.
 #![tactic(auto)]
+
 ghost use Rattle.std.specs.Prelude.{◌≡◌, eqb};
 ghost use Rattle.scope.specs.Host.{entry_csrs, ipi_writes, hvip_bit_of, paging_by, paging_effect, pending_effect, setup_csrs, table_csrs, write_effect};
 ghost use Rattle.isa_types.specs.Pick.{pick};

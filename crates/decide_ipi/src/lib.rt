@@ -1,5 +1,6 @@
 // Inter-processor interrupts: the requests that a guest makes through SBI, and the results that it gets back.
 #![tactic(auto)]
+
 ghost use Rattle.std.specs.Prelude.{◌≡◌};
 ghost use Rattle.scope.specs.Ecalls.{completion_number, legacy_request, standard_request};
 

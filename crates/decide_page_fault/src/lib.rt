@@ -1,5 +1,6 @@
 // A guest page fault: a load or store of a device, or a page that the host has to map.
 #![tactic(auto)]
+
 ghost use Rattle.std.specs.Prelude.{◌≡◌};
 ghost use Rattle.scope.specs.GuestPageFault.{fault_of, load_under, store_under};
 

@@ -8,7 +8,7 @@ ghost use Rattle.decide_posts.specs.Fold.{applied_by, begun_by, fold_of, next_of
 use scope::Post;
 
 // How far a row has come: hvip, how many posts were applied, and the number of the refusal that stopped it, or 0.
-#[derive(Drop)]
+#[derive(Clone, Copy)]
 pub struct Row {
     pub hvip: u64,
     pub applied: u64,

@@ -1,5 +1,6 @@
 // The parts of a vCPU record, read and changed: sepc, the timer, hvip, a register, the ask that waits. Both entries use them.
 #![tactic(auto)]
+
 ghost use Rattle.std.specs.Prelude.{◌≡◌, ◌+◌};
 ghost use Rattle.isa_types.specs.Pick.{wrapped};
 ghost use Rattle.scope.specs.Calls.{asked_count, fitted, print_count, printable};

@@ -1,5 +1,6 @@
 // A virtual-instruction trap: the guest's CSR instruction on stimecmp, in its six forms.
 #![tactic(auto)]
+
 ghost use Rattle.std.specs.Prelude.{◌≡◌, eqb};
 ghost use Rattle.scope.specs.VirtualInstruction.{stimecmp_word, stimecmp_stval, stimecmp_by};
 ghost use Rattle.decide_virtual_inst.specs.Straight.{timer_of};

@@ -20,7 +20,7 @@ use isa_types::GuestPhysAddr;
 use scope::{Access, EcallAsk, Waiting};
 
 // An answer: the ask's number, and two numbers.
-#[derive(Drop)]
+#[derive(Clone, Copy)]
 pub struct AnswerWords {
     pub ask: u64,
     pub word: u64,

@@ -1,5 +1,6 @@
 // The host's own calls on the lent words, what they share: an effect written where the record lies, and the word of its reply.
 #![tactic(auto)]
+
 ghost use Rattle.std.specs.Prelude.{◌≡◌, ◌+◌};
 ghost use Rattle.scope.specs.OneTrap.{ask_number};
 ghost use Rattle.scope.specs.Refusals.{error_number};

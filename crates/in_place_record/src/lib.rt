@@ -2,6 +2,7 @@
 // in_place_write has the other writes. specs/View.antt gives the words their meaning; specs/Rows.antt says what each decision
 // does to them, and specs/Laws.antt that this is the effect of the same decision.
 #![tactic(auto)]
+
 ghost use Rattle.std.specs.Prelude.{◌≡◌, length};
 ghost use Rattle.in_place_record.specs.Rows.{complete_word, complete_words, give_words, moved_words, put_word};
 

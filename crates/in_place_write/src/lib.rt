@@ -1,5 +1,6 @@
 // The small writes that change a vCPU record of 58 lent words where it lies, beside those of in_place_record.
 #![tactic(auto)]
+
 ghost use Rattle.std.specs.Prelude.{◌≡◌};
 ghost use Rattle.scope.specs.Record.{event_number};
 ghost use Rattle.in_place_record.specs.Rows.{bump_words, inject_words, pair_words, step_words, timer_words};

@@ -11,7 +11,7 @@ ghost use Rattle.isa_decoder.specs.Length.{fetched_of, htinst_of, op_source, sto
 use isa_types::Width;
 
 // A load or store, whatever its encoding.
-#[derive(Drop)]
+#[derive(Clone, Copy)]
 pub enum Decoded {
     Load {
         width: Width,
@@ -26,7 +26,7 @@ pub enum Decoded {
 }
 
 // What htinst or a fetched word says of the instruction that trapped.
-#[derive(Drop)]
+#[derive(Clone, Copy)]
 pub enum Trapped {
     // htinst is 0: the word has to be fetched.
     Absent,

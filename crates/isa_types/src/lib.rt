@@ -1,19 +1,20 @@
 // The types that stand below all others: the two kinds of guest address, and the width of an access. specs/Pick.antt has the
 // choice by a test that every definition is written with.
 #![tactic(auto)]
+
 ghost use Rattle.std.specs.Prelude.{◌≡◌};
 ghost use Rattle.isa_types.specs.Pick.{pick};
 
 // An address in a guest's physical memory.
-#[derive(Drop)]
+#[derive(Clone, Copy)]
 pub struct GuestPhysAddr(pub u64);
 
 // An address as the guest's own page tables see it.
-#[derive(Drop)]
+#[derive(Clone, Copy)]
 pub struct GuestVirtAddr(pub u64);
 
 // How many bytes a load or store moves.
-#[derive(Drop)]
+#[derive(Clone, Copy)]
 pub enum Width {
     Byte,
     Half,

@@ -12,7 +12,7 @@ use replay_scope::{Gives, Progress};
 use replay_traps::Next;
 
 // A step over the first bytes of a slice, and where the bytes after them begin.
-#[derive(Drop)]
+#[derive(Clone, Copy)]
 pub struct Fed {
     pub turn: Next,
     pub next: usize,
@@ -20,7 +20,7 @@ pub struct Fed {
 
 // The later progress after the first bytes of a slice, where the bytes after them begin, and how much of the buffer is
 // output.
-#[derive(Drop)]
+#[derive(Clone, Copy)]
 pub struct Filled {
     pub progress: Progress,
     pub next: usize,

@@ -1,13 +1,14 @@
 // Lowercase hex digits read (01, Replay program; 02, W3). Sixteen of them are read here and nowhere else: `read` promises
 // what they are, and who calls it knows nothing of how it finds that out.
 #![tactic(auto)]
+
 ghost use Rattle.std.specs.Prelude.{◌≡◌, ◌+◌, ◌≤◌, ◌<◌, drop, length, take};
 ghost use Rattle.replay_scope.specs.Lines.{nibble_of, push_of};
 ghost use Rattle.replay_digits.specs.Hex.{hex_of};
 ghost use Rattle.replay_digits.specs.Words.{glyphs_of, of_bytes, pack_of, values_of};
 
 // What sixteen bytes are as hex digits.
-#[derive(Drop)]
+#[derive(Clone, Copy)]
 pub enum Digits {
     Number(u64),
     Bad,

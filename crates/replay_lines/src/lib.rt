@@ -2,6 +2,7 @@
 // nowhere else. A line that lies whole in the slice is read at once, its digits by crate replay_digits; byte by byte
 // only one that the slice's end cuts, that began in the slice before, or that has a byte that does not fit.
 #![tactic(auto)]
+
 ghost use Rattle.std.specs.Prelude.{◌≡◌, ◌+◌, ◌≤◌, length};
 ghost use Rattle.replay_scope.specs.Lines.{four_at, header_key, key_of, line_of};
 ghost use Rattle.replay_lines.specs.Read.{Read, Spelled, begins as beginsWith};
@@ -10,7 +11,7 @@ use replay_digits::Digits;
 use replay_scope::{Got, Line, Place};
 
 // What was read of a line, and where the bytes after it begin.
-#[derive(Drop)]
+#[derive(Clone, Copy)]
 pub struct Part {
     pub got: Got,
     pub next: usize,

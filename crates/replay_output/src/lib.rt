@@ -1,5 +1,6 @@
 // A line of a replay's output written: a key, sixteen lowercase hex digits, LF (01, Replay program).
 #![tactic(auto)]
+
 ghost use Rattle.std.specs.Prelude.{◌≡◌, ◌+◌, ◌≤◌, length};
 ghost use Rattle.replay_scope.specs.Lines.{last_digits, line_text, sixteen};
 ghost use Rattle.replay_output.specs.Eight.{bytes_of, spread_of};

@@ -1,10 +1,11 @@
 // What a replay is (01, Replay program): the types here, and in specs/ one file for the lines (Lines.antt) and one for
 // the whole output (Output.antt). There is no code; the other replay crates cite these definitions.
 #![tactic(auto)]
+
 use scope::Vcpu;
 
 // Where a line stands in a capture.
-#[derive(Drop)]
+#[derive(Clone, Copy)]
 pub enum Place {
     // Line i of the header, from 0: sepc, vstimecmp, x01 to x31.
     Header(usize),
@@ -19,7 +20,7 @@ pub enum Place {
 }
 
 // What is known of a line after some of its bytes.
-#[derive(Drop)]
+#[derive(Clone, Copy)]
 pub enum Got {
     // So many bytes fit, and the digits among them make this number.
     More(usize, u64),
@@ -30,7 +31,7 @@ pub enum Got {
 }
 
 // The line that is being read: how many of its bytes were read, and the number that its digits make so far.
-#[derive(Drop)]
+#[derive(Clone, Copy)]
 pub struct Line {
     pub place: Place,
     pub at: usize,
@@ -38,7 +39,7 @@ pub struct Line {
 }
 
 // The numbers of earlier lines that a later one needs.
-#[derive(Drop)]
+#[derive(Clone, Copy)]
 pub struct Kept {
     pub scause: u64,
     pub stval: u64,
@@ -47,7 +48,7 @@ pub struct Kept {
 }
 
 // The replay between two bytes of its capture, but for its record.
-#[derive(Drop)]
+#[derive(Clone, Copy)]
 pub struct Progress {
     pub line: Line,
     // The line's number, from 1.
@@ -60,7 +61,7 @@ pub struct Progress {
 }
 
 // What the output gets.
-#[derive(Drop)]
+#[derive(Clone, Copy)]
 pub enum Gives {
     Nothing,
     Trap {
@@ -75,14 +76,14 @@ pub enum Gives {
 }
 
 // The replay between two bytes of its capture.
-#[derive(Drop)]
+#[derive(Clone, Copy)]
 pub struct State {
     pub vcpu: Vcpu,
     pub progress: Progress,
 }
 
 // The later state, and what the output gets.
-#[derive(Drop)]
+#[derive(Clone, Copy)]
 pub struct Step {
     pub state: State,
     pub gives: Gives,

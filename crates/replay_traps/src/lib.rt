@@ -15,7 +15,7 @@ use replay_scope::{Gives, Kept, Line, Place, Progress};
 use scope::Trap;
 
 // The replay after a step but for its record, and what the output gets.
-#[derive(Drop)]
+#[derive(Clone, Copy)]
 pub struct Next {
     pub progress: Progress,
     pub gives: Gives,

@@ -4,7 +4,7 @@ use crate::traps::{Access, IpiRequest};
 use isa_types::{GuestPhysAddr, GuestVirtAddr, Width};
 
 // What a trap is handled as, by scause.
-#[derive(Drop)]
+#[derive(Clone, Copy)]
 pub enum Class {
     Ecall,
     VirtualInstruction,
@@ -16,7 +16,7 @@ pub enum Class {
 }
 
 // What an SBI call does. Each case is a row of document 01's list.
-#[derive(Drop)]
+#[derive(Clone, Copy)]
 pub enum SbiCall {
     // a0 and a1 are these, sepc moves on.
     Returns(u64, u64),
@@ -41,7 +41,7 @@ pub enum SbiCall {
 }
 
 // What a virtual instruction, on stimecmp or not, does.
-#[derive(Drop)]
+#[derive(Clone, Copy)]
 pub enum Stimecmp {
     // The trap ends in an error and is counted.
     Illegal,
@@ -52,7 +52,7 @@ pub enum Stimecmp {
 }
 
 // What a guest page fault does.
-#[derive(Drop)]
+#[derive(Clone, Copy)]
 pub enum Fault {
     // The word has to be fetched.
     Fetch,
@@ -76,7 +76,7 @@ pub enum Fault {
 }
 
 // What a failed fetch does.
-#[derive(Drop)]
+#[derive(Clone, Copy)]
 pub enum Missed {
     // The guest takes the exception itself.
     Inject { cause: u64, addr: GuestVirtAddr },
@@ -87,7 +87,7 @@ pub enum Missed {
 }
 
 // What the answer to an ecall's ask does.
-#[derive(Drop)]
+#[derive(Clone, Copy)]
 pub enum Answered {
     // sepc moves on and no register is written.
     Moves,
@@ -101,7 +101,7 @@ pub enum Answered {
 }
 
 // What the host made of a request.
-#[derive(Drop)]
+#[derive(Clone, Copy)]
 pub enum IpiCompletion {
     // Every hart that the mask names takes the interrupt.
     Success,
@@ -112,7 +112,7 @@ pub enum IpiCompletion {
 }
 
 // A legacy call's mask lies in guest memory, and reading it can fall short.
-#[derive(Drop)]
+#[derive(Clone, Copy)]
 pub enum LegacyRequest {
     Request(IpiRequest),
     ShortRead,

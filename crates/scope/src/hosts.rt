@@ -5,7 +5,7 @@ use isa_types::GuestPhysAddr;
 
 // A call on a vCPU record, with what it is given. A new record is made where an old one may lie; the bytes to print are
 // told by the length of the buffer that is lent.
-#[derive(Drop)]
+#[derive(Clone, Copy)]
 pub enum HostCall {
     New {
         hart_id: u64,
@@ -51,7 +51,7 @@ pub enum HostCall {
 
 // One of a row of posts: an interrupt's vector, and its level: 0 clears, any other sets. 02, W4.
 #[repr(C)]
-#[derive(Drop)]
+#[derive(Clone, Copy)]
 pub struct Post {
     pub vector: u64,
     pub level: u64,
@@ -59,7 +59,7 @@ pub struct Post {
 
 // What a row of posts gives: how many were applied, and the number of the refusal that stopped it, or 0.
 #[repr(C)]
-#[derive(Drop)]
+#[derive(Clone, Copy)]
 pub struct Posted {
     pub applied: u64,
     pub refusal: u64,

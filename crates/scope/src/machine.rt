@@ -4,7 +4,7 @@ use crate::traps::{Access, Args, Reply};
 use isa_types::{GuestPhysAddr, Width};
 
 // What the guest resumes with.
-#[derive(Drop)]
+#[derive(Clone, Copy)]
 pub struct GuestCsrs {
     pub sepc: u64,
     pub sstatus: u64,
@@ -12,7 +12,7 @@ pub struct GuestCsrs {
 }
 
 // The guest's own supervisor CSRs.
-#[derive(Drop)]
+#[derive(Clone, Copy)]
 pub struct VsCsrs {
     pub vsstatus: u64,
     pub vstvec: u64,
@@ -23,7 +23,7 @@ pub struct VsCsrs {
 }
 
 // The hypervisor's CSRs for this guest.
-#[derive(Drop)]
+#[derive(Clone, Copy)]
 pub struct HsCsrs {
     pub hie: u64,
     pub hvip: u64,
@@ -31,7 +31,7 @@ pub struct HsCsrs {
     pub hgatp: u64,
 }
 
-#[derive(Drop)]
+#[derive(Clone, Copy)]
 pub struct Csrs {
     pub guest: GuestCsrs,
     pub vs: VsCsrs,
@@ -39,7 +39,7 @@ pub struct Csrs {
 }
 
 // The one ask or load that waits, with what its trap still needs.
-#[derive(Drop)]
+#[derive(Clone, Copy)]
 pub enum Waiting {
     Idle,
     Load {
@@ -59,7 +59,7 @@ pub enum Waiting {
 }
 
 // The ask of an ecall, with what its answer needs.
-#[derive(Drop)]
+#[derive(Clone, Copy)]
 pub enum EcallAsk {
     // Ask 2.
     CopyMask,
@@ -81,7 +81,7 @@ pub enum EcallAsk {
     Forward,
 }
 
-#[derive(Drop)]
+#[derive(Clone, Copy)]
 pub struct Vcpu {
     pub x: [u64; 32],
     pub csrs: Csrs,
@@ -90,7 +90,7 @@ pub struct Vcpu {
 }
 
 // What is counted, in the order of the nine counts.
-#[derive(Drop)]
+#[derive(Clone, Copy)]
 pub enum Event {
     Quiet,
     SetTimer,
@@ -105,14 +105,14 @@ pub enum Event {
 }
 
 // The registers that a call writes: none, one, or a0 and a1.
-#[derive(Drop)]
+#[derive(Clone, Copy)]
 pub enum Writes {
     Keep,
     One(usize, u64),
     Pair(u64, u64),
 }
 
-#[derive(Drop)]
+#[derive(Clone, Copy)]
 pub struct Effect {
     pub csrs: Csrs,
     pub event: Event,
@@ -123,7 +123,7 @@ pub struct Effect {
 }
 
 // The whole outcome of a call. The array holds a hypercall's arguments and is all 0 beside any other reply.
-#[derive(Drop)]
+#[derive(Clone, Copy)]
 pub struct Outcome {
     pub vcpu: Vcpu,
     pub reply: Reply,
@@ -131,7 +131,7 @@ pub struct Outcome {
 }
 
 // The whole outcome of a row of posts. 02, W4.
-#[derive(Drop)]
+#[derive(Clone, Copy)]
 pub struct RowOutcome {
     pub vcpu: Vcpu,
     pub posted: Posted,
@@ -139,7 +139,7 @@ pub struct RowOutcome {
 
 // The record in words: the waiting part is a kind and three numbers.
 #[repr(C)]
-#[derive(Drop)]
+#[derive(Clone, Copy)]
 pub struct Record {
     pub x: [u64; 32],
     pub csrs: [u64; 13],

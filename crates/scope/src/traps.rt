@@ -2,7 +2,7 @@
 use isa_types::{GuestPhysAddr, GuestVirtAddr, Width};
 
 // What a guest was doing when its memory access failed.
-#[derive(Drop)]
+#[derive(Clone, Copy)]
 pub enum Access {
     Read,
     Write,
@@ -10,14 +10,14 @@ pub enum Access {
 }
 
 // The calling convention that an IPI request came by.
-#[derive(Drop)]
+#[derive(Clone, Copy)]
 pub enum IpiAbi {
     Legacy,
     SbiV02,
 }
 
 // The harts that a guest wants to interrupt, as SBI's hart mask and its base.
-#[derive(Drop)]
+#[derive(Clone, Copy)]
 pub struct IpiRequest {
     pub mask: u64,
     pub base: u64,
@@ -25,7 +25,7 @@ pub struct IpiRequest {
 }
 
 // The arguments a0 to a5 of an ecall.
-#[derive(Drop)]
+#[derive(Clone, Copy)]
 pub struct Args {
     pub a0: u64,
     pub a1: u64,
@@ -36,7 +36,7 @@ pub struct Args {
 }
 
 // What the host has to do after a trap.
-#[derive(Drop)]
+#[derive(Clone, Copy)]
 pub enum Exit {
     Nothing,
     ExternalInterrupt {
@@ -72,7 +72,7 @@ pub enum Exit {
 }
 
 // What the handler asks of the host in the middle of a trap.
-#[derive(Drop)]
+#[derive(Clone, Copy)]
 pub enum Ask {
     Fetch { at: GuestVirtAddr, supervisor: bool },
     CopyMask { at: GuestVirtAddr },
@@ -86,7 +86,7 @@ pub enum Ask {
 }
 
 // What fetching a guest's instruction gave: its word, or why it could not be had.
-#[derive(Drop)]
+#[derive(Clone, Copy)]
 pub enum Fetch {
     Word(u32),
     Page(GuestVirtAddr),
@@ -97,7 +97,7 @@ pub enum Fetch {
 }
 
 // The host's answer to each kind of ask.
-#[derive(Drop)]
+#[derive(Clone, Copy)]
 pub enum Answer {
     Fetched(Fetch),
     // The bytes as a little-endian number.
@@ -114,7 +114,7 @@ pub enum Answer {
 }
 
 // Why a call was refused (InvalidInput, BadState, WrongAnswer), or a trap ended with no exit (the others).
-#[derive(Drop)]
+#[derive(Clone, Copy)]
 pub enum Error {
     InvalidInput,
     BadState,
@@ -126,7 +126,7 @@ pub enum Error {
 }
 
 // What a call gives back beside the record.
-#[derive(Drop)]
+#[derive(Clone, Copy)]
 pub enum Reply {
     // The trap is finished.
     Exit(Exit),
@@ -141,7 +141,7 @@ pub enum Reply {
 }
 
 // The numbers that the hardware leaves at a trap, and the console buffer's room.
-#[derive(Drop)]
+#[derive(Clone, Copy)]
 pub struct Trap {
     pub scause: u64,
     pub stval: u64,

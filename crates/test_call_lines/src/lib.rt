@@ -1,6 +1,7 @@
 // A line of the fixed list of calls: its words, whether it spells words, and the sum that it ends in. docs/CALLS.md says what
 // they mean.
 #![tactic(auto)]
+
 ghost use Rattle.std.specs.Prelude.{◌<◌, ◌≤◌};
 
 // The eight words of a line.

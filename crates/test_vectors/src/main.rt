@@ -1,6 +1,7 @@
 // Runs the decoder and the extension over the lists in data/ and counts the lines on which they give something else.
 // docs/VECTORS.md says what a line of each list is.
 #![tactic(auto)]
+
 ghost use Rattle.std.specs.Prelude.{◌+◌, ◌<◌, ◌≤◌};
 
 use isa_decoder::{Decoded, Trapped};

@@ -14,7 +14,7 @@ use scope::{Answer, Error, HostCall, Outcome, Record, Reply, Trap, Waiting};
 
 // A call in words.
 #[repr(C)]
-#[derive(Drop)]
+#[derive(Clone, Copy)]
 pub struct CallWords {
     pub kind: u64,
     pub numbers: [u64; 5],
@@ -22,7 +22,7 @@ pub struct CallWords {
 
 // What a call gives back, in words.
 #[repr(C)]
-#[derive(Drop)]
+#[derive(Clone, Copy)]
 pub struct ReplyWords {
     pub kind: u64,
     pub number: u64,
@@ -31,7 +31,7 @@ pub struct ReplyWords {
 }
 
 // The later record and what the call gives back.
-#[derive(Drop)]
+#[derive(Clone, Copy)]
 pub struct After {
     pub rec: Record,
     pub reply: ReplyWords,

@@ -7,7 +7,7 @@ ghost use Rattle.words_entry_posts.specs.Words.{ExportedRow, exported_row};
 use scope::{Post, Posted, Record, RowOutcome};
 
 // The later record and what the row gives.
-#[derive(Drop)]
+#[derive(Clone, Copy)]
 pub struct AfterRow {
     pub rec: Record,
     pub posted: Posted,

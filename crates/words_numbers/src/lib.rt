@@ -1,6 +1,7 @@
 // The numbers that 01 gives to exits, asks, answers and errors, and those that they carry. scope/specs/OneTrap.antt and
 // Refusals.antt define them.
 #![tactic(auto)]
+
 ghost use Rattle.std.specs.Prelude.{◌≡◌};
 ghost use Rattle.scope.specs.OneTrap.{answer_number, ask_number, exit_number, abi_number, access_number, width_bytes, ask_values, exit_values, flag_of};
 ghost use Rattle.scope.specs.Refusals.{error_number};

@@ -1,5 +1,6 @@
 // The vCPU record in words, and the numbers of what a call is given, as the host's compiler sees them.
 #![tactic(auto)]
+
 ghost use Rattle.std.specs.Prelude.{◌≡◌, [], ◌∷◌, set, take};
 ghost use Rattle.scope.specs.OneTrap.{flag_of, fetch_of};
 ghost use Rattle.std.proofs.lemmas.List.Edits.{sets};

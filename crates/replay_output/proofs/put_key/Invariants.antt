@@ -1,0 +1,13 @@
+use mathlib.Core.Path.{refl}
+use Rattle.replay_output.specs.Put.{put_at}
+use Rattle.replay_output.specs.PutLaws.{put_none, put_next, put_all}
+use Prim.Native.Nat.{◌-◌, ◌≤◌}
+use mathlib.Core.Path.{◌≡◌, ◌∙◌}
+use lib.ListN.{length, take}
+use Rattle.replay_output.proofs.put_key.Given as goal
+
+abbrev pub invariant-loop : goal.invariant-loop
+invariant-loop l = (l.i ≤ length l.key) × (length l.out ≡ length l.initial.out) × (l.out ≡ put_at l.initial.out l.at (take l.i l.key))
+
+abbrev pub decreases-loop : goal.decreases-loop
+decreases-loop l = length l.key - l.i
