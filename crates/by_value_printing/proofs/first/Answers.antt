@@ -7,12 +7,12 @@ use Rattle.by_value_printing.proofs.first.Goals as goal
 
 pub slice_bounds-result-end : goal.slice_bounds-result-end
 unfolding fitted
-slice_bounds-result-end c = sym (length-take-le _ _ c.if1.true)
+slice_bounds-result-end c = sym (length-take-le _ _ c.if-m-s.true)
 
 pub returns-then-m-s : goal.returns-then-m-s
 unfolding fitted
-returns-then-m-s c = simp (le-ltb _ _ c.if1.true, le-leb _ _ c.if1.true)
+returns-then-m-s c = simp (le-ltb _ _ c.if-m-s.true, le-leb _ _ c.if-m-s.true)
 
 pub returns : goal.returns
 unfolding fitted
-returns c = simp (lt-ltb _ _ c.if1.false, lt-leb _ _ c.if1.false)
+returns c = simp (lt-ltb _ _ c.if-m-s.false, lt-leb _ _ c.if-m-s.false)
