@@ -1,5 +1,6 @@
 // How an answer carries a trap on. scope/specs/Answers.antt defines it.
 #![tactic(auto)]
+
 ghost use Rattle.std.specs.Prelude.{◌≡◌, eqb};
 ghost use Rattle.scope.specs.Refusals.{refused_of};
 ghost use Rattle.scope.specs.declared.traps.Error.TheVariants as error;

@@ -1,5 +1,6 @@
 // The guest's general registers, read and written by the host.
 #![tactic(auto)]
+
 ghost use Rattle.std.specs.Prelude.{◌≡◌};
 ghost use Rattle.scope.specs.declared.hosts.HostCall.TheVariants as hostCall;
 ghost use Rattle.scope.specs.Calls.{called_of, gpr_reply};

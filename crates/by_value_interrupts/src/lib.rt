@@ -1,5 +1,6 @@
 // The guest's interrupts, raised and latched by the host, and the results of its IPI requests.
 #![tactic(auto)]
+
 ghost use Rattle.std.specs.Prelude.{true, ◌≡◌};
 ghost use Rattle.scope.specs.declared.hosts.HostCall.TheVariants as hostCall;
 ghost use Rattle.scope.specs.Calls.{called_of};

@@ -1,5 +1,6 @@
 // What the host sets up before a guest runs: the record, its CSRs, where it starts, its page table.
 #![tactic(auto)]
+
 ghost use Rattle.std.specs.Prelude.{◌≡◌};
 ghost use Rattle.scope.specs.declared.hosts.HostCall.TheVariants as hostCall;
 ghost use Rattle.scope.specs.Calls.{new_of, called_of};

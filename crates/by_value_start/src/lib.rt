@@ -1,5 +1,6 @@
 // A trap's start: what each class does. The work of each class is in its own crate, and scope/specs/Classes.antt defines the whole.
 #![tactic(auto)]
+
 ghost use Rattle.std.specs.Prelude.{◌≡◌};
 ghost use Rattle.scope.specs.Refusals.{refused_of};
 ghost use Rattle.scope.specs.declared.traps.Error.TheVariants as error;

@@ -1,5 +1,6 @@
 // A row of posts, folded over hvip up to the first that is refused. 01, Which shape goes where; 02, W4.
 #![tactic(auto)]
+
 ghost use Rattle.std.specs.Prelude.{◌≡◌, ◌<◌, ◌-◌, ◌^◌, length, eqb};
 ghost use Rattle.isa_types.specs.Pick.{pick};
 ghost use Rattle.scope.specs.Host.{hvip_bit_of};

@@ -1,5 +1,6 @@
 // A virtual instruction, a guest page fault, a failed fetch and an answer, each done on the lent words once it is decided.
 #![tactic(auto)]
+
 ghost use Rattle.in_place_record.specs.Rows.{Leaves, answered_left, csr_left, fault_left, missed_left};
 
 use isa_types::GuestPhysAddr;

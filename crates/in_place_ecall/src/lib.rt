@@ -1,5 +1,6 @@
 // An SBI call, done on the lent words once it is decided.
 #![tactic(auto)]
+
 ghost use Rattle.std.specs.Prelude.{◌≡◌, set};
 ghost use Rattle.in_place_record.specs.Rows.{Leaves, call_left, left, one, step_words, three};
 ghost use Rattle.scope.specs.declared.decided.SbiCall.TheVariants as call;

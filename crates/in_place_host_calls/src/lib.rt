@@ -1,5 +1,6 @@
 // The host's own calls on the lent words: setup, registers, page table, interrupts, IPI results.
 #![tactic(auto)]
+
 ghost use Rattle.std.specs.Prelude.{◌≡◌, drop, replicate};
 ghost use Rattle.scope.specs.declared.hosts.HostCall.TheVariants as hostCall;
 ghost use Rattle.scope.specs.Calls.{new_of, called_of};

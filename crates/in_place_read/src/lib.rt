@@ -1,6 +1,7 @@
 // Reading a vCPU record of 58 lent words: what waits, a register, the arguments of a call, the CSRs; and the words of the
 // reply that are read off it.
 #![tactic(auto)]
+
 ghost use Rattle.std.specs.Prelude.{◌≡◌};
 ghost use Rattle.in_place_record.specs.View.{view_of};
 ghost use Rattle.in_place_record.specs.Rows.{args_words, fetch_out, read_word, six_words};

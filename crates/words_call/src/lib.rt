@@ -1,5 +1,6 @@
 // A call, and what comes of it, as words. specs/Words.antt says what each word means.
 #![tactic(auto)]
+
 ghost use Rattle.std.specs.Prelude.{◌≡◌, take};
 ghost use Rattle.scope.specs.ReplyWords.{reply_kind, reply_number, reply_values};
 ghost use Rattle.std.proofs.lemmas.List.Edits.{sets};

@@ -13,7 +13,7 @@ returns-in-2 c = simp c.in-2.is
 
 pub returns-in-3 : goal.returns-in-3
 unfolding waiting_by kind_word waiting_words asked_words
-returns-in-3 c = simp (c.Access-of.ensures, c.in-3.is)
+returns-in-3 c = simp (c.access_of.ensures, c.in-3.is)
 
 pub returns-in-4 : goal.returns-in-4
 unfolding waiting_by kind_word waiting_words asked_words
