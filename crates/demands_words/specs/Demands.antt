@@ -28,7 +28,7 @@ use Rattle.words_call.specs.declared.ReplyWords.{ReplyWords}
 use Rattle.words_call.specs.Words.{call_of, reply_words_of}
 use Rattle.words_entry.specs.Words.{Exported, exported_of}
 use Rattle.words_entry_posts.specs.Words.{ExportedRow, exported_row}
-use Rattle.in_place_record.specs.Told.{told}
+use Rattle.in_place_record.proofs.Told.{told}
 use Rattle.in_place_record.specs.View.{Done, Made, MadeRow, record_of, view_of}
 use Rattle.demand1.specs.Demand1.{Pending, ask_waits, exit_leaves}
 use Rattle.demand1.specs.Leaves.{ExitLeaves}

@@ -1,7 +1,7 @@
 -- `in_place_answer::complete_load` meets its contract.
 use mathlib.Core.Path.{refl}
 use Rattle.scope.specs.Calls.{called_of, base_of, effect_of}
-use Rattle.in_place_record.specs.Laws.{complete_done}
+use Rattle.in_place_record.proofs.Laws.{complete_done}
 use Rattle.in_place_answer.specs.Laws.{done_by}
 use borrow.Author.Rules.{rules}
 use Rattle.in_place_answer.proofs.complete_load.Statement.{statement}

@@ -1,6 +1,6 @@
 -- `in_place_answer::mmio_word` meets its contract.
 use Rattle.in_place_read.specs.Laws.{mmio_made}
-use Rattle.in_place_record.specs.Laws.{made_by}
+use Rattle.in_place_record.proofs.Shown.{made_by}
 use borrow.Author.Rules.{rules}
 use Rattle.in_place_answer.proofs.mmio_word.Statement.{statement}
 use Rattle.in_place_answer.proofs.mmio_word.Tie as tie

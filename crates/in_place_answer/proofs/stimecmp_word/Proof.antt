@@ -1,5 +1,5 @@
 -- `in_place_answer::stimecmp_word` meets its contract.
-use Rattle.in_place_record.specs.Laws.{made_by}
+use Rattle.in_place_record.proofs.Shown.{made_by}
 use Rattle.in_place_answer.specs.Laws.{word_made}
 use borrow.Author.Rules.{rules}
 use Rattle.in_place_answer.proofs.stimecmp_word.Statement.{statement}

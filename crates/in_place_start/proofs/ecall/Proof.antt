@@ -1,5 +1,5 @@
 -- `in_place_start::ecall` meets its contract.
-use Rattle.in_place_record.specs.Laws.{made_by}
+use Rattle.in_place_record.proofs.Shown.{made_by}
 use Rattle.in_place_start.specs.Laws.{ecall_made}
 use borrow.Author.Rules.{rules}
 use Rattle.in_place_start.proofs.ecall.Statement.{statement}

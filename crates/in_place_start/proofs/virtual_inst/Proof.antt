@@ -1,5 +1,5 @@
 -- `in_place_start::virtual_inst` meets its contract.
-use Rattle.in_place_record.specs.Laws.{made_by}
+use Rattle.in_place_record.proofs.Shown.{made_by}
 use Rattle.in_place_start.specs.Laws.{virtual_made}
 use borrow.Author.Rules.{rules}
 use Rattle.in_place_start.proofs.virtual_inst.Statement.{statement}
