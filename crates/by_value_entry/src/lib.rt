@@ -1,5 +1,6 @@
 // Every call on a vCPU record behind one function, by value.
 #![tactic(auto)]
+
 ghost use Rattle.std.specs.Prelude.{◌≡◌};
 ghost use Rattle.scope.specs.declared.hosts.HostCall.TheVariants as hostCall;
 ghost use Rattle.scope.specs.Calls.{called_of};

@@ -1,5 +1,6 @@
 // A row of posts in one call, on a record by value and on the host's record where it lies. 02, W4.
 #![tactic(auto)]
+
 ghost use Rattle.std.specs.Prelude.{◌≡◌};
 ghost use Rattle.scope.specs.Posts.{posted_of};
 ghost use Rattle.decide_posts.specs.Fold.{begun_of, ended_of};

@@ -1,6 +1,7 @@
 // The vCPU exit handler: a trap's start, its answers and its load's completion, by value. Each call gives the whole
 // outcome, and its promise names it: the later record, the reply, and a hypercall's arguments.
 #![tactic(auto)]
+
 ghost use Rattle.std.specs.Prelude.{◌≡◌};
 ghost use Rattle.scope.specs.declared.hosts.HostCall.TheVariants as hostCall;
 ghost use Rattle.scope.specs.Calls.{called_of};

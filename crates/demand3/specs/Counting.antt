@@ -16,7 +16,7 @@ use Rattle.scope.specs.declared.machine.Vcpu.{Vcpu}
 use Rattle.scope.specs.PostsLaws.{row_counts}
 use Rattle.scope.specs.Record.{bumped, counted, applied}
 use Rattle.demand3_table.specs.Runs.{Lasting, run_of, step_of, turn_renews}
-use Rattle.demand3_table.specs.Bases.{base_kept}
+use Rattle.demand3_table.proofs.Bases.{base_kept}
 use Rattle.demand3.specs.Kinds.{call_kind, kind_of, traps}
 use Rattle.demand3.specs.Events.{event_kind}
 use Rattle.scope.specs.Calls.{base_of, called_of}

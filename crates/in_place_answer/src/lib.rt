@@ -1,6 +1,7 @@
 // An answer on the lent words, and a load's completion: how the host carries a trap on. The decisions are those of the
 // by-value step, and so is what is promised: Laid says it of the whole outcome.
 #![tactic(auto)]
+
 ghost use Rattle.std.specs.Prelude.{◌≡◌};
 ghost use Rattle.isa_fields.specs.Fields.{rs1_field};
 ghost use Rattle.isa_decoder.specs.Length.{fetched_of};

@@ -1,6 +1,7 @@
 // The entry for cost, a row of posts: one call on a vCPU record of 58 words where it lies, exported. 02, W4. The promise is the
 // by-value outcome; `in_place_record/specs/View.antt` has the meaning of the words.
 #![tactic(auto)]
+
 ghost use Rattle.std.specs.Prelude.{◌≡◌, set};
 ghost use Rattle.decide_posts.specs.Fold.{begun_of};
 ghost use Rattle.in_place_entry_posts.specs.Row.{given_of};

@@ -1,6 +1,7 @@
 // A trap on the lent words: its class by scause, and each class's decision done. The decisions are those of the by-value
 // step, and so is what is promised: Laid says it of the whole outcome.
 #![tactic(auto)]
+
 ghost use Rattle.std.specs.Prelude.{◌≡◌, ◌%◌, ◌^◌, get_or};
 ghost use Rattle.scope.specs.declared.hosts.HostCall.TheVariants as hostCall;
 ghost use Rattle.scope.specs.Refusals.{refused_of};

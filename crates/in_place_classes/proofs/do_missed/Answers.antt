@@ -4,7 +4,7 @@ use Rattle.in_place_classes.proofs.do_missed.Goals as goal
 
 pub returns-in-Inject : goal.returns-in-Inject
 unfolding missed_left
-returns-in-Inject c = simp (c.inject-in-Inject.ensures, c.inject.ensures, c.csrs-c.ensures, c.d-1.given.1) (record { rec = refl; out = refl; word = refl })
+returns-in-Inject c = simp (c.inject-in-Inject.ensures, c.inject.ensures, c.csrs-c.ensures, c.in-Inject.is) (record { rec = refl; out = refl; word = refl })
 
 pub returns-in-Nested : goal.returns-in-Nested
 unfolding missed_left

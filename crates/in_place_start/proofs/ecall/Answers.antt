@@ -1,0 +1,6 @@
+use Rattle.in_place_record.proofs.Shown.{made_by}
+use Rattle.in_place_start.specs.Laws.{ecall_made}
+use Rattle.in_place_start.proofs.ecall.Goals as goal
+
+pub returns : goal.returns
+returns c = made_by (ecall_made _ _ c.sized.ensures _ _ (simp c.args-a.ensures at c.decide-d.ensures)) c.do_call.ensures
