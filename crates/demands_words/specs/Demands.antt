@@ -35,7 +35,7 @@ use Rattle.demand1.specs.Leaves.{ExitLeaves}
 use Rattle.demand1.specs.RowLaws.{row_applies_lem, row_when_lem}
 use Rattle.demand1.specs.When.{call_when, row_applies, row_when}
 use Rattle.demand1.specs.Whole.{Middles, in_error, whole_of}
-use Rattle.demand3.specs.Counting as counting
+use Rattle.demand3.proofs.Counting as counting
 use Rattle.demand3.specs.Counting.{Counted}
 use Rattle.demand3.specs.Kinds.{traps}
 use Rattle.demand3_table.specs.Runs.{Lasting, Sight, Untouched, run_of, seen_of, sight_of, step_of, written}

@@ -14,7 +14,7 @@ use Rattle.demand3_table.specs.Table.{a6, a7, time_names, srst_names, spi_names,
 use Rattle.demand3_table.specs.Runs.{step_of, Apart, Untouched}
 use Rattle.demand3_table.specs.Alike.{Files, Alike}
 use Rattle.demand3_table.proofs.Agree.{first, rest, parted}
-use Rattle.demand3.specs.Sequences.{next_alike}
+use Rattle.demand3.proofs.Sequences.{next_alike}
 use Rattle.scope.specs.declared.decided.Class.{Class}
 use Rattle.scope.specs.declared.hosts.HostCall.{HostCall}
 use Rattle.scope.specs.declared.decided.Class.TheVariants as class
