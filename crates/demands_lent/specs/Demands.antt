@@ -17,8 +17,8 @@ use Rattle.demand3.proofs.Sequences as sequences
 use Rattle.demand3.specs.Kinds.{traps}
 use Rattle.demand3.specs.Counting.{Counted}
 use Rattle.demand3.proofs.Counting.{counts}
-use Rattle.demand1.specs.Demand1.{refusal_keeps_the_record}
-use Rattle.demand1.specs.RowLaws.{none_applied_keeps_the_record, row_applies_lem, row_when_lem}
+use Rattle.demand1.proofs.Demand1.{refusal_keeps_the_record}
+use Rattle.demand1.proofs.RowLaws.{none_applied_keeps_the_record, row_applies_lem, row_when_lem}
 use Rattle.demand1.specs.When.{row_applies, row_when}
 use Rattle.scope.specs.Refusals.{error_number, refuses}
 use Rattle.demands_lent.specs.Entries.{none, next, row, Back, Entries, back_of, given_for, posted, replied}

@@ -30,9 +30,10 @@ use Rattle.words_entry.specs.Words.{Exported, exported_of}
 use Rattle.words_entry_posts.specs.Words.{ExportedRow, exported_row}
 use Rattle.in_place_record.proofs.Told.{told}
 use Rattle.in_place_record.specs.View.{Done, Made, MadeRow, record_of, view_of}
-use Rattle.demand1.specs.Demand1.{Pending, ask_waits, exit_leaves}
+use Rattle.demand1.specs.Demand1.{Pending}
+use Rattle.demand1.proofs.Demand1.{ask_waits, exit_leaves}
 use Rattle.demand1.specs.Leaves.{ExitLeaves}
-use Rattle.demand1.specs.RowLaws.{row_applies_lem, row_when_lem}
+use Rattle.demand1.proofs.RowLaws.{row_applies_lem, row_when_lem}
 use Rattle.demand1.specs.When.{call_when, row_applies, row_when}
 use Rattle.demand1.specs.Whole.{Middles, in_error, whole_of}
 use Rattle.demand3.proofs.Counting as counting

@@ -28,12 +28,12 @@ use Rattle.scope.specs.Record.{applied, bumped, counted, event_number, stored}
 use Rattle.scope.specs.Refusals.{done_of, error_number, leaves_of, refuses}
 use Rattle.scope.specs.ReplyWords.{reply_kind, reply_number, reply_word}
 use Rattle.scope.specs.Words.{csrs_of, csrs_words, laid_with, left_by, left_of, trap_left, unpack_of, waiting_left, waiting_of}
-use Rattle.demand1.specs.Demand1.{refusal_keeps_the_record}
+use Rattle.demand1.proofs.Demand1.{refusal_keeps_the_record}
 use Rattle.demand1.specs.When.{call_when, gives, is}
-use Rattle.demand1.specs.WhenLaws.{call_when_lem}
-use Rattle.demand1.specs.RowLaws.{none_applied_keeps_the_record}
+use Rattle.demand1.proofs.WhenLaws.{call_when_lem}
+use Rattle.demand1.proofs.RowLaws.{none_applied_keeps_the_record}
 use Rattle.demand1.specs.Whole.{Middles, Over, Tallied, after_turn, carried, in_error, whole_of}
-use Rattle.demand1.specs.WholeLaws.{after_steps, error_changes_nothing}
+use Rattle.demand1.proofs.WholeLaws.{after_steps, error_changes_nothing}
 use Rattle.demand3_table.specs.Runs.{step_of}
 use Rattle.demand3_table.specs.Turns.{Turn, call}
 use Rattle.demands_words.specs.Left.{Sized, csrs_words_back, left_shows, left_sized, left_after, turn_shows, turn_sized, turn_left}

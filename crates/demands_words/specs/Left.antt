@@ -29,7 +29,7 @@ use Rattle.in_place_record.proofs.Shown.{same}
 use Rattle.in_place_record.specs.Spelled.{spelled}
 use Rattle.in_place_record.proofs.Spelled.{spelled_drop}
 use Rattle.in_place_record.proofs.Told.{left_four}
-use Rattle.demand1.specs.Demand1.{refusal_keeps_the_record}
+use Rattle.demand1.proofs.Demand1.{refusal_keeps_the_record}
 use Rattle.demand3_table.specs.Runs.{step_of}
 use Rattle.demand3_table.specs.Turns.{Turn, call, post, print}
 

@@ -30,7 +30,7 @@ use Rattle.scope.specs.declared.traps.Answer.{Answer}
 use Rattle.scope.specs.declared.traps.Error.TheVariants as error
 use Rattle.scope.specs.declared.traps.Error.{Error}
 use Rattle.scope.specs.declared.traps.Fetch.{Fetch}
-use Rattle.demand1.specs.Rows.{any_answer, one_of}
+use Rattle.demand1.proofs.Rows.{any_answer, one_of}
 
 -- a number of the CSRs that stays where sepc moves on or is the entry, and where vstimecmp or hgatp is written
 pub record Steady (at : Csrs → ℕ) : Type 0 where

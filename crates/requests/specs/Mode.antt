@@ -32,7 +32,7 @@ use Rattle.scope.specs.declared.traps.Error.TheVariants as error
 use Rattle.scope.specs.declared.traps.Fetch.TheVariants as fetch
 use Rattle.scope.specs.declared.traps.Fetch.{Fetch}
 use Rattle.scope.specs.declared.traps.Trap.{Trap}
-use Rattle.demand1.specs.Rows.{ecall_row}
+use Rattle.demand1.proofs.Rows.{ecall_row}
 use Rattle.requests.specs.Kept.{Keeps, Steady, answer_keeps, completed_keeps, csr_keeps, done_keeps, either, entry_keeps, fault_keeps, paging_keeps, refused_keeps, unless_keeps, write_keeps}
 
 -- supervisor mode by PRIV's number; user mode is 0

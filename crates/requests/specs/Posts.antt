@@ -19,7 +19,7 @@ use Rattle.scope.specs.declared.traps.Reply.TheVariants as reply
 use Rattle.by_value_posts.specs.Lent.{StoredRow}
 use Rattle.words_entry_posts.specs.Words.{ExportedRow, exported_row}
 use Rattle.in_place_record.specs.View.{MadeRow, view_of}
-use Rattle.demand1.specs.RowLaws.{no_line}
+use Rattle.demand1.proofs.RowLaws.{no_line}
 use Rattle.demand1.specs.When.{vector_allowed}
 use Rattle.demands_words.specs.Left.{row_shows}
 

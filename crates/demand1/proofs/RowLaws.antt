@@ -1,7 +1,7 @@
 -- A row of posts: when each number is given, how many are applied, and what a refused one leaves. 01, Refusals and errors by number;
 -- 02, W4.
 use Rattle.std.specs.Prelude.{ℕ, ◌+◌, Bool, true, false, List, [], ◌∷◌, ◌≡◌, refl, eqb}
-use Rattle.std.proofs.Common.{add-zero, add_assoc, zero-add, arith, ap, sym, ◌∙◌, subst}
+use Rattle.std.proofs.Common.{add-zero, add_assoc, zero-add, arith, ap, sym, ◌∙◌}
 use Rattle.isa_consts.specs.Csr.{vseip, vssip, vstip}
 use Rattle.isa_consts.specs.Traps.{supervisor_external, supervisor_soft, supervisor_timer}
 use Rattle.isa_types.specs.Pick.{and, not, or, pick}

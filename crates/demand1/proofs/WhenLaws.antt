@@ -49,7 +49,7 @@ use Rattle.demand3.specs.Kinds.{csr_funct3, on_stimecmp}
 use Rattle.scope.specs.declared.decided.Answered.{Answered}
 use Rattle.scope.specs.declared.decided.Class.{Class}
 use Rattle.scope.specs.declared.hosts.HostCall.{HostCall}
-use Rattle.demand1.specs.Rows.{answer_row, ecall_row}
+use Rattle.demand1.proofs.Rows.{answer_row, ecall_row}
 use Rattle.demand1.specs.When.{answer_when, call_when, changing_when, class_when, fetch_when, fitting_when, index_allowed, load_waits, load_when, other_stval, other_word, paging_allowed, start_when, vector_allowed, word_when, gives, is}
 use Rattle.scope.specs.declared.decided.Class.TheVariants as class
 use Rattle.isa_decoder.specs.Length.{fetched_of, htinst_of}

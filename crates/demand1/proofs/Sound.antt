@@ -37,7 +37,7 @@ use Rattle.scope.specs.declared.decided.Class.{Class}
 use Rattle.scope.specs.declared.hosts.HostCall.{HostCall}
 use Rattle.scope.specs.declared.machine.Vcpu.{Vcpu}
 use Rattle.scope.specs.declared.decided.Class.TheVariants as class
-use Rattle.demand1.specs.Rows.{any_answer, ecall_row, one_of}
+use Rattle.demand1.proofs.Rows.{any_answer, ecall_row, one_of}
 use Rattle.scope.specs.Calls.{effect_of, gpr_reply}
 use Rattle.scope.specs.declared.hosts.HostCall.TheVariants as hostCall
 use Rattle.scope.specs.declared.traps.Reply.TheVariants as reply

@@ -55,14 +55,14 @@ use Rattle.scope.specs.Answers.{answer_effect, fitting_effect, fetch_effect, num
 use Rattle.scope.specs.Calls.{base_of, called_of, effect_of, gpr_reply}
 use Rattle.demand1.specs.Leaves.{AtMostIllegal, Ended, Failed, Says}
 use Rattle.demand1.specs.Leaves as leaves
-use Rattle.demand1.specs.Sound.{start_sound, answer_sound}
-use Rattle.demand1.specs.Demand1.{refusal_keeps_the_record}
+use Rattle.demand1.proofs.Sound.{start_sound, answer_sound}
+use Rattle.demand1.proofs.Demand1.{refusal_keeps_the_record}
 use Rattle.demand1.specs.Whole as whole
 use Rattle.demand1.specs.Whole.{Middle, Middles, after_turn, carried, whole_of, ends_trap, in_error, Tallied, Over, same, illegal}
 use Rattle.scope.specs.declared.decided.Class.{Class}
 use Rattle.scope.specs.declared.machine.EcallAsk.TheVariants as asked
 use Rattle.scope.specs.declared.decided.Class.TheVariants as class
-use Rattle.demand1.specs.Rows.{ecall_row, one_of, answer_row}
+use Rattle.demand1.proofs.Rows.{ecall_row, one_of, answer_row}
 
 never : {A : Type 0} → false ≡ true → A
 never h = let z : ◌≡◌ {A = ℕ} 0 1 = cc in absurd (omega arith)
