@@ -189,7 +189,7 @@ fn read_full<F: Read + Drop>(input: F, bytes: &mut [u8]) -> usize
 // Copies bytes to a place of the buffer, as many as have room there, and says where they end.
 fn append(from: &[u8], out: &mut [u8], at: usize) -> usize
     requires { at ≤ length out.old }
-    ensures { result ≤ length out.new }
+    ensures { (result ≤ length out.new) × (result ≡ length (take result out.new)) }
 {
     let mut i: usize = 0;
     let mut e = at;
