@@ -14,4 +14,4 @@ slice_bounds-agree-end-2 c = sym (length-take-le _ _ (written_end _ _ _ _ _ (sea
 -- output that agrees with the expected one in all of its bytes is the replay of the capture
 pub returns : goal.returns
 unfolding state_in
-returns c = judged _ c.args.capture.now c.args.expected.now _ _ _ _ _ _ _ _ _ _ _ c.begin-p.ensures c.fill-f.ensures c.if-f-capture.false c.agree-n.ensures c.if-n-e.false c.end.ensures (search rules) c.write-k.ensures c.agree-m.ensures c.if-m-k.false c.if-k-expected.false
+returns c = judged _ c.args.capture.now c.args.expected.now _ _ _ _ _ _ _ _ _ _ _ c.begin-p.ensures c.fill-f.ensures c.if-f-capture.false c.agree-n.ensures c.if-n-e.false c.end.ensures (search rules) c.write-k.ensures c.agree-m.ensures c.if-m-k.false (search rules)
