@@ -15,7 +15,7 @@ use Rattle.scope.specs.Record.{bumped, counted, event_number, stored, applied}
 use Rattle.scope.specs.Calls.{base_of, called_of, effect_of}
 use Rattle.scope.specs.Refusals.{done_of, refusal, refuses}
 use Rattle.scope.specs.declared.hosts.HostCall.TheVariants as hostCall
-use Rattle.demand3_table.specs.Bases.{base_kept}
+use Rattle.demand3_table.proofs.Bases.{base_kept}
 use Rattle.demand3_table.specs.Runs.{renews}
 use Rattle.demand1.specs.Leaves.{Asked, Failed, ExitLeaves, Says, Unchanged, Waits}
 use Rattle.demand1.specs.Sound.{effect_sound}

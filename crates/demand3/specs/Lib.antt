@@ -1,9 +1,5 @@
-pub mod Sequences
 pub mod Third
-pub mod Symmetric
-pub mod Zero
 pub mod Kinds
-pub mod Events
 pub mod Counting
 pub mod Shown
 pub mod Witness

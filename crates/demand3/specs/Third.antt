@@ -1,11 +1,10 @@
 -- Demand 3: two records alike except in one general register, and the same sequence of calls, lent buffers and answers on both.
 -- The statement is Third; Alike is in Alike.antt, Untouched, seen_of, run_of and written in Runs.antt, the table in Table.antt.
-use Rattle.std.specs.Prelude.{ℕ, true, false, List, ◌++◌, ◌≡◌, get_or}
+use Rattle.std.specs.Prelude.{ℕ, true, false, List, ◌≡◌, get_or}
 use Rattle.demand3_table.specs.Turns.{Turn}
 use Rattle.scope.specs.declared.machine.Vcpu.{Vcpu}
-use Rattle.demand3_table.specs.Runs.{run_of, seen_of, Untouched, written}
+use Rattle.demand3_table.specs.Runs.{run_of, seen_of, written}
 use Rattle.demand3_table.specs.Alike.{Alike}
-use Rattle.demand3.specs.Sequences as sequences
 
 pub record Third (r : ℕ) (v w : Vcpu) (cs : List Turn) : Type 0 where
   -- all exits, host requests and refusals agree, with the hypercall array, the bytes printed and what a row of posts
@@ -19,17 +18,3 @@ pub record Third (r : ℕ) (v w : Vcpu) (cs : List Turn) : Type 0 where
   pub keeps : written r v cs ≡ false → (get_or (run_of v cs).x r 0 ≡ get_or v.x r 0) × (get_or (run_of w cs).x r 0 ≡ get_or w.x r 0)
   -- and agrees from then on: the two records are equal
   pub joins : written r v cs ≡ true → run_of v cs ≡ run_of w cs
-
--- if no trap in the sequence names r and no call reads it out, this holds after each of its beginnings
-pub third : (r : ℕ) (v w : Vcpu) (front back : List Turn) → Alike r v w → Untouched r v (front ++ back) → Third r v w front
-third r v w front back a u = whole r v w front a (sequences.beginning r v front back u)
-  where
-    whole : (r : ℕ) (v w : Vcpu) (cs : List Turn) → Alike r v w → Untouched r v cs → Third r v w cs
-    whole r v w cs a u =
-        record {
-          sights = sequences.sights r v w cs a u;
-          alike = sequences.ends r v w cs a u;
-          writes = sequences.writes r v w cs a u;
-          keeps = sequences.keeps r v w cs a u;
-          joins = sequences.joins r v w cs a u;
-        }

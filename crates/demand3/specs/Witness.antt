@@ -32,7 +32,7 @@ use Rattle.scope.specs.VirtualInstruction.{ask_fetch_of, missed_of, trap_status_
 use Rattle.scope.specs.GuestPageFault.{load_under, store_under, fault_of, fault_effect, completed_of, mmio_of, page_fault_of}
 use Rattle.scope.specs.Classes.{arguments_of, start_effect, class_of, class_effect}
 use Rattle.scope.specs.Calls.{print_count, base_of, fitted, printable, printed_of, called_of, effect_of, asked_count, gpr_reply}
-use Rattle.demand3_table.specs.Table.{a0, a1, a2, a3, a4, a5, a7, source_names, forward_names, time_names, srst_names, spi_names, hsm_names, console_names, byte_names, dbcn_names, eid_names, ecall_names, funct3_names, stimecmp_names, store_names, access_names, word_names, fetch_names, answer_names, names_of, reads_of, call_names, call_reads, class_names}
+use Rattle.demand3_table.specs.Table.{a0, a1, a2, a5, a7, source_names, forward_names, time_names, srst_names, spi_names, hsm_names, console_names, byte_names, dbcn_names, eid_names, ecall_names, funct3_names, stimecmp_names, store_names, access_names, word_names, fetch_names, answer_names, names_of, reads_of, call_names, call_reads, class_names}
 use Rattle.demand3_table.specs.Runs.{Lasting, turn_renews, sight_of, step_of, run_of, seen_of, Apart, Untouched, renews, wrote_by, written, wrote}
 use Rattle.demand3_table.specs.Alike.{Alike}
 use Rattle.demand3.specs.Shown.{example_record, other, Met, rows_given, exit_numbers, ask_numbers, reply_numbers, sight_numbers, told_of, same_list, Row, named, matters, all_matter, Joined, waits}

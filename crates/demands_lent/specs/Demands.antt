@@ -13,9 +13,10 @@ use Rattle.by_value_posts.specs.Lent.{StoredRow}
 use Rattle.demand3_table.specs.Alike.{Alike}
 use Rattle.demand3_table.specs.Runs.{Lasting, run_of, seen_of, sight_of, step_of, Untouched, written}
 use Rattle.demand3_table.specs.Turns.{Turn}
-use Rattle.demand3.specs.Sequences as sequences
+use Rattle.demand3.proofs.Sequences as sequences
 use Rattle.demand3.specs.Kinds.{traps}
-use Rattle.demand3.specs.Counting.{Counted, counts}
+use Rattle.demand3.specs.Counting.{Counted}
+use Rattle.demand3.proofs.Counting.{counts}
 use Rattle.demand1.specs.Demand1.{refusal_keeps_the_record}
 use Rattle.demand1.specs.RowLaws.{none_applied_keeps_the_record, row_applies_lem, row_when_lem}
 use Rattle.demand1.specs.When.{row_applies, row_when}

@@ -11,7 +11,7 @@ use Rattle.scope.specs.declared.machine.Waiting.TheVariants as waiting
 use Rattle.scope.specs.Words.{csrs_of, csrs_words, unpack_of, waiting_of, waiting_words, asked_words}
 use Rattle.scope.specs.WordsLaws.{csrs_back, waiting_back}
 use Rattle.in_place_record.specs.View.{record_of, view_of}
-use Rattle.in_place_record.specs.Laws.{same}
+use Rattle.in_place_record.proofs.Shown.{same}
 use Rattle.scope.specs.declared.machine.EcallAsk.{EcallAsk}
 use Rattle.scope.specs.declared.machine.EcallAsk.TheVariants as asked
 

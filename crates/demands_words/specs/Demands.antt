@@ -28,14 +28,14 @@ use Rattle.words_call.specs.declared.ReplyWords.{ReplyWords}
 use Rattle.words_call.specs.Words.{call_of, reply_words_of}
 use Rattle.words_entry.specs.Words.{Exported, exported_of}
 use Rattle.words_entry_posts.specs.Words.{ExportedRow, exported_row}
-use Rattle.in_place_record.specs.Told.{told}
+use Rattle.in_place_record.proofs.Told.{told}
 use Rattle.in_place_record.specs.View.{Done, Made, MadeRow, record_of, view_of}
 use Rattle.demand1.specs.Demand1.{Pending, ask_waits, exit_leaves}
 use Rattle.demand1.specs.Leaves.{ExitLeaves}
 use Rattle.demand1.specs.RowLaws.{row_applies_lem, row_when_lem}
 use Rattle.demand1.specs.When.{call_when, row_applies, row_when}
 use Rattle.demand1.specs.Whole.{Middles, in_error, whole_of}
-use Rattle.demand3.specs.Counting as counting
+use Rattle.demand3.proofs.Counting as counting
 use Rattle.demand3.specs.Counting.{Counted}
 use Rattle.demand3.specs.Kinds.{traps}
 use Rattle.demand3_table.specs.Runs.{Lasting, Sight, Untouched, run_of, seen_of, sight_of, step_of, written}

@@ -25,9 +25,10 @@ use Rattle.scope.specs.Record.{applied, waiting_ask}
 use Rattle.scope.specs.Refusals.{done_of, leaves_of, refused_of, refuses, unless_asking}
 use Rattle.scope.specs.Words.{asked_word_count, asked_words, csrs_of, csrs_words, kind_word, laid_with, left_by, left_of, trap_left, unpack_of, waiting_by, waiting_count, waiting_left, waiting_of, waiting_words}
 use Rattle.scope.specs.WordsLaws.{access_back, csrs_back, flag_back, waiting_back, width_back}
-use Rattle.in_place_record.specs.Laws.{same}
-use Rattle.in_place_record.specs.Spelled.{spelled, spelled_drop}
-use Rattle.in_place_record.specs.Told.{left_four}
+use Rattle.in_place_record.proofs.Shown.{same}
+use Rattle.in_place_record.specs.Spelled.{spelled}
+use Rattle.in_place_record.proofs.Spelled.{spelled_drop}
+use Rattle.in_place_record.proofs.Told.{left_four}
 use Rattle.demand1.specs.Demand1.{refusal_keeps_the_record}
 use Rattle.demand3_table.specs.Runs.{step_of}
 use Rattle.demand3_table.specs.Turns.{Turn, call, post, print}

@@ -20,8 +20,8 @@ use Rattle.words_call.specs.declared.ReplyWords.{ReplyWords}
 use Rattle.words_call.specs.Words.{call_of}
 use Rattle.words_entry.specs.Words.{Exported}
 use Rattle.words_entry_posts.specs.Words.{ExportedRow}
-use Rattle.in_place_record.specs.Laws.{over}
-use Rattle.in_place_record.specs.Told.{all_there, last_four, left_four, told}
+use Rattle.in_place_record.proofs.Shown.{over}
+use Rattle.in_place_record.proofs.Told.{all_there, last_four, left_four, told}
 use Rattle.in_place_record.specs.View.{Done, Made, MadeRow, record_of, view_of}
 use Rattle.demand3_table.specs.Runs.{Sight, sight_of, step_of}
 use Rattle.demand3_table.specs.Turns as turns

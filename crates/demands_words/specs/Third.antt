@@ -15,8 +15,8 @@ use Rattle.scope.specs.Words.{csrs_of, csrs_words, laid_with, left_by, left_of, 
 use Rattle.demand3_table.specs.Alike.{Alike, Files}
 use Rattle.demand3_table.specs.Runs.{Sight, Untouched, run_of, seen_of, sight_of, step_of, written, wrote_by}
 use Rattle.demand3_table.specs.Turns.{Turn, call, post, print}
-use Rattle.demand3.specs.Sequences as sequences
-use Rattle.demand3.specs.Sequences.{next_alike, next_joined, sight_alike}
+use Rattle.demand3.proofs.Sequences as sequences
+use Rattle.demand3.proofs.Sequences.{next_alike, next_joined, sight_alike}
 use Rattle.demands_words.specs.Left.{Sized, left_after, turn_shows, turn_sized, turn_left}
 
 -- the other registers, the CSRs, the counts and all four waiting words agree

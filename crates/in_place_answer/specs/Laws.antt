@@ -28,7 +28,9 @@ use Rattle.scope.specs.ReplyWords.{reply_word}
 use Rattle.scope.specs.Words.{trap_left}
 use Rattle.scope.specs.Refusals.{refusal, refuses}
 use Rattle.in_place_record.specs.Rows.{Leaves, answered_left, csr_left, missed_left, read_word}
-use Rattle.in_place_record.specs.Laws.{On, answered_made, made_by, missed_made, same}
+use Rattle.in_place_record.specs.Laws.{On}
+use Rattle.in_place_record.proofs.Laws.{answered_made, missed_made}
+use Rattle.in_place_record.proofs.Shown.{made_by, same}
 use Rattle.in_place_read.specs.Laws.{csr_by}
 use Rattle.scope.specs.declared.decided.Answered.{Answered}
 use Rattle.scope.specs.declared.machine.EcallAsk.{EcallAsk}

@@ -4,7 +4,7 @@ use Rattle.std.proofs.Common.{ap, sym, ◌∙◌}
 use Rattle.decide_posts.specs.Fold.{begun_of, ended_of, fold_of}
 use Rattle.decide_posts.specs.RowLaws.{folded}
 use Rattle.decide_posts.specs.declared.Row.{Row}
-use Rattle.in_place_record.specs.Laws.{over}
+use Rattle.in_place_record.proofs.Shown.{over}
 use Rattle.in_place_record.specs.View.{MadeRow, record_of, view_of}
 use Rattle.scope.specs.Posts.{posted_of, row_of}
 use Rattle.scope.specs.PostsLaws.{with_hvip}

@@ -18,7 +18,8 @@ use Rattle.scope.specs.Words.{csrs_of, csrs_words, unpack_of, waiting_by, waitin
 use Rattle.in_place_record.specs.Steps.{Settled, host_leaves}
 use Rattle.in_place_record.specs.View.{record_of, view_of}
 use Rattle.scope.specs.ReplyWords.{reply_word}
-use Rattle.in_place_record.specs.Laws.{over, put_keeps, put_shows, same, waiting_words_lem}
+use Rattle.in_place_record.proofs.Shown.{over, put_keeps, put_shows, same}
+use Rattle.in_place_record.proofs.Laws.{waiting_words_lem}
 use Rattle.in_place_record.specs.Spelled.{spelled}
 use Rattle.in_place_host.specs.Host.{Keeps, host_words, write_words}
 use Rattle.scope.specs.declared.machine.EcallAsk.TheVariants as asked

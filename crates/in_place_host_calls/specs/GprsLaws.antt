@@ -13,7 +13,7 @@ use Rattle.in_place_record.specs.Steps.{Laid, host_leaves, out_over}
 use Rattle.in_place_record.specs.View.{view_of}
 use Rattle.scope.specs.ReplyWords.{reply_word}
 use Rattle.in_place_record.specs.Rows.{read_word}
-use Rattle.in_place_record.specs.Laws.{read_shows}
+use Rattle.in_place_record.proofs.Laws.{read_shows}
 use Rattle.in_place_host.specs.Host.{Keeps}
 use Rattle.in_place_host.specs.Laws.{done_keeps, pick_keeps, refused_keeps}
 use Rattle.scope.specs.Record.{applied, bumped, counted, event_number, listed, no_args, stored}

@@ -10,7 +10,8 @@ use Rattle.scope.specs.VirtualInstruction.{stimecmp_effect}
 use Rattle.scope.specs.GuestPageFault.{fault_effect, fault_of, mmio_of}
 use Rattle.in_place_record.specs.View.{view_of}
 use Rattle.in_place_record.specs.Rows.{csr_left, fault_left, read_word}
-use Rattle.in_place_record.specs.Laws.{On, csr_made, csrs_words_lem, fault_made, read_shows}
+use Rattle.in_place_record.specs.Laws.{On}
+use Rattle.in_place_record.proofs.Laws.{csr_made, csrs_words_lem, fault_made, read_shows}
 use Rattle.scope.specs.declared.decided.Fault.{Fault}
 use Rattle.isa_decoder.specs.declared.Trapped.{Trapped}
 use Rattle.isa_decoder.specs.Length.{store_source}

@@ -4,4 +4,3 @@ pub mod Cleared
 pub mod Rows
 pub mod Spelled
 pub mod Laws
-pub mod Told

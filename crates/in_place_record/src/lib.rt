@@ -1,6 +1,6 @@
 // A vCPU record as 58 lent words, and writes that change it where it lies; in_place_read reads it,
 // in_place_write has the other writes. specs/View.antt gives the words their meaning; specs/Rows.antt says what each decision
-// does to them, and specs/Laws.antt that this is the effect of the same decision.
+// does to them, and proofs/EachRow.antt and proofs/Laws.antt that this is the effect of the same decision.
 #![tactic(auto)]
 
 ghost use Rattle.std.specs.Prelude.{◌≡◌, length};

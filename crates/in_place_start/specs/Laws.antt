@@ -19,7 +19,9 @@ use Rattle.scope.specs.ReplyWords.{reply_word}
 use Rattle.scope.specs.Words.{trap_left, waiting_count}
 use Rattle.scope.specs.Refusals.{refusal, refuses}
 use Rattle.in_place_record.specs.Rows.{args_words, call_left, csr_left, left, read_word}
-use Rattle.in_place_record.specs.Laws.{On, call_made, over}
+use Rattle.in_place_record.specs.Laws.{On}
+use Rattle.in_place_record.proofs.Laws.{call_made}
+use Rattle.in_place_record.proofs.Shown.{over}
 use Rattle.in_place_record.specs.Spelled.{spelled}
 use Rattle.in_place_read.specs.Laws.{csr_by}
 use Rattle.scope.specs.declared.machine.Event.TheVariants as event

@@ -1,4 +1,2 @@
 pub mod Hex
 pub mod Words
-pub mod WordLaws
-pub mod Laws

@@ -7,7 +7,7 @@ use Rattle.scope.specs.declared.machine.Vcpu.{Vcpu}
 use Rattle.scope.specs.Calls.{called_of}
 use Rattle.scope.specs.Record.{timed}
 use Rattle.scope.specs.Words.{csrs_of, unpack_of}
-use Rattle.in_place_record.specs.Laws.{over}
+use Rattle.in_place_record.proofs.Shown.{over}
 use Rattle.in_place_record.specs.Spelled.{spelled}
 use Rattle.in_place_record.specs.Steps.{Settled}
 use Rattle.in_place_record.specs.View.{record_of, view_of}

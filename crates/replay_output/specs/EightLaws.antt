@@ -6,7 +6,7 @@ use Rattle.std.proofs.lemmas.Nat.{and_mask, or_block, or_lt, or_mod}
 use Rattle.std.specs.Int.Bits.{and_zero_r, bit_and, bit_or, or_zero_l, or_zero_r}
 use Rattle.replay_scope.specs.Lines.{glyph, last_digits, sixteen}
 use Rattle.replay_digits.specs.Words.{glyphs_of, of_bytes}
-use Rattle.replay_digits.specs.WordLaws.{Bytes, ands, and_bytes, glyphs_eight}
+use Rattle.replay_digits.proofs.WordLaws.{Bytes, ands, and_bytes, glyphs_eight}
 use Rattle.replay_output.specs.Put.{put_at}
 use Rattle.replay_output.specs.PutLaws.{put_none, put_one, put_put}
 use Rattle.replay_output.specs.Eight.{bytes_of, spread_of}

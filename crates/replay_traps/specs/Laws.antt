@@ -22,7 +22,7 @@ use Rattle.scope.specs.declared.traps.Exit.{Exit}
 use Rattle.scope.specs.declared.traps.Exit.TheVariants as exit
 use Rattle.scope.specs.declared.traps.Reply.{Reply}
 use Rattle.scope.specs.declared.traps.Reply.TheVariants as reply
-use Rattle.in_place_record.specs.Laws.{csrs_words_lem}
+use Rattle.in_place_record.proofs.Laws.{csrs_words_lem}
 use Rattle.in_place_record.specs.Steps.{Laid, Settled}
 use Rattle.in_place_record.specs.View.{record_of, view_of}
 use Rattle.scope.specs.ReplyWords.{reply_word}

@@ -1,6 +1,6 @@
 use mathlib.Core.Path.{refl}
 use Rattle.scope.specs.Calls.{called_of, base_of, effect_of}
-use Rattle.in_place_record.specs.Laws.{complete_done}
+use Rattle.in_place_record.proofs.Laws.{complete_done}
 use Rattle.in_place_answer.specs.Laws.{done_by}
 use Rattle.in_place_answer.proofs.complete_load.Goals as goal
 

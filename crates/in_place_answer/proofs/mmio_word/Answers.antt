@@ -1,5 +1,5 @@
 use Rattle.in_place_read.specs.Laws.{mmio_made}
-use Rattle.in_place_record.specs.Laws.{made_by}
+use Rattle.in_place_record.proofs.Shown.{made_by}
 use Rattle.in_place_answer.proofs.mmio_word.Goals as goal
 
 pub returns : goal.returns

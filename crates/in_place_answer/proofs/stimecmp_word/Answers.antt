@@ -1,4 +1,4 @@
-use Rattle.in_place_record.specs.Laws.{made_by}
+use Rattle.in_place_record.proofs.Shown.{made_by}
 use Rattle.in_place_answer.specs.Laws.{word_made}
 use Rattle.in_place_answer.proofs.stimecmp_word.Goals as goal
 

@@ -1,4 +1,4 @@
-use Rattle.in_place_record.specs.Laws.{csrs_words_lem}
+use Rattle.in_place_record.proofs.Laws.{csrs_words_lem}
 use Rattle.in_place_read.proofs.csrs.Goals as goal
 
 pub returns : goal.returns

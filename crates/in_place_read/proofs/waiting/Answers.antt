@@ -1,4 +1,4 @@
-use Rattle.in_place_record.specs.Laws.{waiting_words_lem}
+use Rattle.in_place_record.proofs.Laws.{waiting_words_lem}
 use Rattle.in_place_read.proofs.waiting.Goals as goal
 
 pub returns : goal.returns

@@ -1,5 +1,5 @@
 use borrow.Author.Tests.{lt-ltb, le-ltb}
-use Rattle.in_place_record.specs.Laws.{put_straight, put_beyond}
+use Rattle.in_place_record.proofs.Laws.{put_straight, put_beyond}
 use Rattle.in_place_record.proofs.put.Goals as goal
 
 pub returns-then-i-lt32 : goal.returns-then-i-lt32

@@ -1,4 +1,4 @@
-use Rattle.in_place_record.specs.Laws.{made_by}
+use Rattle.in_place_record.proofs.Shown.{made_by}
 use Rattle.in_place_start.specs.Laws.{virtual_made}
 use Rattle.in_place_start.proofs.virtual_inst.Goals as goal
 

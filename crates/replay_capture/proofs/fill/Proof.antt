@@ -1,7 +1,7 @@
 -- `replay_capture::fill` meets its contract.
 use borrow.Author.Rules.{rules}
 use Rattle.replay_traps.specs.InPlace.{step_in, state_in}
-use Rattle.in_place_record.specs.Laws.{same}
+use Rattle.in_place_record.proofs.Shown.{same}
 use Rattle.replay_scope.specs.Lines.{bytes}
 use Rattle.replay_scope.specs.Output.{state_after, output_of}
 use Rattle.replay_capture.specs.Laws.{part_fed, fed_high, fed_moves, filled_next, filled_led, written_same, written_end}

@@ -1,4 +1,4 @@
-use Rattle.replay_digits.specs.Laws.{eight_of}
+use Rattle.replay_digits.proofs.Laws.{eight_of}
 use native.Mathlib.Omega.{arith}
 use Rattle.replay_digits.proofs.eight.Goals as goal
 

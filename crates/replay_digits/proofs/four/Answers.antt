@@ -1,4 +1,4 @@
-use Rattle.replay_digits.specs.Laws.{four_of}
+use Rattle.replay_digits.proofs.Laws.{four_of}
 use native.Mathlib.Omega.{arith}
 use borrow.Author.Rules.{rules}
 use Rattle.replay_digits.proofs.four.Goals as goal

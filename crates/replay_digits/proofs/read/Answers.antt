@@ -1,4 +1,4 @@
-use Rattle.replay_digits.specs.Laws.{hex_short, hex_part}
+use Rattle.replay_digits.proofs.Laws.{hex_short, hex_part}
 use native.Mathlib.Omega.{arith}
 use mathlib.Core.Path.{◌∙◌}
 use Rattle.replay_digits.proofs.read.Goals as goal

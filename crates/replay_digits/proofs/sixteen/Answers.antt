@@ -1,6 +1,6 @@
-use Rattle.replay_digits.specs.WordLaws.{pack_below}
+use Rattle.replay_digits.proofs.WordLaws.{pack_below}
 use native.Mathlib.Omega.{arith}
-use Rattle.replay_digits.specs.Laws.{hex_first, hex_number, hex_second}
+use Rattle.replay_digits.proofs.Laws.{hex_first, hex_number, hex_second}
 use Rattle.replay_digits.proofs.sixteen.Goals as goal
 
 pub returns-then-glyphs-a : goal.returns-then-glyphs-a

@@ -38,7 +38,7 @@ use Rattle.scope.specs.Calls.{effect_of, gpr_reply}
 use Rattle.demand3_table.specs.Table.{a0, a1, a2, a3, a4, a5, a6, a7, source_names, forward_names, time_names, srst_names, spi_names, hsm_names, console_names, byte_names, dbcn_names, eid_names, ecall_names, funct3_names, stimecmp_names, store_names, class_names, access_names, word_names, fetch_names, answer_names, call_names, call_reads}
 use Rattle.demand3_table.specs.Runs.{among, Apart}
 use Rattle.demand3_table.specs.Alike.{Files, Alike}
-use Rattle.demand3_table.specs.Stored.{neither}
+use Rattle.demand3_table.proofs.Stored.{neither}
 use Rattle.scope.specs.declared.hosts.HostCall.{HostCall}
 use Rattle.scope.specs.Answers.{answer_effect, fetch_effect, fitting_effect, word_effect}
 use Rattle.scope.specs.declared.traps.Ask.TheVariants as ask

@@ -13,8 +13,8 @@ use Rattle.scope.specs.Record.{is_idle}
 use Rattle.demand3_table.specs.Table.{a6, a7, time_names, srst_names, spi_names, hsm_names, dbcn_names, eid_names, ecall_names, answer_names, names_of, call_names, class_names}
 use Rattle.demand3_table.specs.Runs.{step_of, Apart, Untouched}
 use Rattle.demand3_table.specs.Alike.{Files, Alike}
-use Rattle.demand3_table.specs.Agree.{first, rest, parted}
-use Rattle.demand3.specs.Sequences.{next_alike}
+use Rattle.demand3_table.proofs.Agree.{first, rest, parted}
+use Rattle.demand3.proofs.Sequences.{next_alike}
 use Rattle.scope.specs.declared.decided.Class.{Class}
 use Rattle.scope.specs.declared.hosts.HostCall.{HostCall}
 use Rattle.scope.specs.declared.decided.Class.TheVariants as class

@@ -11,7 +11,7 @@ use Rattle.replay_digits.specs.declared.Digits.{Digits}
 use Rattle.replay_digits.specs.declared.Digits.TheVariants as digits
 use Rattle.replay_digits.specs.Hex.{digit_of, hex_of}
 use Rattle.replay_digits.specs.Words.{glyph_by, glyphs_of, of_bytes, pack_of, value_by, values_of}
-use Rattle.replay_digits.specs.WordLaws.{Bytes, each, eight, eight_bytes, eight_digits, glyphs_each, pack_below, pack_eight, values_each}
+use Rattle.replay_digits.proofs.WordLaws.{Bytes, each, eight, eight_bytes, eight_digits, glyphs_each, pack_below, pack_eight, values_each}
 
 -- the digit with a byte's value is that byte, or the byte is no digit
 abbrev read_by : ℕ → ℕ

@@ -17,9 +17,9 @@ use Rattle.scope.specs.Calls.{base_of, printed_of, called_of, effect_of}
 use Rattle.demand3_table.specs.Table.{call_names, call_reads, names_of, reads_of}
 use Rattle.demand3_table.specs.Runs.{sight_of, step_of, run_of, seen_of, Apart, Untouched, renews, wrote, wrote_by, written}
 use Rattle.demand3_table.specs.Alike.{Alike, Files}
-use Rattle.demand3_table.specs.Agree.{effect_alike}
-use Rattle.demand3_table.specs.Bases.{base_alike, base_kept, base_new}
-use Rattle.demand3_table.specs.Stored.{neither, same_files, stored_files, stored_kept, stored_joined}
+use Rattle.demand3_table.proofs.Agree.{effect_alike}
+use Rattle.demand3_table.proofs.Bases.{base_alike, base_kept, base_new}
+use Rattle.demand3_table.proofs.Stored.{neither, same_files, stored_files, stored_kept, stored_joined}
 
 -- a sequence that leaves r untouched does so in each of its beginnings
 pub beginning : (r : ℕ) (v : Vcpu) (front back : List Turn) → Untouched r v (front ++ back) → Untouched r v front

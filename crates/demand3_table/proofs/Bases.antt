@@ -1,5 +1,5 @@
 -- The record that a call works on: a new one is the same whatever was there, and any other is the one that was there.
-use Rattle.std.specs.Prelude.{ℕ, true, false, ◌≡◌, refl, get_or}
+use Rattle.std.specs.Prelude.{ℕ, true, false, ◌≡◌, refl}
 use Rattle.std.proofs.Common.{arith, sym}
 use Rattle.scope.specs.Calls.{base_of, new_of}
 use Rattle.scope.specs.declared.hosts.HostCall.TheVariants as hostCall

@@ -25,7 +25,8 @@ use Rattle.demand3_table.specs.Table.{a0, a1, a2, a6, a7, source_names, forward_
 use Rattle.scope.specs.Calls.{effect_of}
 use Rattle.demand3_table.specs.Runs.{Apart, Lasting, Untouched, step_of, turn_renews, written, wrote, wrote_by}
 use Rattle.demand3_table.specs.Alike.{Alike}
-use Rattle.demand3.specs.Third.{Third, third}
+use Rattle.demand3.specs.Third.{Third}
+use Rattle.demand3.proofs.Third.{third}
 use Rattle.scope.specs.declared.decided.Class.{Class}
 use Rattle.scope.specs.declared.hosts.HostCall.{HostCall}
 use Rattle.isa_decoder.specs.declared.Trapped.{Trapped}

@@ -14,7 +14,7 @@ use Rattle.scope.specs.declared.traps.Reply.{Reply}
 use Rattle.scope.specs.Refusals.{refuses}
 use Rattle.scope.specs.Words.{asked_words, csrs_of, csrs_words, trap_left, unpack_of, waiting_count, waiting_left, waiting_words}
 use Rattle.in_place_record.specs.View.{record_of, view_of}
-use Rattle.in_place_record.specs.Laws.{over}
+use Rattle.in_place_record.proofs.Shown.{over}
 use Rattle.in_place_record.specs.Spelled.{spelled}
 
 -- the words of a record, and four waiting words
