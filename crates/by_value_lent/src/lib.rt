@@ -1,5 +1,6 @@
 // 01's thin entry: every call on a vCPU record behind one function, made where the host's record lies.
 #![tactic(auto)]
+
 ghost use Rattle.by_value_lent.specs.Lent.{Stored};
 
 use scope::{HostCall, Reply, Vcpu};
@@ -17,8 +18,9 @@ pub fn call_in_place(v: &mut Vcpu, c: HostCall) -> Given
 {
     let o = by_value_entry::call(*v, c);
     *v = o.vcpu;
+    let args = o.args;
     Given {
         reply: o.reply,
-        args: o.args,
+        args,
     }
 }

@@ -9,7 +9,7 @@ ghost use Rattle.by_value_posts.specs.Lent.{StoredRow};
 use decide_posts::Row;
 use scope::{Post, Posted, RowOutcome, Vcpu};
 
-// Sets or clears pending interrupts of the guest in order, up to the first that is refused. A walk by hand proves it.
+// Sets or clears pending interrupts of the guest in order, up to the first that is refused.
 pub fn post(v: Vcpu, posts: &[Post]) -> RowOutcome
     ensures { result ≡ posted_of v posts.now }
 {
@@ -18,7 +18,7 @@ pub fn post(v: Vcpu, posts: &[Post]) -> RowOutcome
     finish(v, row)
 }
 
-// The same on the host's record where it lies. A walk by hand proves it.
+// The same on the host's record where it lies.
 pub fn post_in_place(v: &mut Vcpu, posts: &[Post]) -> Posted
     ensures { StoredRow v.old posts.now v.new result }
 {

@@ -34,7 +34,7 @@ pub fn begin(hvip: u64, ask: u64) -> Row
     }
 }
 
-// The row, in order. A walk by hand proves it: the index stands here, and all else in the two functions that it calls.
+// The row, in order. The index stands here, and all else in the two functions that it calls.
 pub fn fold(s: Row, posts: &[Post]) -> Row
     requires { s.applied ≡ 0 }
     ensures { result ≡ fold_of s posts.now }

@@ -1,6 +1,7 @@
 // The entry for cost, general registers: calls on a vCPU record of 58 words where it lies, exported. The promise is the
 // by-value outcome; `in_place_record/specs/View.antt` has the meaning of the words.
 #![tactic(auto)]
+
 ghost use Rattle.scope.specs.Words.{call_by};
 ghost use Rattle.in_place_record.specs.View.{Done, Made};
 

@@ -2,6 +2,7 @@
 // it lies, exported. A host calls these. Each takes the by-value step's decisions and is promised the by-value outcome:
 // `in_place_record/specs/View.antt` has the meaning of the words.
 #![tactic(auto)]
+
 ghost use Rattle.std.specs.Prelude.{◌≡◌};
 ghost use Rattle.scope.specs.Calls.{printable};
 ghost use Rattle.scope.specs.Words.{call_by};

@@ -10,7 +10,7 @@ ghost use Rattle.in_place_record.specs.View.{MadeRow, view_of};
 use decide_posts::Row;
 use scope::{Post, Posted};
 
-// Sets or clears pending interrupts of the guest in order, up to the first that is refused. A walk by hand proves it.
+// Sets or clears pending interrupts of the guest in order, up to the first that is refused.
 #[unsafe(no_mangle)]
 pub extern "C" fn vcpu_post_row(r: &mut [u64; 58], posts: &[Post]) -> Posted
     ensures { MadeRow r.old posts.now r.new result }

@@ -2,6 +2,7 @@
 // A host calls these. Each takes the by-value step's decisions and is promised the by-value outcome: `in_place_record/specs/View.antt` has
 // the meaning of the words.
 #![tactic(auto)]
+
 ghost use Rattle.in_place_record.specs.View.{Made};
 ghost use Rattle.in_place_entry_trap.specs.Calls.{answer_call, start_call};
 

@@ -1,10 +1,13 @@
 // Replays a capture from standard input, or from the file that its first argument names, to standard output
 // (01, Replay program). It only reads, feeds and writes: crate replay_capture says what comes out.
 #![tactic(auto)]
+
 ghost use Rattle.std.specs.Prelude.{◌≤◌, length};
 
-use libc::{STDIN_FILENO, STDOUT_FILENO};
 use replay_scope::Progress;
+use std::env::{Env, FillError};
+use std::fs::{File, Files};
+use std::io::Read;
 
 // How a part of the work went, and the progress after it.
 #[derive(Drop)]
@@ -16,86 +19,98 @@ struct Went {
     failed: bool,
 }
 
-fn main() {
-    if os::arg_count() < 2 {
-        replay(STDIN_FILENO, b"standard input");
-        return;
+fn main(rt: HostRuntime) {
+    let mut path = [0u8; 4096];
+    match rt.arg(1, &mut path) {
+        Ok(length) => match str::from_utf8(&path[..length]) {
+            Ok(name) => replay_file(&rt, name),
+            Err(e) => {
+                let _ = eprintln!(rt; "the capture's name: {e}");
+            }
+        },
+        Err(FillError::NotPresent) => replay(&rt, rt.reader(), "standard input"),
+        Err(FillError::TooLong) => {
+            let _ = eprintln!(rt; "the capture's name: File name too long");
+        }
     }
-    let mut path = io::buffer();
-    let length = os::arg(1, &mut path);
-    if os::errno() != 0 {
-        os::fail(b"the capture's name");
-        return;
+}
+
+fn replay_file<R: Files + Print + Eprint>(rt: &R, name: &str) {
+    match File::open(rt, name) {
+        Ok(file) => replay(rt, file, name),
+        Err(e) => {
+            let _ = eprintln!(rt; "{name}: {e}");
+        }
     }
-    let fd = os::open_read(&path[..length]);
-    if fd < 0 {
-        os::fail(&path[..length]);
-        return;
-    }
-    replay(fd, &path[..length]);
-    libc::close(fd);
 }
 
 // The whole capture, and its end unless something failed.
-fn replay(fd: i32, name: &[u8]) {
-    let w = read_all(fd, name);
+fn replay<R: Print + Eprint, F: Read + Drop>(rt: &R, input: F, name: &str) {
+    let w = read_all(rt, input, name);
     if w.failed {
         return;
     }
     let p = w.progress;
-    finish(p);
+    finish(rt, p);
 }
 
 // Piece by piece. Nothing says that the input ends, so the loop has a bound: 2^64 - 1 reads.
-fn read_all(fd: i32, name: &[u8]) -> Went {
+fn read_all<R: Print + Eprint, F: Read + Drop>(rt: &R, input: F, name: &str) -> Went {
+    let mut file = input;
     let mut record = [0u64; 58];
     let mut w = Went {
         progress: replay_order::begin(&mut record),
         on: true,
         failed: false,
     };
-    let mut buffer = io::large_buffer();
-    let mut out = io::large_buffer();
+    let mut buffer = [0u8; 65536];
+    let mut out = [0u8; 65536];
     let mut turns = u64::MAX;
     while turns > 0 && w.on {
         let p = w.progress;
-        w = read_some(p, &mut record, fd, name, &mut buffer, &mut out);
+        w = read_some(rt, p, &mut record, &mut file, name, &mut buffer, &mut out);
         turns -= 1;
     }
     w
 }
 
 // One read, fed.
-fn read_some(
+fn read_some<R: Print + Eprint, F: Read>(
+    rt: &R,
     p: Progress,
     record: &mut [u64; 58],
-    fd: i32,
-    name: &[u8],
+    file: &mut F,
+    name: &str,
     buffer: &mut [u8; 65536],
     out: &mut [u8; 65536],
 ) -> Went {
-    let got = libc::read(fd, buffer);
-    if got < 0 {
-        os::fail(name);
-        return Went {
-            progress: p,
-            on: false,
-            failed: true,
-        };
-    }
-    if got == 0 {
-        return Went {
+    match file.read(buffer) {
+        Ok(0) => Went {
             progress: p,
             on: false,
             failed: false,
-        };
+        },
+        Ok(n) => feed(rt, p, record, buffer, n, out),
+        Err(e) => {
+            let _ = eprintln!(rt; "{name}: {e}");
+            Went {
+                progress: p,
+                on: false,
+                failed: true,
+            }
+        }
     }
-    let n = io::count(got, buffer);
-    feed(p, record, buffer, n, out)
 }
 
 // Feeds the first n bytes, and writes what they give.
-fn feed(p: Progress, record: &mut [u64; 58], bytes: &[u8], n: usize, out: &mut [u8; 65536]) -> Went
+fn feed<R: Print + Eprint>(
+    rt: &R,
+    p: Progress,
+    record: &mut [u64; 58],
+    bytes: &[u8],
+    n: usize,
+    out: &mut [u8; 65536],
+) -> Went
     requires { n ≤ length bytes.now }
 {
     let mut q = p;
@@ -105,7 +120,7 @@ fn feed(p: Progress, record: &mut [u64; 58], bytes: &[u8], n: usize, out: &mut [
         let e = f.end;
         q = f.progress;
         i += f.next;
-        if !say(out, e) {
+        if !say(rt, out, e) {
             return Went {
                 progress: q,
                 on: false,
@@ -121,19 +136,21 @@ fn feed(p: Progress, record: &mut [u64; 58], bytes: &[u8], n: usize, out: &mut [
 }
 
 // What the end of the capture gives.
-fn finish(p: Progress) {
+fn finish<R: Print + Eprint>(rt: &R, p: Progress) {
     let mut out = [0u8; 84];
     let e = replay_capture::write(replay_order::end(p), &mut out);
-    say(&out, e);
+    say(rt, &out, e);
 }
 
 // Writes the first n bytes to standard output, and answers whether that went well.
-fn say(bytes: &[u8], n: usize) -> bool
+fn say<R: Print + Eprint>(rt: &R, bytes: &[u8], n: usize) -> bool
     requires { n ≤ length bytes.now }
 {
-    if io::write_all(STDOUT_FILENO, &bytes[..n]) {
-        return true;
+    match rt.write_all(&bytes[..n]) {
+        Ok(()) => true,
+        Err(e) => {
+            let _ = eprintln!(rt; "standard output: {e}");
+            false
+        }
     }
-    os::fail(b"standard output");
-    false
 }

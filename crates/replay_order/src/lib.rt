@@ -1,6 +1,7 @@
 // The order of a capture's lines, and what each does (01, Replay program): a state between two bytes, whose record lies in
 // 58 lent words, takes what was read of its line.
 #![tactic(auto)]
+
 ghost use Rattle.std.specs.Prelude.{◌≡◌};
 ghost use Rattle.in_place_record.specs.View.{view_of};
 ghost use Rattle.replay_scope.specs.Output.{after_header, begun, end_gives, followed_by, got_of, headed_of, keeping, line_does, may_end, read_to};

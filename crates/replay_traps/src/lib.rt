@@ -1,6 +1,7 @@
 // What a trap's last line, an answer and an unfit line of a capture do to the replay (01, Replay program): the record is
 // changed where it lies, as 58 lent words, and the output gets a trap's four lines or the number of the unfit one.
 #![tactic(auto)]
+
 ghost use Rattle.std.specs.Prelude.{◌≡◌};
 ghost use Rattle.scope.specs.declared.machine.Outcome.{Outcome};
 ghost use Rattle.scope.specs.Record.{is_idle, waiting_ask};

@@ -72,8 +72,7 @@ fn hex_digit(b: u8) -> u64
 fn says(line: &[u8; 136], at: usize, n: u64, last: bool) -> bool
     requires { at ≤ 119 }
 {
-    let mut text = [0u8; 16];
-    io::hex(n, 16, &mut text);
+    let text = hex(n);
     let mut i: usize = 0;
     while i < 16 {
         if line[at + i] != text[i] {
@@ -83,4 +82,27 @@ fn says(line: &[u8; 136], at: usize, n: u64, last: bool) -> bool
     }
     let after = if last { b'\n' } else { b' ' };
     line[at + 16] == after
+}
+
+// The 16 digits of a number, in lower case.
+fn hex(n: u64) -> [u8; 16] {
+    let mut text = [0u8; 16];
+    let mut rest = n;
+    let mut i: usize = 16;
+    while i > 0 {
+        i -= 1;
+        text[i] = hex_ascii(rest % 16);
+        rest /= 16;
+    }
+    text
+}
+
+fn hex_ascii(d: u64) -> u8
+    requires { d < 16 }
+{
+    if d < 10 {
+        b'0' + d as u8
+    } else {
+        b'a' - 10 + d as u8
+    }
 }

@@ -2,38 +2,51 @@
 // A line is a call's six words, what it returns, and the sum of what it gives and of the record after it, each of 16 hex digits;
 // docs/CALLS.md says what they mean.
 #![tactic(auto)]
-use libc::STDOUT_FILENO;
+
+ghost use Rattle.std.specs.Prelude.{◌≤◌, length};
+
+use std::env::Env;
+use std::fs::{File, Files};
+use std::io::Read;
 
 // A list that never ends is cut here.
 const MOST_LINES: u64 = 100_000;
 
 // The first argument names the list; the second a list whose lines are all wrong, each in one byte, which shows that the comparison
 // can say so.
-fn main() {
-    named(1);
-    named(2);
+fn main(rt: HostRuntime) {
+    named(&rt, 1);
+    named(&rt, 2);
 }
 
-fn named(argument: usize) {
+fn named<R: Env + Files + Print + Eprint>(rt: &R, argument: usize) {
     let mut space = [0u8; 16];
-    let n = os::arg(argument, &mut space);
-    let fd = os::open_read(&space[..n]);
-    if fd < 0 {
-        os::fail(&space[..n]);
-        return;
+    let name = name_of(rt, argument, &mut space);
+    match File::open(rt, name) {
+        Ok(file) => run(rt, file),
+        Err(e) => {
+            let _ = eprintln!(rt; "{name}: {e}");
+        }
     }
-    run(fd);
-    libc::close(fd);
+}
+
+// The name that an argument gives, if there is one that fits. Else no name, and no file has none.
+fn name_of<'a, R: Env>(rt: &R, argument: usize, space: &'a mut [u8]) -> &'a str {
+    match rt.arg(argument, space) {
+        Ok(n) => str::from_utf8(&space[..n]).unwrap_or(""),
+        Err(_) => "",
+    }
 }
 
 // Runs the list from a record of zeros, and writes its lines and how many of them are wrong.
-fn run(fd: i32) {
+fn run<R: Print, F: Read + Drop>(rt: &R, list: F) {
+    let mut file = list;
     let mut r = [0u64; 58];
     let mut lines: u64 = 0;
     let mut wrong: u64 = 0;
     while lines < MOST_LINES {
         let mut line = [0u8; 136];
-        let n = io::read_full(fd, &mut line);
+        let n = read_full(&mut file, &mut line);
         if n == 0 {
             break;
         }
@@ -41,11 +54,26 @@ fn run(fd: i32) {
         let right = line_on(&mut r, &line);
         if n != 136 || !right {
             wrong = std::num::wrapping_add_u64(wrong, 1);
-            print(b"wrong line ", lines);
+            print(rt, "wrong line ", lines);
         }
     }
-    print(b"lines ", lines);
-    print(b"wrong ", wrong);
+    print(rt, "lines ", lines);
+    print(rt, "wrong ", wrong);
+}
+
+// Reads until the bytes are full, the input ends or a read fails, and says how many were read.
+fn read_full<F: Read>(file: &mut F, bytes: &mut [u8]) -> usize
+    ensures { result ≤ length bytes.new }
+{
+    let mut done: usize = 0;
+    while done < bytes.len() {
+        let n = file.read(&mut bytes[done..]).unwrap_or(0);
+        if n == 0 {
+            break;
+        }
+        done += n;
+    }
+    done
 }
 
 // Makes a line's call. The line must be spelled as its own six words and what the call gave are.
@@ -132,8 +160,6 @@ fn sum(r: &[u64; 58], out: &[u64; 8]) -> u64 {
     test_call_lines::all(test_call_lines::all(0, out), r)
 }
 
-fn print(what: &[u8], n: u64) {
-    io::write_all(STDOUT_FILENO, what);
-    io::print_decimal(STDOUT_FILENO, n);
-    io::write_all(STDOUT_FILENO, b"\n");
+fn print<R: Print>(rt: &R, what: &str, n: u64) {
+    let _ = println!(rt; "{what}{n}");
 }

@@ -14,7 +14,7 @@ pub fn posted(r: &mut [u64; 58], out: &mut [u64; 8], words: [u64; 8]) -> u64 {
     std::num::wrapping_add_u64(0x100, p.refusal)
 }
 
-// Lends the first n posts to the call. A walk by hand proves it, so it does nothing else.
+// Lends the first n posts to the call.
 fn lent(r: &mut [u64; 58], posts: [Post; 64], n: usize) -> Posted
     requires { n ≤ 64 }
 {

@@ -1,11 +1,13 @@
 // Replays the captures that its arguments name and compares each output with the expected one, byte for byte. For an
 // argument NAME the capture is NAME.capture and its output NAME.replay; docs/CAPTURES.md says where both come from.
 #![tactic(auto)]
+
 ghost use Rattle.std.specs.Prelude.{◌≡◌, ◌≤◌, length, take};
-ghost use Rattle.io.specs.Counts.{IsPrefixLen};
 ghost use Rattle.test_replays.specs.Judged.{Judged};
 
-use libc::STDOUT_FILENO;
+use std::env::{Env, FillError};
+use std::fs::{File, Files};
+use std::io::Read;
 
 // What came of one capture.
 #[derive(Drop)]
@@ -15,62 +17,80 @@ enum Verdict {
     Differs(usize),
 }
 
-fn main() {
-    let n = os::arg_count();
+fn main(rt: HostRuntime) {
+    let n = arg_count(&rt);
     let mut i: usize = 1;
     let mut different: usize = 0;
     while i < n {
-        different += differs(i);
+        different += differs(&rt, i);
         i += 1;
     }
-    print(i - 1, b" captures, ");
-    print(different, b" different\n");
+    print(&rt, i - 1, " captures, ");
+    print(&rt, different, " different\n");
+}
+
+// How many arguments there are, the program's name among them.
+fn arg_count<R: Env>(rt: &R) -> usize
+    ensures { 1 ≤ result }
+{
+    let mut n: usize = 1;
+    while n < usize::MAX {
+        if !is_there(rt, n) {
+            break;
+        }
+        n += 1;
+    }
+    n
+}
+
+fn is_there<R: Env>(rt: &R, argument: usize) -> bool {
+    !matches!(rt.arg(argument, &mut []), Err(FillError::NotPresent))
 }
 
 // 1 if the output of the capture that an argument names is not the expected one.
-fn differs(argument: usize) -> usize
+fn differs<R: Env + Files + Print + Eprint>(rt: &R, argument: usize) -> usize
     ensures { result ≤ 1 }
 {
-    if is_same(argument) {
+    if is_same(rt, argument) {
         return 0;
     }
     1
 }
 
-fn is_same(argument: usize) -> bool {
-    let mut name = io::buffer();
-    let n = os::arg(argument, &mut name);
-    if os::errno() != 0 {
-        os::fail(b"the name of a capture");
+fn is_same<R: Env + Files + Print + Eprint>(rt: &R, argument: usize) -> bool {
+    let mut space = [0u8; 4096];
+    let Ok(n) = rt.arg(argument, &mut space) else {
+        let _ = eprintln!(rt; "the name of a capture: File name too long");
         return false;
+    };
+    match str::from_utf8(&space[..n]) {
+        Ok(name) => replay(rt, name),
+        Err(e) => {
+            let _ = eprintln!(rt; "the name of a capture: {e}");
+            false
+        }
     }
-    replay(&name[..n])
 }
 
-fn replay(name: &[u8]) -> bool {
-    let fd = open(name, b".capture");
-    let mut space = io::large_buffer();
-    let n = io::read_full(fd, &mut space);
-    libc::close(fd);
-    hold(name, &space[..n])
+fn replay<R: Files + Print + Eprint>(rt: &R, name: &str) -> bool {
+    let mut space = [0u8; 65536];
+    let n = read(rt, name, ".capture", &mut space);
+    hold(rt, name, &space[..n])
 }
 
 // Holds the capture's output against the expected one, and says where it differs.
-fn hold(name: &[u8], capture: &[u8]) -> bool {
-    let fd = open(name, b".replay");
-    let mut space = io::large_buffer();
-    let n = io::read_full(fd, &mut space);
-    libc::close(fd);
-    is_told_same(name, judge(capture, &space[..n]))
+fn hold<R: Files + Print + Eprint>(rt: &R, name: &str, capture: &[u8]) -> bool {
+    let mut space = [0u8; 65536];
+    let n = read(rt, name, ".replay", &mut space);
+    is_told_same(rt, name, judge(capture, &space[..n]))
 }
 
-fn is_told_same(name: &[u8], v: Verdict) -> bool {
+fn is_told_same<R: Print>(rt: &R, name: &str, v: Verdict) -> bool {
     match v {
         Verdict::Same => true,
         Verdict::Differs(at) => {
-            io::write_all(STDOUT_FILENO, name);
-            io::write_all(STDOUT_FILENO, b": byte ");
-            print(at, b" of the output differs\n");
+            let _ = print!(rt; "{name}: byte ");
+            print(rt, at, " of the output differs\n");
             false
         }
     }
@@ -80,7 +100,7 @@ fn is_told_same(name: &[u8], v: Verdict) -> bool {
 fn judge(capture: &[u8], expected: &[u8]) -> Verdict
     ensures { Judged capture.now expected.now result }
 {
-    let mut out = io::large_buffer();
+    let mut out = [0u8; 65536];
     let mut record = [0u64; 58];
     let p = replay_order::begin(&mut record);
     let f = replay_capture::fill(p, &mut record, capture, &mut out);
@@ -122,22 +142,54 @@ fn agree(a: &[u8], b: &[u8]) -> usize
     i
 }
 
-// Opens NAME.capture or NAME.replay.
-fn open(name: &[u8], kind: &[u8]) -> i32 {
-    let mut path = io::buffer();
-    let n = append(name, &mut path, 0);
-    let e = append(kind, &mut path, n);
-    let fd = os::open_read(&path[..e]);
-    if fd < 0 {
-        os::fail(&path[..e]);
+// Reads the front of NAME.capture or NAME.replay, as much as has room, and says how much that is. A file that is missing is empty.
+fn read<R: Files + Eprint>(rt: &R, name: &str, kind: &str, space: &mut [u8; 65536]) -> usize
+    ensures { result ≤ length space.new }
+{
+    match open(rt, name, kind) {
+        Some(file) => read_full(file, space),
+        None => 0,
     }
-    fd
+}
+
+// Opens NAME.capture or NAME.replay.
+fn open<R: Files + Eprint>(rt: &R, name: &str, kind: &str) -> Option<R::File> {
+    let mut path = [0u8; 4096];
+    let n = append(name.as_bytes(), &mut path, 0);
+    let e = append(kind.as_bytes(), &mut path, n);
+    let Ok(path) = str::from_utf8(&path[..e]) else {
+        let _ = eprintln!(rt; "{name}{kind}: File name too long");
+        return None;
+    };
+    match File::open(rt, path) {
+        Ok(file) => Some(file),
+        Err(e) => {
+            let _ = eprintln!(rt; "{path}: {e}");
+            None
+        }
+    }
+}
+
+// Reads until the bytes are full, the input ends or a read fails, and says how many were read.
+fn read_full<F: Read + Drop>(input: F, bytes: &mut [u8]) -> usize
+    ensures { result ≤ length bytes.new }
+{
+    let mut file = input;
+    let mut done: usize = 0;
+    while done < bytes.len() {
+        let n = file.read(&mut bytes[done..]).unwrap_or(0);
+        if n == 0 {
+            break;
+        }
+        done += n;
+    }
+    done
 }
 
 // Copies bytes to a place of the buffer, as many as have room there, and says where they end.
 fn append(from: &[u8], out: &mut [u8], at: usize) -> usize
     requires { at ≤ length out.old }
-    ensures { IsPrefixLen result out.new }
+    ensures { (result ≤ length out.new) × (result ≡ length (take result out.new)) }
 {
     let mut i: usize = 0;
     let mut e = at;
@@ -152,7 +204,6 @@ fn append(from: &[u8], out: &mut [u8], at: usize) -> usize
     e
 }
 
-fn print(n: usize, text: &[u8]) {
-    io::print_decimal(STDOUT_FILENO, n as u64);
-    io::write_all(STDOUT_FILENO, text);
+fn print<R: Print>(rt: &R, n: usize, text: &str) {
+    let _ = print!(rt; "{n}{text}");
 }

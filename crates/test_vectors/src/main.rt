@@ -2,17 +2,19 @@
 // docs/VECTORS.md says what a line of each list is.
 #![tactic(auto)]
 
-ghost use Rattle.std.specs.Prelude.{◌+◌, ◌<◌, ◌≤◌};
+ghost use Rattle.std.specs.Prelude.{◌+◌, ◌<◌, ◌≤◌, length};
 
 use isa_decoder::{Decoded, Trapped};
 use isa_types::Width;
-use libc::STDOUT_FILENO;
+use std::env::Env;
+use std::fs::{File, Files};
+use std::io::Read;
 
 // A list that never ends is cut here.
 const MOST_LINES: u64 = 100_000;
 
 // What a line of a list is.
-#[derive(Drop)]
+#[derive(Clone, Copy)]
 enum List {
     // An input and the expected answer, each of 16 hex digits.
     Pairs(Task),
@@ -23,7 +25,7 @@ enum List {
 }
 
 // What is done with the input of a pair.
-#[derive(Drop)]
+#[derive(Clone, Copy)]
 enum Task {
     Decode,
     Fetched,
@@ -42,53 +44,61 @@ enum Line {
 }
 
 // The arguments name the lists, in this order.
-fn main() {
-    pairs(1, Task::Decode);
-    pairs(2, Task::Fetched);
-    pairs(3, Task::Htinst);
-    pairs(4, Task::Load(Width::Byte, true));
-    pairs(5, Task::Load(Width::Half, true));
-    pairs(6, Task::Load(Width::Word, true));
-    pairs(7, Task::Load(Width::Double, true));
-    pairs(8, Task::Load(Width::Byte, false));
-    pairs(9, Task::Load(Width::Half, false));
-    pairs(10, Task::Load(Width::Word, false));
-    pairs(11, Task::Store(Width::Byte));
-    pairs(12, Task::Store(Width::Half));
-    pairs(13, Task::Store(Width::Word));
-    pairs(14, Task::Store(Width::Double));
+fn main(rt: HostRuntime) {
+    pairs(&rt, 1, Task::Decode);
+    pairs(&rt, 2, Task::Fetched);
+    pairs(&rt, 3, Task::Htinst);
+    pairs(&rt, 4, Task::Load(Width::Byte, true));
+    pairs(&rt, 5, Task::Load(Width::Half, true));
+    pairs(&rt, 6, Task::Load(Width::Word, true));
+    pairs(&rt, 7, Task::Load(Width::Double, true));
+    pairs(&rt, 8, Task::Load(Width::Byte, false));
+    pairs(&rt, 9, Task::Load(Width::Half, false));
+    pairs(&rt, 10, Task::Load(Width::Word, false));
+    pairs(&rt, 11, Task::Store(Width::Byte));
+    pairs(&rt, 12, Task::Store(Width::Half));
+    pairs(&rt, 13, Task::Store(Width::Word));
+    pairs(&rt, 14, Task::Store(Width::Double));
     // the same list twice: the upper 16 bits of a fetched word, here all 0 and all 1, are not looked at
-    run(15, List::Packed(0));
-    run(16, List::Packed(0xffff_0000));
-    run(17, List::Executed);
+    run(&rt, 15, List::Packed(0));
+    run(&rt, 16, List::Packed(0xffff_0000));
+    run(&rt, 17, List::Executed);
     // every line of these is wrong, and all but one in one byte alone: they show that each comparison can say so
-    pairs(18, Task::Decode);
-    run(19, List::Packed(0x4000));
-    run(20, List::Executed);
+    pairs(&rt, 18, Task::Decode);
+    run(&rt, 19, List::Packed(0x4000));
+    run(&rt, 20, List::Executed);
 }
 
-fn pairs(argument: usize, task: Task) {
-    run(argument, List::Pairs(task));
+fn pairs<R: Env + Files + Print + Eprint>(rt: &R, argument: usize, task: Task) {
+    run(rt, argument, List::Pairs(task));
 }
 
 // Compares one list, and writes its name, its lines and how many of them are wrong.
-fn run(argument: usize, list: List) {
+fn run<R: Env + Files + Print + Eprint>(rt: &R, argument: usize, list: List) {
     let mut space = [0u8; 16];
-    let n = os::arg(argument, &mut space);
-    let fd = os::open_read(&space[..n]);
-    if fd < 0 {
-        os::fail(&space[..n]);
-        return;
+    let name = name_of(rt, argument, &mut space);
+    match File::open(rt, name) {
+        Ok(file) => compare(rt, file, name, list),
+        Err(e) => {
+            let _ = eprintln!(rt; "{name}: {e}");
+        }
     }
-    compare(fd, &space[..n], list);
-    libc::close(fd);
 }
 
-fn compare(fd: i32, name: &[u8], list: List) {
+// The name that an argument gives, if there is one that fits. Else no name, and no file has none.
+fn name_of<'a, R: Env>(rt: &R, argument: usize, space: &'a mut [u8]) -> &'a str {
+    match rt.arg(argument, space) {
+        Ok(n) => str::from_utf8(&space[..n]).unwrap_or(""),
+        Err(_) => "",
+    }
+}
+
+fn compare<R: Print, F: Read + Drop>(rt: &R, lines_of: F, name: &str, list: List) {
+    let mut file = lines_of;
     let mut lines: u64 = 0;
     let mut wrong: u64 = 0;
     while lines < MOST_LINES {
-        match next_line(fd, list, lines) {
+        match next_line(&mut file, list, lines) {
             Line::End => break,
             Line::Right => {
                 lines += 1;
@@ -96,21 +106,21 @@ fn compare(fd: i32, name: &[u8], list: List) {
             Line::Wrong => {
                 lines += 1;
                 wrong += 1;
-                print(name, b": wrong line ", lines);
+                print(rt, name, ": wrong line ", lines);
             }
         }
     }
-    print(name, b": lines ", lines);
-    print(name, b": wrong ", wrong);
+    print(rt, name, ": lines ", lines);
+    print(rt, name, ": wrong ", wrong);
 }
 
 // Reads a line, which so many stand before, and compares it: its inputs, spelled anew, and the answers must be its very bytes.
-fn next_line(fd: i32, list: List, before: u64) -> Line
+fn next_line<F: Read>(file: &mut F, list: List, before: u64) -> Line
     requires { before < 100000 }
 {
     let mut line = [0u8; 241];
     let size = line_size(list);
-    let n = io::read_full(fd, &mut line[..size]);
+    let n = read_full(file, &mut line[..size]);
     if n == 0 {
         return Line::End;
     }
@@ -118,6 +128,21 @@ fn next_line(fd: i32, list: List, before: u64) -> Line
         return Line::Right;
     }
     Line::Wrong
+}
+
+// Reads until the bytes are full, the input ends or a read fails, and says how many were read.
+fn read_full<F: Read>(file: &mut F, bytes: &mut [u8]) -> usize
+    ensures { result ≤ length bytes.new }
+{
+    let mut done: usize = 0;
+    while done < bytes.len() {
+        let n = file.read(&mut bytes[done..]).unwrap_or(0);
+        if n == 0 {
+            break;
+        }
+        done += n;
+    }
+    done
 }
 
 fn line_size(list: List) -> usize
@@ -264,8 +289,7 @@ fn spells(line: &[u8; 241], at: usize, digits: usize, n: u64) -> bool
     requires digits_bound { digits ≤ 16 }
     requires digits_bound_2 { at + digits ≤ 241 }
 {
-    let mut text = [0u8; 16];
-    io::hex(n, digits, &mut text);
+    let text = hex(n, digits);
     let mut i: usize = 0;
     while i < digits {
         if line[at + i] != text[i] {
@@ -276,9 +300,31 @@ fn spells(line: &[u8; 241], at: usize, digits: usize, n: u64) -> bool
     true
 }
 
-fn print(name: &[u8], what: &[u8], n: u64) {
-    io::write_all(STDOUT_FILENO, name);
-    io::write_all(STDOUT_FILENO, what);
-    io::print_decimal(STDOUT_FILENO, n);
-    io::write_all(STDOUT_FILENO, b"\n");
+// The last digits of a number, so many, in lower case.
+fn hex(n: u64, digits: usize) -> [u8; 16]
+    requires { digits ≤ 16 }
+{
+    let mut text = [0u8; 16];
+    let mut rest = n;
+    let mut i = digits;
+    while i > 0 {
+        i -= 1;
+        text[i] = hex_ascii(rest % 16);
+        rest /= 16;
+    }
+    text
+}
+
+fn hex_ascii(d: u64) -> u8
+    requires { d < 16 }
+{
+    if d < 10 {
+        b'0' + d as u8
+    } else {
+        b'a' - 10 + d as u8
+    }
+}
+
+fn print<R: Print>(rt: &R, name: &str, what: &str, n: u64) {
+    let _ = println!(rt; "{name}{what}{n}");
 }

@@ -1,6 +1,7 @@
 // The entry as the host's compiler sees it: one exported function over words. words_record has the record, and words_call
 // a call and what it gives back.
 #![tactic(auto)]
+
 ghost use Rattle.std.specs.Prelude.{◌≡◌};
 ghost use Rattle.words_entry.specs.Words.{Exported, exported_of};
 

@@ -1,5 +1,6 @@
 // A row of posts as the host's compiler sees it: one exported function over words. words_record has the record. 02, W4.
 #![tactic(auto)]
+
 ghost use Rattle.std.specs.Prelude.{◌≡◌};
 ghost use Rattle.scope.specs.Words.{laid_with};
 ghost use Rattle.words_entry_posts.specs.Words.{ExportedRow, exported_row};
@@ -13,8 +14,7 @@ pub struct AfterRow {
     pub posted: Posted,
 }
 
-// Sets or clears pending interrupts of the guest in order, up to the first that is refused, on the host's record where it lies. A
-// walk by hand proves it.
+// Sets or clears pending interrupts of the guest in order, up to the first that is refused, on the host's record where it lies.
 #[unsafe(no_mangle)]
 pub extern "C" fn vcpu_call_posts(v: &mut Record, posts: &[Post]) -> Posted
     ensures { ExportedRow v.old posts.now v.new result }
@@ -24,7 +24,7 @@ pub extern "C" fn vcpu_call_posts(v: &mut Record, posts: &[Post]) -> Posted
     o.posted
 }
 
-// The same by value. A walk by hand proves it.
+// The same by value.
 pub fn post(r: Record, posts: &[Post]) -> AfterRow
     ensures { result ≡ exported_row r posts.now }
 {

@@ -1,0 +1,11 @@
+use mathlib.Core.Path.{refl}
+use Rattle.scope.specs.Words.{call_by, waiting_left}
+use Rattle.in_place_record.specs.Steps.{host_leaves}
+use Rattle.in_place_record.proofs.Cleared.{settled}
+use mathlib.Core.Path.{refl}
+use Rattle.scope.specs.declared.hosts.HostCall.TheVariants as hostCall
+use Rattle.in_place_entry_interrupts.proofs.vcpu_set_pending.Goals as goal
+
+pub returns : goal.returns
+unfolding call_by host_leaves waiting_left
+returns c = settled (hostCall.SetPending _ _) (λ o. refl) (rw c.test.ensures at c.set_pending.ensures)

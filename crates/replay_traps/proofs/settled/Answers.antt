@@ -1,0 +1,12 @@
+use Rattle.std.proofs.Common.{refl, rules}
+use Rattle.replay_scope.specs.Output.{saying}
+use Rattle.replay_traps.specs.Laws.{trap_over, word_follows}
+use Rattle.replay_traps.proofs.settled.Goals as goal
+
+pub returns-then-idle : goal.returns-then-idle
+unfolding saying
+returns-then-idle c = λ i. trap_over (saying c.args.p c.args.exit) _ _ _ c.sized.ensures c.follow.ensures refl c.if-idle.true i
+
+pub returns : goal.returns
+unfolding saying
+returns c = λ i. word_follows (saying c.args.p c.args.exit) _ _ _ c.follow-2.ensures refl c.if-idle.false i
