@@ -2,6 +2,5 @@ pub mod Left
 pub mod First
 pub mod Third
 pub mod Places
-pub mod One
 pub mod Back
 pub mod Demands

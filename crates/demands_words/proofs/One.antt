@@ -1,11 +1,12 @@
 -- Only one outcome fits the promises in place: two that meet one are equal, in all 58 words.
-use Rattle.std.specs.Prelude.{ℕ, List, ◌≡◌, drop, length}
+use Rattle.std.specs.Prelude.{ℕ, List, ◌≡◌, length}
 use Rattle.std.proofs.Common.{sym, ◌∙◌}
 use Rattle.scope.specs.declared.hosts.HostCall.{HostCall}
 use Rattle.scope.specs.declared.hosts.Post.{Post}
 use Rattle.scope.specs.declared.hosts.Posted.{Posted}
 use Rattle.in_place_record.specs.View.{Done, Made, MadeRow}
-use Rattle.demands_words.specs.Places.{does, gives, leads, posts, one_place, use_turn}
+use Rattle.demands_words.specs.Places.{does, gives, posts, use_turn}
+use Rattle.demands_words.proofs.Places.{leads, one_place}
 
 pub one_made : (entry : List ℕ) (c : HostCall) (r₁ r₂ p₁ p₂ : List ℕ) (w₁ w₂ : ℕ) → length entry ≡ 58
     → Made entry c r₁ p₁ w₁ → Made entry c r₂ p₂ w₂ → (r₁ ≡ r₂) × (p₁ ≡ p₂) × (w₁ ≡ w₂)

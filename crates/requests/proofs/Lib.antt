@@ -1,0 +1,11 @@
+pub mod Kept
+pub mod HvipRows
+pub mod Hvip
+pub mod Mode
+pub mod SetTimer
+pub mod TickDropped
+pub mod Decided
+pub mod Meaning
+pub mod Compressed
+pub mod Posts
+pub mod Injection
