@@ -1,5 +1,6 @@
 // A row of posts, as a line of the fixed list of calls holds it; docs/CALLS.md says how.
 #![tactic(auto)]
+
 ghost use Rattle.std.specs.Prelude.{◌<◌, ◌≤◌};
 
 use scope::{Post, Posted};
