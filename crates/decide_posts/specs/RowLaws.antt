@@ -4,7 +4,7 @@ use Rattle.std.proofs.Common.{ap, sym, ◌∙◌}
 use Rattle.isa_registers.specs.Bits.{with_bits}
 use Rattle.isa_types.specs.Pick.{pick}
 use Rattle.scope.specs.Host.{hvip_bit_of}
-use Rattle.scope.specs.Posts.{one_by_one, posted_of, row_of}
+use Rattle.scope.specs.Posts.{one_by_one, posted_of}
 use Rattle.scope.specs.PostsLaws.{Free, hvip_by, post_applied, post_refused, row_free, row_refused, still_free, with_hvip}
 use Rattle.scope.specs.Record.{pended, waiting_ask}
 use Rattle.scope.specs.Refusals.{error_number}

@@ -13,7 +13,6 @@ use Rattle.scope.specs.Words.{csrs_of, unpack_of}
 use Rattle.scope.specs.declared.hosts.Post.{Post}
 use Rattle.scope.specs.declared.hosts.Posted.{Posted}
 use Rattle.scope.specs.declared.machine.RowOutcome.{RowOutcome}
-use Rattle.scope.specs.declared.machine.Vcpu.{Vcpu}
 use Rattle.in_place_entry_posts.specs.Row.{given_of}
 
 -- word 42 is hvip

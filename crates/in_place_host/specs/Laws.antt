@@ -1,6 +1,6 @@
 -- Through the view, the host's calls on words are those on the record.
-use Rattle.std.specs.Prelude.{ℕ, Bool, true, false, List, ◌≡◌, refl, drop, get_or, length, set, eqb}
-use Rattle.std.proofs.Common.{ap, sym, subst, ◌∙◌, drop-set-lt, arith, eqb-true}
+use Rattle.std.specs.Prelude.{ℕ, Bool, true, false, List, ◌≡◌, refl, drop, length, set, eqb}
+use Rattle.std.proofs.Common.{ap, sym, subst, ◌∙◌, drop-set-lt, arith}
 use Rattle.std.proofs.lemmas.List.Edits.{sets}
 use Rattle.isa_types.specs.Pick.{pick}
 use Rattle.scope.specs.Refusals.{error_number, done_of, refused_of, unless_asking, leaves_of}
@@ -10,19 +10,16 @@ use Rattle.scope.specs.declared.machine.Effect.{Effect}
 use Rattle.scope.specs.declared.machine.Event.TheVariants as event
 use Rattle.scope.specs.declared.machine.Vcpu.{Vcpu}
 use Rattle.scope.specs.declared.machine.Waiting.{Waiting}
-use Rattle.scope.specs.declared.machine.Waiting.TheVariants as waiting
 use Rattle.scope.specs.declared.machine.Writes.{Writes}
 use Rattle.scope.specs.declared.machine.Writes.TheVariants as writes
 use Rattle.scope.specs.Record.{bumped, counted, event_number, listed, stored, waiting_ask, applied, no_args}
-use Rattle.scope.specs.Words.{csrs_of, csrs_words, unpack_of, waiting_by, waiting_of}
+use Rattle.scope.specs.Words.{csrs_of, csrs_words, unpack_of, waiting_of}
 use Rattle.in_place_record.specs.Steps.{Settled, host_leaves}
 use Rattle.in_place_record.specs.View.{record_of, view_of}
 use Rattle.scope.specs.ReplyWords.{reply_word}
 use Rattle.in_place_record.proofs.Shown.{over, put_keeps, put_shows, same}
-use Rattle.in_place_record.proofs.Laws.{waiting_words_lem}
 use Rattle.in_place_record.specs.Spelled.{spelled}
 use Rattle.in_place_host.specs.Host.{Keeps, host_words, write_words}
-use Rattle.scope.specs.declared.machine.EcallAsk.TheVariants as asked
 
 -- the CSRs written show as written
 csrs_spelled : (k : List ℕ) (c : Csrs) → let r : List ℕ = spelled 58 0 k in

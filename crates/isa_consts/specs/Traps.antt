@@ -1,5 +1,5 @@
 -- Trap causes and interrupt vectors. PRIV, 'Supervisor Cause Register' and 'Hypervisor Extension'; 01, Classes.
-use Rattle.std.specs.Prelude.{ℕ, ◌+◌, ◌-◌, ◌^◌, Bool, true, false, eqb, leb, ltb}
+use Rattle.std.specs.Prelude.{ℕ, ◌+◌, ◌-◌, ◌^◌, Bool, true, eqb, leb, ltb}
 use Rattle.isa_types.specs.Pick.{pick, or}
 
 -- scause: the interrupt bit

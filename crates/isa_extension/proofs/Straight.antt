@@ -1,5 +1,5 @@
 -- The number cut, and the bits above it where it stands for a negative one, are the number extended: once for any size.
-use Rattle.std.proofs.Common.{◌≡◌, ℕ, ◌+◌, ◌-◌, ◌/◌, ◌%◌, ◌^◌, ◌<◌, ◌≤◌, Bool, true, false, ltb, sym, refl, ap, ◌∙◌, add-zero, mod-lt, mod-eq_of_lt, arith, ltb-false}
+use Rattle.std.proofs.Common.{◌≡◌, ℕ, ◌+◌, ◌-◌, ◌/◌, ◌%◌, ◌^◌, ◌<◌, ◌≤◌, Bool, true, false, ltb, refl, ap, ◌∙◌, add-zero, mod-lt, mod-eq_of_lt, arith, ltb-false}
 use lib.Bits.{and_mask, bit_and}
 use Rattle.isa_types.specs.Pick.{pick}
 use Rattle.isa_types.specs.declared.Width.{Width}

@@ -1,8 +1,5 @@
 -- What a load of any width leaves in its register, as laws. ISA, 'Load and Store Instructions'.
-use Rattle.std.specs.Prelude.{◌≡◌, ℕ, ◌+◌, ◌-◌, ◌%◌, ◌^◌, ◌<◌, ◌≤◌, Bool, true, false, nat_lt, refl}
-use Rattle.std.proofs.Common.{ap, ◌∙◌}
-use Rattle.std.proofs.Math.Nat.{mod-mod}
-use Rattle.isa_types.specs.Pick.{pick}
+use Rattle.std.specs.Prelude.{◌≡◌, ℕ, ◌+◌, ◌-◌, ◌^◌, true, false, nat_lt, refl}
 use Rattle.isa_types.specs.declared.Width.{Width}
 use Rattle.isa_extension.specs.Extend.{cut_of, extend_by, extend_of, signed_by, width_bits}
 

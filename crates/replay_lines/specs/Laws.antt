@@ -1,11 +1,11 @@
 -- Laws of reading: one byte at a time, and a whole line at once.
-use Rattle.std.specs.Prelude.{ℕ, zero, suc, ◌+◌, ◌-◌, ◌*◌, ◌≤◌, ◌<◌, List, [], ◌∷◌, ◌++◌, ◌≡◌, refl, drop, get_or, length, take}
+use Rattle.std.specs.Prelude.{ℕ, zero, suc, ◌+◌, ◌-◌, ◌*◌, ◌≤◌, ◌<◌, List, [], ◌≡◌, refl, drop, get_or, length, take}
 use Rattle.std.proofs.Common.{add-one, arith, sym, ap, ◌∙◌, subst, drop_of_length-le, drop-cons}
 use Rattle.replay_scope.specs.declared.Got.{Got}
 use Rattle.replay_scope.specs.declared.Got.TheVariants as got
 use Rattle.replay_scope.specs.Lines.{four_at, line_of}
 use Rattle.replay_lines.specs.declared.Part.{Part}
-use Rattle.replay_lines.specs.Read.{Read, Taken, after, taken_of}
+use Rattle.replay_lines.specs.Read.{Read, after, taken_of}
 
 -- one byte of the slice
 pub taken_next : (key s : List ℕ) (a w i : ℕ) (g : Got) → i < length s → line_of key a w (get_or s i 0) ≡ g

@@ -1,6 +1,6 @@
 -- Every call on a record, as one definition. 01, One trap and The record. new, SetEntry and
 -- SetReturnValue are calls of the Rust that 01 doesn't name: docs/DECISIONS.md.
-use Rattle.std.specs.Prelude.{ℕ, List, [], ltb, leb, replicate, set, length, take}
+use Rattle.std.specs.Prelude.{ℕ, List, ltb, leb, replicate, set, length, take}
 use Rattle.std.specs.Int.Bits.{bit_or}
 use Rattle.isa_types.specs.Pick.{pick}
 use Rattle.scope.specs.declared.hosts.HostCall.TheVariants as hostCall

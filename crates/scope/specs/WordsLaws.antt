@@ -1,5 +1,5 @@
 -- The numbers of a case are its own, and the words of any record read back as it.
-use Rattle.std.specs.Prelude.{ℕ, ◌<◌, ◌^◌, Bool, true, false, ◌≡◌, refl, get_or}
+use Rattle.std.specs.Prelude.{◌<◌, ◌^◌, Bool, true, false, ◌≡◌, refl, get_or}
 use Rattle.std.proofs.Common.{mod-eq_of_lt, ap}
 use Rattle.isa_types.specs.declared.Width.TheVariants as width
 use Rattle.isa_types.specs.declared.Width.{Width}
@@ -19,8 +19,6 @@ use Rattle.scope.specs.declared.traps.Fetch.TheVariants as fetch
 use Rattle.scope.specs.declared.traps.Fetch.{Fetch}
 use Rattle.scope.specs.declared.traps.IpiAbi.TheVariants as abi
 use Rattle.scope.specs.declared.traps.IpiAbi.{IpiAbi}
-use Rattle.isa_types.specs.declared.GuestPhysAddr.{GuestPhysAddr}
-use Rattle.isa_types.specs.declared.GuestVirtAddr.{GuestVirtAddr}
 use Rattle.scope.specs.Ecalls.{completion_number}
 use Rattle.scope.specs.OneTrap.{abi_number, access_number, answer_for, answer_number, answer_values, fetch_number, fetch_of, fetch_value, flag_of, width_bytes}
 use Rattle.scope.specs.Words.{abi_of, completion_of, kind_word, asked_words, width_of, access_of, tested, waiting_by, waiting_of, waiting_words, csrs_of, csrs_words, laid_with, unpack_of}

@@ -26,7 +26,7 @@ use Rattle.replay_scope.specs.declared.Step.{Step}
 use Rattle.replay_scope.specs.declared.Gives.{Gives}
 use Rattle.replay_scope.specs.declared.Gives.TheVariants as gives
 use Rattle.replay_scope.specs.Output.{begun, end_gives, number_taken}
-use Rattle.std.specs.Prelude.{ℕ, ◌+◌, ◌-◌, ◌*◌, ◌%◌, ◌^◌, Bool, true, false, List, [], ◌∷◌, ◌++◌, eqb, ltb, T}
+use Rattle.std.specs.Prelude.{ℕ, Bool, true, List, [], ◌∷◌, T}
 use Rattle.test_definitions.specs.Same.{both, equal}
 
 abbrev numbers : Gives → List ℕ → List ℕ

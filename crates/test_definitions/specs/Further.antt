@@ -19,7 +19,6 @@ use Rattle.isa_registers.specs.Values.{delegated_exceptions, delegated_interrupt
 use Rattle.scope.specs.declared.hosts.HostCall.{HostCall}
 use Rattle.scope.specs.declared.hosts.HostCall.TheVariants as hostCall
 use Rattle.scope.specs.declared.machine.EcallAsk.TheVariants as asked
-use Rattle.scope.specs.declared.machine.Outcome.{Outcome}
 use Rattle.scope.specs.declared.machine.Vcpu.{Vcpu}
 use Rattle.scope.specs.declared.machine.Waiting.{Waiting}
 use Rattle.scope.specs.declared.machine.Waiting.TheVariants as waiting

@@ -44,7 +44,7 @@ use Rattle.scope.specs.declared.hosts.Post.{Post}
 use Rattle.scope.specs.declared.hosts.Posted.{Posted}
 use Rattle.scope.specs.Posts.{left_posted, posted_of}
 use Rattle.words_entry_posts.specs.Words.{exported_row}
-use Rattle.std.specs.Prelude.{drop, get_or, replicate, set, ℕ, ◌+◌, ◌-◌, ◌*◌, ◌%◌, ◌^◌, Bool, true, false, List, [], ◌∷◌, ◌++◌, eqb, ltb, T}
+use Rattle.std.specs.Prelude.{drop, get_or, replicate, set, ℕ, ◌+◌, ◌-◌, ◌%◌, Bool, true, false, List, [], ◌∷◌, ◌++◌, eqb, ltb, T}
 use Rattle.test_definitions.specs.Same.{both, equal}
 
 -- the 58 words of a record

@@ -16,8 +16,8 @@ use Rattle.isa_decoder.specs.declared.Trapped.TheVariants as trapped
 use Rattle.isa_decoder.specs.Decode.{decode_of}
 use Rattle.isa_decoder.specs.Length.{fetched_of, htinst_of}
 use Rattle.isa_extension.specs.Extend.{cut_of, extend_of}
-use Rattle.std.specs.Prelude.{ℕ, ◌+◌, ◌-◌, ◌*◌, ◌%◌, ◌^◌, Bool, true, false, List, [], ◌∷◌, ◌++◌, eqb, ltb, T}
-use Rattle.test_definitions.specs.Same.{both, equal}
+use Rattle.std.specs.Prelude.{ℕ, ◌+◌, ◌*◌, ◌%◌, ◌^◌, Bool, true, false, List, [], ◌∷◌, eqb, T}
+use Rattle.test_definitions.specs.Same.{both}
 
 -- the digits of docs/VECTORS.md
 abbrev sign_of : Bool → ℕ

@@ -2,7 +2,6 @@ use borrow.Author.Tests.{lt-ltb, lt-leb, le-ltb, le-leb}
 use Rattle.scope.specs.Calls.{fitted}
 use mathlib.Core.Path.{sym}
 use lib.Seq.{length-take-le}
-use Rattle.scope.specs.Calls.{fitted}
 use Rattle.by_value_printing.proofs.first.Goals as goal
 
 pub slice_bounds-result-end : goal.slice_bounds-result-end

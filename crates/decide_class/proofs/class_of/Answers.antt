@@ -1,4 +1,3 @@
-use borrow.Author.Tests.{ne_eqb}
 use Rattle.scope.specs.Classes.{class_of}
 use borrow.Author.Rules.{rules}
 use Rattle.decide_class.proofs.class_of.Goals as goal

@@ -1,4 +1,3 @@
-use borrow.Author.Tests.{ne_eqb}
 use Rattle.scope.specs.Decided.{call_effect}
 use Rattle.scope.specs.Ecalls.{rfnc_effect, forward_effect}
 use borrow.Author.Rules.{rules}

@@ -1,4 +1,3 @@
-use borrow.Author.Tests.{ne_eqb}
 use Rattle.scope.specs.Host.{paging_effect}
 use borrow.Author.Rules.{rules}
 use Rattle.decide_host.proofs.paging_effect.Goals as goal

@@ -1,5 +1,4 @@
 use Rattle.scope.specs.Record.{moved}
-use Rattle.std.proofs.Common.{rules}
 use Rattle.decide_record.proofs.advance.Goals as goal
 
 pub returns : goal.returns

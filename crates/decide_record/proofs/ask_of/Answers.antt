@@ -1,5 +1,4 @@
 use Rattle.scope.specs.Record.{waiting_ask}
-use Rattle.std.proofs.Common.{rules}
 use Rattle.decide_record.proofs.ask_of.Goals as goal
 
 pub returns-in-Idle : goal.returns-in-Idle

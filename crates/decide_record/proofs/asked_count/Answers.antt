@@ -1,5 +1,4 @@
 use Rattle.scope.specs.Calls.{asked_count}
-use Rattle.std.proofs.Common.{rules}
 use Rattle.decide_record.proofs.asked_count.Goals as goal
 
 pub returns-in-CopyMask : goal.returns-in-CopyMask

@@ -1,5 +1,4 @@
 use Rattle.scope.specs.Record.{ecall_ask_number}
-use Rattle.std.proofs.Common.{rules}
 use Rattle.decide_record.proofs.ecall_ask.Goals as goal
 
 pub returns-in-CopyMask : goal.returns-in-CopyMask

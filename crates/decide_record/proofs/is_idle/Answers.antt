@@ -1,5 +1,4 @@
 use Rattle.scope.specs.Record.{is_idle}
-use Rattle.std.proofs.Common.{rules}
 use Rattle.decide_record.proofs.is_idle.Goals as goal
 
 pub returns-in-Idle : goal.returns-in-Idle

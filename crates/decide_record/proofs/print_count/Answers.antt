@@ -1,5 +1,4 @@
 use Rattle.scope.specs.Calls.{print_count}
-use Rattle.std.proofs.Common.{rules}
 use Rattle.decide_record.proofs.print_count.Goals as goal
 
 pub returns-in-Idle : goal.returns-in-Idle

@@ -1,5 +1,4 @@
 use Rattle.scope.specs.Calls.{printable}
-use Rattle.std.proofs.Common.{rules}
 use Rattle.decide_record.proofs.printable.Goals as goal
 
 pub returns : goal.returns

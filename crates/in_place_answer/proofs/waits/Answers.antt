@@ -2,7 +2,7 @@ use mathlib.Core.Path.{refl}
 use Rattle.in_place_record.specs.View.{view_of}
 use Rattle.scope.specs.Record.{waiting_ask}
 use Rattle.in_place_answer.specs.Laws.{none_waits}
-use mathlib.Core.Path.{refl, sym, ◌∙◌}
+use mathlib.Core.Path.{sym, ◌∙◌}
 use Rattle.in_place_answer.proofs.waits.Goals as goal
 
 pub returns-in-Idle : goal.returns-in-Idle

@@ -2,7 +2,6 @@ use mathlib.Core.Path.{refl}
 use Rattle.scope.specs.Words.{call_by, waiting_left}
 use Rattle.in_place_record.specs.Steps.{host_leaves}
 use Rattle.in_place_record.proofs.Cleared.{settled}
-use mathlib.Core.Path.{refl}
 use Rattle.scope.specs.declared.hosts.HostCall.TheVariants as hostCall
 use Rattle.in_place_entry_interrupts.proofs.vcpu_latch_hvip.Goals as goal
 

@@ -3,7 +3,6 @@ use Rattle.in_place_entry_trap.specs.Calls.{answer_call}
 use Rattle.in_place_record.specs.Steps.{trap_leaves}
 use Rattle.scope.specs.Words.{waiting_left}
 use Rattle.in_place_record.proofs.Cleared.{cleared}
-use mathlib.Core.Path.{refl}
 use Rattle.scope.specs.declared.hosts.HostCall.TheVariants as hostCall
 use Rattle.in_place_entry_trap.proofs.vcpu_answer.Goals as goal
 

@@ -1,5 +1,5 @@
 use borrow.Author.Rules.{rules}
-use borrow.Author.Tests.{ne_eqb, lt-ltb, lt-leb, le-ltb, le-leb}
+use borrow.Author.Tests.{lt-ltb, lt-leb, le-ltb, le-leb}
 use Rattle.isa_consts.specs.Traps.{known_exception}
 use Rattle.isa_consts.proofs.is_known_exception.Goals as goal
 

@@ -1,4 +1,3 @@
-use borrow.Author.Tests.{ne_eqb}
 use Rattle.isa_decoder.specs.Straight.{width_at}
 use borrow.Author.Rules.{rules}
 use Rattle.isa_decoder.proofs.width.Goals as goal

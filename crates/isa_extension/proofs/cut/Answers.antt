@@ -1,6 +1,5 @@
 use Rattle.isa_extension.specs.Extend.{cut_of}
 use lib.Bits.{and_mask}
-use Rattle.std.proofs.Common.{rules}
 use Rattle.isa_extension.proofs.cut.Goals as goal
 
 pub returns : goal.returns

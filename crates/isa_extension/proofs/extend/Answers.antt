@@ -1,5 +1,4 @@
 use Rattle.isa_extension.proofs.Straight.{extend_straight}
-use Rattle.std.proofs.Common.{rules}
 use Rattle.isa_extension.proofs.extend.Goals as goal
 
 pub returns : goal.returns

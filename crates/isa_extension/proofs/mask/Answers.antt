@@ -1,5 +1,4 @@
 use Rattle.isa_extension.specs.Extend.{width_bits}
-use Rattle.std.proofs.Common.{rules}
 use Rattle.isa_extension.proofs.mask.Goals as goal
 
 pub returns-in-Byte : goal.returns-in-Byte

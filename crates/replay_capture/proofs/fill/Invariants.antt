@@ -1,12 +1,9 @@
 use Rattle.replay_traps.specs.InPlace.{step_in, state_in}
-use Rattle.in_place_record.proofs.Shown.{same}
 use Rattle.replay_scope.specs.Lines.{bytes}
 use Rattle.replay_scope.specs.Output.{state_after, output_of}
-use Rattle.replay_capture.specs.Laws.{part_fed, fed_high, fed_moves, filled_next, filled_led, written_same, written_end}
 use Prim.Native.Nat.{◌+◌, ◌-◌, ◌≤◌, ◌<◌}
-use native.Mathlib.Omega.{arith}
 use mathlib.Core.List.{◌++◌}
-use mathlib.Core.Path.{◌≡◌, ◌∙◌}
+use mathlib.Core.Path.{◌≡◌}
 use lib.ListN.{drop, length, take}
 use Rattle.replay_capture.proofs.fill.Given as goal
 

@@ -1,10 +1,8 @@
 use mathlib.Core.Path.{refl}
 use Rattle.replay_lines.specs.Whole.{begins_next, begins_not, begins_all}
-use Prim.Native.Nat.{◌-◌, ◌≤◌, ◌<◌}
-use mathlib.Core.Path.{◌≡◌, sym, ◌∙◌}
+use Prim.Native.Nat.{◌-◌}
+use mathlib.Core.Path.{sym, ◌∙◌}
 use native.Mathlib.Omega.{arith}
-use lib.ListN.{drop, length}
-use Rattle.replay_lines.specs.Read.{begins as beginsWith}
 use borrow.Author.Rules.{rules}
 use Rattle.replay_lines.proofs.begins.Goals as goal
 

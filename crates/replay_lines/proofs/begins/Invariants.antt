@@ -1,10 +1,6 @@
-use mathlib.Core.Path.{refl}
-use Rattle.replay_lines.specs.Whole.{begins_next, begins_not, begins_all}
-use Prim.Native.Nat.{◌-◌, ◌≤◌, ◌<◌}
-use mathlib.Core.Path.{◌≡◌, sym, ◌∙◌}
-use native.Mathlib.Omega.{arith}
+use Prim.Native.Nat.{◌-◌, ◌≤◌}
+use mathlib.Core.Path.{◌≡◌}
 use lib.ListN.{drop, length}
-use Rattle.replay_lines.specs.Read.{begins as beginsWith}
 use Rattle.replay_lines.proofs.begins.Given as goal
 
 abbrev pub invariant-loop-i : goal.invariant-loop-i

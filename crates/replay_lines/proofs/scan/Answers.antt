@@ -1,10 +1,8 @@
 use mathlib.Core.Path.{refl}
 use Rattle.replay_lines.specs.Laws.{taken_next, taken_end}
-use Rattle.replay_lines.specs.Read.{taken_of}
-use Prim.Native.Nat.{◌-◌, ◌≤◌, ◌<◌}
-use mathlib.Core.Path.{◌≡◌, sym, ◌∙◌}
+use Prim.Native.Nat.{◌-◌}
+use mathlib.Core.Path.{sym, ◌∙◌}
 use native.Mathlib.Omega.{arith}
-use lib.ListN.{drop, length}
 use borrow.Author.Rules.{rules}
 use Rattle.replay_lines.proofs.scan.Goals as goal
 

@@ -1,9 +1,6 @@
-use mathlib.Core.Path.{refl}
-use Rattle.replay_lines.specs.Laws.{taken_next, taken_end}
 use Rattle.replay_lines.specs.Read.{taken_of}
-use Prim.Native.Nat.{◌-◌, ◌≤◌, ◌<◌}
-use mathlib.Core.Path.{◌≡◌, sym, ◌∙◌}
-use native.Mathlib.Omega.{arith}
+use Prim.Native.Nat.{◌-◌, ◌≤◌}
+use mathlib.Core.Path.{◌≡◌}
 use lib.ListN.{drop, length}
 use Rattle.replay_lines.proofs.scan.Given as goal
 

@@ -1,9 +1,6 @@
 use mathlib.Core.Path.{refl}
-use Rattle.replay_output.specs.Put.{put_at}
 use Rattle.replay_output.specs.PutLaws.{put_none, put_next, put_all}
-use Prim.Native.Nat.{◌-◌, ◌≤◌}
-use mathlib.Core.Path.{◌≡◌, ◌∙◌}
-use lib.ListN.{length, take}
+use Prim.Native.Nat.{◌-◌}
 use borrow.Author.Rules.{rules}
 use Rattle.replay_output.proofs.put_key.Goals as goal
 

@@ -1,8 +1,6 @@
-use mathlib.Core.Path.{refl}
 use Rattle.replay_output.specs.Put.{put_at}
-use Rattle.replay_output.specs.PutLaws.{put_none, put_next, put_all}
 use Prim.Native.Nat.{◌-◌, ◌≤◌}
-use mathlib.Core.Path.{◌≡◌, ◌∙◌}
+use mathlib.Core.Path.{◌≡◌}
 use lib.ListN.{length, take}
 use Rattle.replay_output.proofs.put_key.Given as goal
 

@@ -1,5 +1,4 @@
 use Rattle.replay_scope.specs.Output.{followed_by}
-use Rattle.std.proofs.Common.{rules}
 use Rattle.replay_traps.proofs.follow.Goals as goal
 
 pub returns : goal.returns

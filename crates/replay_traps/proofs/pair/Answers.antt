@@ -1,5 +1,4 @@
-use Rattle.std.proofs.Common.{ap, ◌∙◌, rules, le-ltb, eq-eqb, ne_eqb}
-use Rattle.scope.specs.Record.{waiting_ask}
+use Rattle.std.proofs.Common.{ap, ◌∙◌, le-ltb, eq-eqb, ne_eqb}
 use Rattle.scope.specs.Record.{waiting_ask}
 use Rattle.replay_traps.specs.Laws.{answer_stepped, load_stepped, unfit_stepped}
 use Rattle.replay_traps.proofs.pair.Goals as goal

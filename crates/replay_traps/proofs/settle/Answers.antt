@@ -1,6 +1,6 @@
 use Rattle.scope.specs.Record.{is_idle}
 use Rattle.replay_traps.specs.Laws.{settled_by_lem}
-use Rattle.std.proofs.Common.{ap, ◌∙◌, rules}
+use Rattle.std.proofs.Common.{ap, ◌∙◌}
 use Rattle.replay_traps.proofs.settle.Goals as goal
 
 pub returns : goal.returns

@@ -1,4 +1,4 @@
-use Rattle.std.proofs.Common.{refl, rules}
+use Rattle.std.proofs.Common.{refl}
 use Rattle.replay_scope.specs.Output.{saying}
 use Rattle.replay_traps.specs.Laws.{trap_over, word_follows}
 use Rattle.replay_traps.proofs.settled.Goals as goal

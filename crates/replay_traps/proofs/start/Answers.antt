@@ -1,5 +1,4 @@
 use Rattle.replay_traps.specs.Laws.{start_stepped}
-use Rattle.std.proofs.Common.{rules}
 use Rattle.replay_traps.proofs.start.Goals as goal
 
 pub returns : goal.returns

@@ -1,4 +1,3 @@
-use borrow.Author.Tests.{ne_eqb}
 use Rattle.scope.specs.OneTrap.{answer_for, answer_number}
 use borrow.Author.Rules.{rules}
 use Rattle.words_call.proofs.answer_for.Goals as goal

@@ -1,4 +1,3 @@
-use borrow.Author.Tests.{ne_eqb}
 use Rattle.scope.specs.Words.{call_by}
 use borrow.Author.Rules.{rules}
 use Rattle.words_call.proofs.call_by.Goals as goal

@@ -1,4 +1,3 @@
-use borrow.Author.Tests.{ne_eqb}
 use Rattle.scope.specs.Words.{access_of}
 use Rattle.scope.specs.OneTrap.{access_number}
 use borrow.Author.Rules.{rules}

@@ -1,4 +1,3 @@
-use borrow.Author.Tests.{ne_eqb}
 use Rattle.scope.specs.Words.{completion_of}
 use Rattle.scope.specs.Ecalls.{completion_number}
 use borrow.Author.Rules.{rules}

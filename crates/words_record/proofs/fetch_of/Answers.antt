@@ -1,4 +1,3 @@
-use borrow.Author.Tests.{ne_eqb}
 use Rattle.scope.specs.OneTrap.{fetch_of, fetch_number}
 use borrow.Author.Rules.{rules}
 use Rattle.words_record.proofs.fetch_of.Goals as goal

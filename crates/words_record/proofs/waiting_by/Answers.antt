@@ -1,4 +1,3 @@
-use borrow.Author.Tests.{ne_eqb}
 use Rattle.scope.specs.Words.{waiting_by, kind_word, waiting_words, asked_words}
 use borrow.Author.Rules.{rules}
 use Rattle.words_record.proofs.waiting_by.Goals as goal
