@@ -2,6 +2,7 @@
 // (01, Replay program). Its meaning is one definition, replay_of in replay_scope's specs/Output.antt, from all bytes to
 // all output; the record lies in 58 lent words.
 #![tactic(auto)]
+
 ghost use Rattle.std.specs.Prelude.{◌≡◌, ◌+◌, ◌≤◌, length};
 ghost use Rattle.replay_output.specs.Put.{Put};
 ghost use Rattle.replay_scope.specs.Output.{text_of};
