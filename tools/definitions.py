@@ -676,8 +676,8 @@ def check_listed():
 
 # ---- the mutants
 
-TOKEN = re.compile(r'(?P<comment>--.*)|(?P<text>"[^"]*")|(?P<number>0x[0-9A-Fa-f_]+|[0-9][0-9_]*)(?![^\s(){};])|(?P<field>\.[A-Za-z0-9]+)'
-                   r'|(?P<mark>[(){};])|(?P<word>[^\s(){};"]+)')
+TOKEN = re.compile(r'(?P<comment>--.*)|(?P<text>"[^"]*")|(?P<number>0x[0-9A-Fa-f_]+|[0-9][0-9_]*)(?![^\s(){};])|(?P<field>\.(?:[a-z]\w*|0))'
+                   r'|(?P<mark>[(){};])|(?P<word>(?:(?!\.[a-z])[^\s(){};"])+)')
 OPERATORS = {'+', '-', '*', '/', '%', '^', '++', '∷', '=', '∙'}
 
 
@@ -767,7 +767,7 @@ def imported(text, library, name):
 
 RUST = {'u64': 'ℕ', 'usize': 'ℕ', 'u32': 'ℕ', 'bool': 'Bool'}
 LIBRARY = {'eqb': 'ℕ → ℕ → Bool', 'leb': 'ℕ → ℕ → Bool', 'ltb': 'ℕ → ℕ → Bool', 'get_or': 'List ℕ → ℕ → ℕ → ℕ', 'set': 'List ℕ → ℕ → ℕ → List ℕ',
-           'take': 'ℕ → List ℕ → List ℕ', 'drop': 'ℕ → List ℕ → List ℕ', 'length': 'List ℕ → ℕ', 'bitOr': 'ℕ → ℕ → ℕ', 'bitAnd': 'ℕ → ℕ → ℕ',
+           'take': 'ℕ → List ℕ → List ℕ', 'drop': 'ℕ → List ℕ → List ℕ', 'length': 'List ℕ → ℕ', 'bit_or': 'ℕ → ℕ → ℕ', 'bit_and': 'ℕ → ℕ → ℕ',
            'and': 'Bool → Bool → Bool', 'or': 'Bool → Bool → Bool', 'not': 'Bool → Bool', 'wrapped': 'ℕ → ℕ', 'replicate': 'ℕ → ℕ → List ℕ',
            'sets': 'List ℕ → ℕ → List ℕ → List ℕ', 'true': 'Bool', 'false': 'Bool', '[]': 'List ℕ'}
 
@@ -921,7 +921,7 @@ def candidates(module, mods, structs, enums):
                     add('branches exchanged', [(*app[2], word(app[3])), (*app[3], word(app[2]))])
                     add('test left out', [(app[0][0], app[3][1], word(app[2]))])
                     add('test left out', [(app[0][0], app[3][1], word(app[3]))])
-                elif head not in ('eqb', 'and', 'or', 'both', 'bitOr', 'bitAnd', 'λ'):
+                elif head not in ('eqb', 'and', 'or', 'both', 'bit_or', 'bit_and', 'λ'):
                     kinds = [types.of(word(p)) for p in app]
                     result = types.of(text[app[0][0]:app[-1][1]])
                     for p, q, k, l in zip(app[1:], app[2:], kinds[1:], kinds[2:]):
@@ -958,13 +958,13 @@ def candidates(module, mods, structs, enums):
                     continue
                 if leaf in ('true', 'false'):
                     other = 'false' if leaf == 'true' else 'true'
-                    add('another case', [(a, b, other)], 'mathlib.Core.Bool', other)
+                    add('another case', [(a, b, other)], 'Rattle.std.specs.Prelude', other)
                 if leaf in ('eqb', 'leb', 'ltb'):
                     for other in {'eqb': ['leb', 'ltb'], 'leb': ['ltb', 'eqb'], 'ltb': ['leb']}[leaf]:
-                        add('another comparison', [(a, b, other)], 'lib.Dec', other)
-                if leaf in ('bitOr', 'bitAnd'):
-                    other = 'bitAnd' if leaf == 'bitOr' else 'bitOr'
-                    add('another operation', [(a, b, other)], 'lib.Bits', other)
+                        add('another comparison', [(a, b, other)], 'Rattle.std.specs.Prelude', other)
+                if leaf in ('bit_or', 'bit_and'):
+                    other = 'bit_and' if leaf == 'bit_or' else 'bit_or'
+                    add('another operation', [(a, b, other)], 'Rattle.std.specs.Prelude', other)
                 if '.' in leaf and leaf.split('.')[0] in variants:
                     cases = enums[variants[leaf.split('.')[0]]]
                     i = [c for c, _ in cases].index(leaf.split('.')[1])
@@ -984,7 +984,7 @@ def candidates(module, mods, structs, enums):
                                 add('another definition', [(a, b, n)])
             for a, b in body.signs:
                 for other in {'+': ['-'], '-': ['+'], '/': ['%'], '%': ['/'], '*': ['+']}.get(text[a:b], []):
-                    add('another operation', [(a, b, other)], 'Prim.Native.Nat', f'_{other}_')
+                    add('another operation', [(a, b, other)], 'Rattle.std.specs.Prelude', f'◌{other}◌')
     return found
 
 
