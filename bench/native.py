@@ -1,12 +1,11 @@
-"""What the tools of bench/ share: the proved program replay, compiled for this processor, and how a tool reads its arguments.
+"""What the tools of bench/ share: the proved program replay as a module and an object, and how a tool reads its arguments.
 
-Programs of this repository are compiled for x86-64. So that replay can be measured on any processor, the module that the
-compiler makes of it is kept in target/PROCESSOR/replay.ll, compiled by the same clang at -O3, and linked with the C library at
-hand (bench/os.c stands in for the few C functions of the toolchain's library os). It is done so on x86-64 too, where a tool
-needs the module and not target/bin/replay.
+The module that the compiler makes of replay is kept in target/PROCESSOR/replay.ll, compiled by the same clang at -O3, and linked with the
+C library at hand and the toolchain's own C functions. It is for the tools that need the module and not crates/replay/out/replay.
 """
 import os
 import platform
+import re
 import subprocess
 import sys
 import tempfile
@@ -44,28 +43,31 @@ def kit():
     return do("tools/kit", stdout=subprocess.PIPE).strip()
 
 
+PROGRAM = "crates/replay/out/replay"
+
+
 def prove():
-    """Has replay and all below it proved, which takes seconds where it is."""
+    """Has replay and all below it proved and built, which takes seconds where it is."""
     kit()
-    do("rt", "check", "replay", stdout=subprocess.DEVNULL)
+    # `rt run` proves the program, links it and then runs it, here on nothing
+    subprocess.run(["rt", "run"], cwd="crates/replay", stdin=subprocess.DEVNULL, stdout=subprocess.DEVNULL)
+    if not os.path.exists(PROGRAM):
+        sys.exit(f"there is no {PROGRAM}: replay is not proved")
     os.makedirs(OUT, exist_ok=True)
 
 
 def make_module():
     """Keeps the module of the proved program in MODULE."""
-    own = f"{kit()}/on/{MACHINE}"
-    tools = f"{own}/toolchain"
-    deps = next(line.split(":")[1].split() for line in open("crates.txt") if line.startswith("replay:"))
-    externs = []
-    for dep in ["std"] + deps:
-        folder = "target/rlib" if os.path.isdir(f"crates/{dep}") else f"{own}/rlib"
-        externs += ["--extern", f"{dep}={folder}/{dep}.rlib"]
+    tools = f"{kit()}/toolchain"
+    do("tools/libraries", "replay")
+    words = do("tools/libraries", "--words", "replay", stdout=subprocess.PIPE).split("\n")[:-1]
     with tempfile.TemporaryDirectory() as folder:
         # A toolchain whose clang keeps the module that it is handed, then runs the toolchain's own.
         os.mkdir(f"{folder}/bin")
         os.symlink(f"{tools}/lib", f"{folder}/lib")
-        for name in ("ld.lld", "llvm-ar"):
-            os.symlink(f"{tools}/bin/{name}", f"{folder}/bin/{name}")
+        for name in os.listdir(f"{tools}/bin"):
+            if name != "clang":
+                os.symlink(f"{tools}/bin/{name}", f"{folder}/bin/{name}")
         with open(f"{folder}/bin/clang", "w") as file:
             file.write(f"""#!/bin/sh
 ir=''
@@ -76,21 +78,20 @@ done
 exec "{tools}/bin/clang" "$@"
 """)
         os.chmod(f"{folder}/bin/clang", 0o755)
-        done = subprocess.run([f"{own}/bin/rattle", "build", "--crate-name", "replay", "crates/replay/src/main.rt", *externs,
-                               "-L", "dependency=target/rlib", "-L", f"dependency={own}/rlib", "--antt-project", f"{kit()}/logic/antt-project.json",
-                               "--logic-built", f"{own}/logic-built", "--toolchain", folder, "-o", f"{folder}/replay.o"], capture_output=True, text=True)
+        done = subprocess.run([f"{kit()}/bin/rattle", "build", "--crate-name", "replay", "crates/replay/src/main.rt", *words,
+                               "--backend", "llvm", "--toolchain", folder, "-o", f"{folder}/replay.o"], capture_output=True, text=True)
         if done.returncode:
             sys.exit(done.stdout + done.stderr)
         text = do(f"{tools}/bin/clang", "--target=x86_64-unknown-linux-gnu", "-S", "-emit-llvm", "-Xclang", "-disable-llvm-passes", "-x", "ir",
                   f"{folder}/module.bc", "-o", "-", stdout=subprocess.PIPE)
     # What names the one processor that the module was made for is left out.
-    text = text.replace(' "target-cpu"="x86-64"', "")
+    text = re.sub(r' "target-cpu"="x86-64[-a-z0-9]*"', "", text)
     text = "\n".join(line for line in text.split("\n") if not line.startswith(("target datalayout", "target triple")))
     open(MODULE, "w").write(text)
 
 
 def compile_module(module, to):
-    do(f"{kit()}/on/{MACHINE}/toolchain/bin/clang", f"--target={MACHINE}-unknown-linux-gnu", "-O3", "-fPIC", "-mllvm", "-trap-unreachable",
+    do(f"{kit()}/toolchain/bin/clang", f"--target={MACHINE}-unknown-linux-gnu", "-O3", "-fPIC", "-mllvm", "-trap-unreachable",
        "-mllvm", "-no-trap-after-noreturn", "--no-default-config", "-Wno-override-module", "-c", "-x", "ir", module, "-o", to)
 
 
@@ -100,13 +101,18 @@ def cc(to, *words):
     return os.path.realpath(to)
 
 
+def of_kit():
+    """The toolchain's own C functions, which a program calls."""
+    return [f"{kit()}/c/libos_c.a", f"{kit()}/c/liblibc_c.a"]
+
+
 def make():
-    """The proved program compiled for this processor; MODULE and OBJECT are there then too."""
-    program, key = f"{OUT}/replay", open("target/stamp/replay").read()
+    """The proved program compiled from its module; MODULE and OBJECT are there then too."""
+    program, key = f"{OUT}/replay", do("tools/libraries", "--sum", "replay", stdout=subprocess.PIPE)
     if not all(map(os.path.exists, (program, MODULE, OBJECT, MODULE + ".key"))) or open(MODULE + ".key").read() != key:
         make_module()
         compile_module(MODULE, OBJECT)
-        cc(program, OBJECT, "bench/os.c")
+        cc(program, OBJECT, *of_kit())
         open(MODULE + ".key", "w").write(key)
     return os.path.abspath(program)
 

@@ -85,7 +85,7 @@ def build(folder):
         print(f"code of {size:,} bytes, with locations and without")
     else:
         print(f"BEWARE: the code has {size:,} bytes with locations and {of_replay:,} without: the shares are of another program than replay")
-    return native.cc(f"{folder}/where", "-no-pie", f"{folder}/where.o", "bench/os.c")
+    return native.cc(f"{folder}/where", "-no-pie", f"{folder}/where.o", *native.of_kit())
 
 
 def recorded(program, capture, data):

@@ -13,7 +13,7 @@ docs/CAPTURES.md says what they are. It needs cargo, and RISCV_VCPU_SRC for the 
 left as it is. The seed is fixed, so a run writes the same bytes again. A test needs only what is stored.
 
 With --try each capture is one of the stored ones, half of them cut to some of their first lines, seven of eight damaged in one
-random place; what target/bin/replay writes is compared with what the plain Rust model writes.
+random place; what crates/replay/out/replay writes is compared with what the plain Rust model writes.
 """
 import os
 import random

@@ -17,7 +17,7 @@ notice it comes from outside: document 01's marked cases, the vectors, the fixed
 is written as equations over the definitions, which the checker computes, in one crate with every definition and no function.
 A mutant is one change of one definition. The crate is checked with it, and the equations that fail say what noticed it.
 
-What is kept below target/definitions is known by content: a verdict by every definition and equation and the mutant's own file,
+What is kept (in the folder for temporary files, definitions-of-*) is known by content: a verdict by every definition and equation and the mutant's own file,
 so that after any change of them all are tried anew, and what a check left to load, and the calls written out, by what they are of.
 
 Python's standard library alone; the Rattle toolchain; cargo, for the list of calls with every word written out."""
@@ -28,12 +28,14 @@ import re
 import shutil
 import subprocess
 import sys
+import tempfile
 import time
 
 ROOT = os.path.dirname(os.path.dirname(os.path.abspath(__file__)))
-WORK = os.path.join(ROOT, 'target', 'definitions')
+# outside the checkout: `rt ci` refuses files of definitions that stand in no crate
+WORK = os.path.join(tempfile.gettempdir(), 'definitions-of-' + hashlib.sha256(ROOT.encode()).hexdigest()[:16])
 # the scratch crate is named d
-SPECS = 'Rattle·d·specs.specs.'
+SPECS = 'Rattle.d.specs.'
 # the files of equations
 SOURCES = ['Marked', 'Further', 'Vectors', 'Listed', 'Rows', 'Published', 'Sound', 'Damaged']
 SECONDS = 200
@@ -73,7 +75,7 @@ class Module:
         self.path = f'crates/{crate}/specs/{name}.antt'
         self.text = read(f'{ROOT}/{self.path}')
         self.short = camel(crate) + name
-        self.uses = [(m.group(1), m.group(2)) for m in re.finditer(r'^use Rattle·(\w+?)(?:·specs)?\.specs\.(?!declared)(\w+)', self.text, re.M)]
+        self.uses = [(m.group(1), m.group(2)) for m in re.finditer(r'^use Rattle\.(?!std\.)(\w+)\.specs\.(?!declared)(\w+)', self.text, re.M)]
 
     def blocks(self):
         """Declarations as (start, end, modifier, name, type)."""
@@ -137,8 +139,8 @@ def home(mods, name, kind=''):
 
 def renamed(text):
     # a type may stand in a module of its crate; the scratch crate has no modules
-    text = re.sub(r'Rattle·\w+?(?:·specs)?\.specs\.declared\.(?:[a-z]\w*\.)?', SPECS + 'declared.', text)
-    return re.sub(r'Rattle·(?!d·)(\w+?)(?:·specs)?\.specs\.(\w+)', lambda m: SPECS + camel(m.group(1)) + m.group(2), text)
+    text = re.sub(r'Rattle\.(?!std\.)\w+\.specs\.declared\.(?:[a-z]\w*\.)?', SPECS + 'declared.', text)
+    return re.sub(r'Rattle\.(?!d\.|std\.)(\w+)\.specs\.(\w+)', lambda m: SPECS + camel(m.group(1)) + m.group(2), text)
 
 
 def opened(module, text=None):
@@ -151,10 +153,7 @@ def opened(module, text=None):
     return renamed(re.sub(r'^unfoldable ', 'abbrev ', text, flags=re.M))
 
 
-IMPORTS = '''use Prim.Native.Nat.{ℕ, _+_, _-_, _*_, _%_, _^_}
-use mathlib.Core.Bool.{Bool, true, false}
-use mathlib.Core.List.{List, [], _∷_, _++_}
-use lib.Dec.{eqb, ltb, T}
+IMPORTS = '''use Rattle.std.specs.Prelude.{drop, get_or, replicate, set, ℕ, ◌+◌, ◌-◌, ◌*◌, ◌%◌, ◌^◌, Bool, true, false, List, [], ◌∷◌, ◌++◌, eqb, ltb, T}
 '''
 SAME = '''
 abbrev both : Bool → Bool → Bool
@@ -170,14 +169,23 @@ equal (a ∷ ls) (b ∷ bs) = both (eqb a b) (equal ls bs)
 HEAD = IMPORTS + SAME
 
 
+def pruned(text):
+    """The text with no more on its line of the library's words than it says: an operator stands between spaces."""
+    def line(m):
+        rest = re.sub(r'^(use|--) .*|--.*', '', text, flags=re.M)
+        said = lambda n: re.search(r'(?<![\w.])' + re.escape(n.strip('◌')) + r'(?![\w\'])', rest) if '◌' not in n else f' {n.strip("◌")} ' in rest
+        return 'use Rattle.std.specs.Prelude.{' + ', '.join(n for n in m.group(1).split(', ') if said(n)) + '}\n'
+    return re.sub(r'^use Rattle\.std\.specs\.Prelude\.\{(.*)\}\n', line, text, flags=re.M)
+
+
 def together(text, rows, size):
     """Rows as equations of so many rows each. Refusing an equation costs the checker many times its computing, whatever the
     row that is false, so neither one equation of all rows nor one for each row is quick."""
     for i, row in enumerate(rows):
-        text += f'\nabbrev row-{i} : Bool\nrow-{i} = {row}\n'
+        text += f'\nabbrev row_{i} : Bool\nrow_{i} = {row}\n'
         if i % size == size - 1 or i == len(rows) - 1:
             some = range(i - i % size, i + 1)
-            text += f'\nrows-{i} : T ({"".join(f"both row-{k} (" for k in some)}true{")" * len(some)})\nrows-{i} = tt\n'
+            text += f'\nrows_{i} : T ({"".join(f"both row_{k} (" for k in some)}true{")" * len(some)})\nrows_{i} = tt\n'
     return text
 
 
@@ -205,32 +213,32 @@ def short_words(data):
 
 def vectors(mods, every=1, size=1):
     """The vectors, or every so many of each list; of the list of all 16-bit words always the same."""
-    fetched, decode = home(mods, 'fetchedOf', 'ℕ → Trapped'), home(mods, 'decodeOf')
-    text = f'''use {SPECS}{home(mods, 'widthBytes')}.{{widthBytes}}
-use {SPECS}declared.Width.the-variants as width
+    fetched, decode = home(mods, 'fetched_of', 'ℕ → Trapped'), home(mods, 'decode_of')
+    text = f'''use {SPECS}{home(mods, 'width_bytes')}.{{width_bytes}}
+use {SPECS}declared.Width.TheVariants as width
 use {SPECS}declared.Decoded.{{Decoded}}
-use {SPECS}declared.Decoded.the-variants as decoded
+use {SPECS}declared.Decoded.TheVariants as decoded
 use {SPECS}declared.Trapped.{{Trapped}}
-use {SPECS}declared.Trapped.the-variants as trapped
-use {SPECS}{decode}.{{decodeOf}}
-use {SPECS}{fetched}.{{fetchedOf, htinstOf}}
-use {SPECS}{home(mods, 'extendOf')}.{{cutOf, extendOf}}
+use {SPECS}declared.Trapped.TheVariants as trapped
+use {SPECS}{decode}.{{decode_of}}
+use {SPECS}{fetched}.{{fetched_of, htinst_of}}
+use {SPECS}{home(mods, 'extend_of')}.{{cut_of, extend_of}}
 ''' + HEAD + '''
 -- the digits of docs/VECTORS.md
-abbrev signOf : Bool → ℕ
-signOf true = 0x100
-signOf false = 0
+abbrev sign_of : Bool → ℕ
+sign_of true = 0x100
+sign_of false = 0
 
-abbrev decodedNumber : Decoded → ℕ
-decodedNumber (decoded.Load w s rd) = 0x10000 + widthBytes w * 0x1000 + signOf s + rd
-decodedNumber (decoded.Store w rs2) = 0x20000 + widthBytes w * 0x1000 + rs2
-decodedNumber decoded.Neither = 0
+abbrev decoded_number : Decoded → ℕ
+decoded_number (decoded.Load w s rd) = 0x10000 + width_bytes w * 0x1000 + sign_of s + rd
+decoded_number (decoded.Store w rs2) = 0x20000 + width_bytes w * 0x1000 + rs2
+decoded_number decoded.Neither = 0
 
-abbrev trappedNumber : Trapped → ℕ
-trappedNumber trapped.Absent = 0
-trappedNumber trapped.Pseudo = 0x1000000
-trappedNumber trapped.Unfit = 0x2000000
-trappedNumber (trapped.Instruction op n) = 0x3000000 + n * 0x100000 + decodedNumber op
+abbrev trapped_number : Trapped → ℕ
+trapped_number trapped.Absent = 0
+trapped_number trapped.Pseudo = 0x1000000
+trapped_number trapped.Unfit = 0x2000000
+trapped_number (trapped.Instruction op n) = 0x3000000 + n * 0x100000 + decoded_number op
 
 -- inputs, each with the answer behind it
 abbrev all : (ℕ → ℕ) → List ℕ → Bool
@@ -238,13 +246,13 @@ all f [] = true
 all f (n ∷ []) = false
 all f (n ∷ m ∷ l) = both (eqb (f n) m) (all f l)
 '''
-    tasks = {'decode': 'λ n. decodedNumber (decodeOf n)', 'fetched': 'λ n. trappedNumber (fetchedOf (n % 2 ^ 32))',
-             'htinst': 'λ n. trappedNumber (htinstOf n)'}
+    tasks = {'decode': 'λ n. decoded_number (decode_of n)', 'fetched': 'λ n. trapped_number (fetched_of (n % 2 ^ 32))',
+             'htinst': 'λ n. trapped_number (htinst_of n)'}
     for letter, width in zip('bhwd', ['Byte', 'Half', 'Word', 'Double']):
-        tasks['l' + letter] = f'extendOf width.{width} true'
-        tasks['s' + letter] = f'cutOf width.{width}'
+        tasks['l' + letter] = f'extend_of width.{width} true'
+        tasks['s' + letter] = f'cut_of width.{width}'
         if letter != 'd':
-            tasks[f'l{letter}u'] = f'extendOf width.{width} false'
+            tasks[f'l{letter}u'] = f'extend_of width.{width} false'
     data = f'{ROOT}/crates/test_vectors/data'
     # the lists `wrong..` show that the program can say so; here an equation would fail. What `executed` says of a word stands in
     # `compressed`, and what it says of a number follows from the others
@@ -291,31 +299,30 @@ def listed_head(mods):
     return f'''use {SPECS}declared.HostCall.{{HostCall}}
 use {SPECS}declared.Outcome.{{Outcome}}
 use {SPECS}declared.Record.{{Record}}
-use {SPECS}{home(mods, 'viewOf')}.{{recordOf, viewOf}}
-use {SPECS}{home(mods, 'outOf')}.{{outOf, replyWord}}
+use {SPECS}{home(mods, 'view_of')}.{{record_of, view_of}}
+use {SPECS}{home(mods, 'out_of')}.{{out_of, reply_word}}
 use {SPECS}declared.After.{{After}}
-use {SPECS}{home(mods, 'leftBy')}.{{callBy, leftBy}}
-use {SPECS}{home(mods, 'exportedOf')}.{{exportedOf}}
-use {SPECS}{home(mods, 'calledOf', 'Vcpu → HostCall')}.{{calledOf, printable}}
-use {SPECS}{home(mods, 'startCall')}.{{answerCall, startCall}}
+use {SPECS}{home(mods, 'left_by')}.{{call_by, left_by}}
+use {SPECS}{home(mods, 'exported_of')}.{{exported_of}}
+use {SPECS}{home(mods, 'called_of', 'Vcpu → HostCall')}.{{called_of, printable}}
+use {SPECS}{home(mods, 'start_call')}.{{answer_call, start_call}}
 use {SPECS}declared.AfterRow.{{AfterRow}}
 use {SPECS}declared.Post.{{Post}}
 use {SPECS}declared.Posted.{{Posted}}
-use {SPECS}{home(mods, 'postedOf')}.{{leftPosted, postedOf}}
-use {SPECS}{home(mods, 'exportedRow')}.{{exportedRow}}
-use lib.ListN.{{drop, getD, replicate, set}}
+use {SPECS}{home(mods, 'posted_of')}.{{left_posted, posted_of}}
+use {SPECS}{home(mods, 'exported_row')}.{{exported_row}}
 ''' + HEAD + '''
 -- the 58 words of a record
 abbrev words : Record → List ℕ
-words r = r .x ++ (r .csrs ++ (r .counts ++ r .waiting))
+words r = r.x ++ (r.csrs ++ (r.counts ++ r.waiting))
 
 -- the word returned, the eight words given, the array beside the reply, the words of the record after it
 abbrev left : List ℕ → HostCall → Outcome → List ℕ
-left r c o = replyWord (o .reply) ∷ (outOf (o .reply) (o .args) ++ (o .args ++ words (leftBy (recordOf r) c o)))
+left r c o = reply_word o.reply ∷ (out_of o.reply o.args ++ (o.args ++ words (left_by (record_of r) c o)))
 
 -- the same of a call on 58 words
 abbrev shown : List ℕ → HostCall → List ℕ
-shown r c = left r c (calledOf (viewOf r) c)
+shown r c = left r c (called_of (view_of r) c)
 
 -- 01: a hypercall's array stands beside the exit and is all 0 beside any other
 abbrev beside : Bool → List ℕ → List ℕ
@@ -328,40 +335,40 @@ wanted code out after = code ∷ (out ++ (beside (eqb code 6) out ++ after))
 
 -- the same through the words of the exported entry: a reply's kind and number, its values, the array, the record
 abbrev reported : After → List ℕ
-reported a = a .reply .kind ∷ a .reply .number ∷ (a .reply .values ++ (a .reply .args ++ words (a .rec)))
+reported a = a.reply.kind ∷ a.reply.number ∷ (a.reply.values ++ (a.reply.args ++ words a.rec))
 
 abbrev exported : ℕ → List ℕ → List ℕ → List ℕ
-exported k c r = reported (exportedOf (recordOf r) (record { kind = k; numbers = c }))
+exported k c r = reported (exported_of (record_of r) (record { kind = k; numbers = c }))
 
 abbrev choose : {A : Type 0} → Bool → A → A → A
 choose true a b = a
 choose false a b = b
 
 -- exits are 0, asks 1, done 2, a value 3, errors 4
-abbrev kindOf : ℕ → ℕ
-kindOf n = choose (ltb n 0x20) 0 (choose (ltb n 0x40) 1 (choose (ltb n 0x41) 2 (choose (ltb n 0x100) 3 4)))
+abbrev kind_of : ℕ → ℕ
+kind_of n = choose (ltb n 0x20) 0 (choose (ltb n 0x40) 1 (choose (ltb n 0x41) 2 (choose (ltb n 0x100) 3 4)))
 
-abbrev numberOf : ℕ → ℕ
-numberOf n = choose (ltb n 0x40) (n % 0x20) (choose (ltb n 0x100) 0 (n - 0x100))
+abbrev number_of : ℕ → ℕ
+number_of n = choose (ltb n 0x40) (n % 0x20) (choose (ltb n 0x100) 0 (n - 0x100))
 
 -- a hypercall's arguments are not among its values
 abbrev told : ℕ → List ℕ → List ℕ → List ℕ
 told code out after =
-    kindOf code ∷ numberOf code
-    ∷ (choose (eqb code 6) (getD out 0 0 ∷ replicate 7 0) out ++ (beside (eqb code 6) out ++ after))
+    kind_of code ∷ number_of code
+    ∷ (choose (eqb code 6) (get_or out 0 0 ∷ replicate 7 0) out ++ (beside (eqb code 6) out ++ after))
 
 -- the entry's call, and the count to print
 abbrev called : ℕ → List ℕ → List ℕ → List ℕ
-called k c r = shown r (callBy k (getD c 0 0) (getD c 1 0) (getD c 2 0) (getD c 3 0) (getD c 4 0))
+called k c r = shown r (call_by k (get_or c 0 0) (get_or c 1 0) (get_or c 2 0) (get_or c 3 0) (get_or c 4 0))
 
 abbrev started : ℕ → List ℕ → List ℕ → List ℕ
-started k c r = shown r (startCall c)
+started k c r = shown r (start_call c)
 
 abbrev answered : ℕ → List ℕ → List ℕ → List ℕ
-answered k c r = shown r (answerCall c)
+answered k c r = shown r (answer_call c)
 
 abbrev printed : ℕ → List ℕ → List ℕ → List ℕ
-printed k c r = wanted 0x41 (set (replicate 8 0) 0 (printable (viewOf r .waiting) (getD c 0 0))) r
+printed k c r = wanted 0x41 (set (replicate 8 0) 0 (printable (view_of r).waiting (get_or c 0 0))) r
 
 -- a row of posts, a vector and a level each
 abbrev posts : List ℕ → List Post
@@ -371,17 +378,17 @@ posts (v ∷ l ∷ c) = record { vector = v; level = l } ∷ posts c
 
 -- what it gives and leaves: the refusal in the word returned, how many were applied in the first word given
 abbrev rowed : Posted → Record → List ℕ
-rowed g r = wanted (choose (eqb (g .refusal) 0) 0x40 (0x100 + g .refusal)) (set (replicate 8 0) 0 (g .applied)) (words r)
+rowed g r = wanted (choose (eqb g.refusal 0) 0x40 (0x100 + g.refusal)) (set (replicate 8 0) 0 g.applied) (words r)
 
 abbrev posted : ℕ → List ℕ → List ℕ → List ℕ
-posted k c r = rowed (postedOf (viewOf r) (posts c) .posted) (leftPosted (recordOf r) (posts c))
+posted k c r = rowed (posted_of (view_of r) (posts c)).posted (left_posted (record_of r) (posts c))
 
 -- the same through the exported entry
-abbrev rowOut : AfterRow → List ℕ
-rowOut a = rowed (a .posted) (a .rec)
+abbrev row_out : AfterRow → List ℕ
+row_out a = rowed a.posted a.rec
 
-abbrev postedOut : ℕ → List ℕ → List ℕ → List ℕ
-postedOut k c r = rowOut (exportedRow (recordOf r) (posts c))
+abbrev posted_out : ℕ → List ℕ → List ℕ → List ℕ
+posted_out k c r = row_out (exported_row (record_of r) (posts c))
 '''
 
 
@@ -399,7 +406,7 @@ def numbers_of(call):
 
 def also(call):
     """The call through the exported entry, and how what a line says is told there."""
-    return ('postedOut', 'wanted') if call[0] == 15 else ('exported', 'told')
+    return ('posted_out', 'wanted') if call[0] == 15 else ('exported', 'told')
 
 
 def seeded():
@@ -428,8 +435,8 @@ def published(mods, traps=None, size=1):
     text = f'''use {SPECS}declared.State.{{State}}
 use {SPECS}declared.Step.{{Step}}
 use {SPECS}declared.Gives.{{Gives}}
-use {SPECS}declared.Gives.the-variants as gives
-use {SPECS}{home(mods, 'numberTaken')}.{{begun, endGives, numberTaken}}
+use {SPECS}declared.Gives.TheVariants as gives
+use {SPECS}{home(mods, 'number_taken')}.{{begun, end_gives, number_taken}}
 ''' + HEAD + '''
 abbrev numbers : Gives → List ℕ → List ℕ
 numbers gives.Nothing l = l
@@ -437,11 +444,11 @@ numbers (gives.Trap e p a b) l = e ∷ p ∷ a ∷ b ∷ l
 numbers (gives.Bad n) l = 0xbad ∷ n ∷ l
 
 abbrev put : Step → (State → List ℕ) → List ℕ
-put s on = numbers (s .gives) (on (s .state))
+put s on = numbers s.gives (on s.state)
 
 abbrev gave : State → List ℕ → List ℕ
-gave s [] = numbers (endGives (s .progress)) []
-gave s (n ∷ l) = put (numberTaken s n) (λ t. gave t l)
+gave s [] = numbers (end_gives s.progress) []
+gave s (n ∷ l) = put (number_taken s n) (λ t. gave t l)
 '''
     data = f'{ROOT}/crates/test_replays/data/published'
     rows = []
@@ -463,18 +470,18 @@ def whole(mods, names, skip):
 use Prim.Native.String.{{String, [] as none, _∷_ as _then_}}
 use {SPECS}declared.State.{{State}}
 use {SPECS}declared.Step.{{Step}}
-use {SPECS}{home(mods, 'replayOf')}.{{begun, endGives, numberTaken, outputOf, replayOf, stateAfter, textOf}}
+use {SPECS}{home(mods, 'replay_of')}.{{begun, end_gives, number_taken, output_of, replay_of, state_after, text_of}}
 """ + HEAD + """
 abbrev raw : String → List ℕ
 raw none = []
 raw (c then s) = code c ∷ raw s
 
 abbrev put : Step → (State → List ℕ) → List ℕ
-put s on = textOf (s .gives) ++ on (s .state)
+put s on = text_of s.gives ++ on s.state
 
 abbrev behind : State → List ℕ → List ℕ → List ℕ
-behind s [] rest = outputOf s rest ++ textOf (endGives (stateAfter s rest .progress))
-behind s (n ∷ l) rest = put (numberTaken s n) (λ t. behind t l rest)
+behind s [] rest = output_of s rest ++ text_of (end_gives (state_after s rest).progress)
+behind s (n ∷ l) rest = put (number_taken s n) (λ t. behind t l rest)
 """
 
     def quoted(data):
@@ -492,7 +499,7 @@ behind s (n ∷ l) rest = put (numberTaken s n) (λ t. behind t l rest)
                 break
             front.append(int(line.split(b'=')[1], 16))
         rest = b'\n'.join(lines[len(front):])
-        got = f'behind begun ({numerals(front)}) {quoted(rest)}' if skip else f'replayOf {quoted(capture)}'
+        got = f'behind begun ({numerals(front)}) {quoted(rest)}' if skip else f'replay_of {quoted(capture)}'
         rows.append(f'equal ({got}) {quoted(replay)}')
     return together(text, rows, 8)
 
@@ -511,7 +518,7 @@ def table_of(mods, name):
 def reached(mods, texts):
     """The modules that the equations rest on."""
     short = {m.short: m for m in mods.values()}
-    todo = [n for t in texts for n in re.findall(r'^use Rattle·d·specs\.specs\.(?!declared)(\w+)', t, re.M)]
+    todo = [n for t in texts for n in re.findall(r'^use Rattle\.d\.specs\.(?!declared)(\w+)', t, re.M)]
     found = {}
     while todo:
         m = short[todo.pop()]
@@ -540,8 +547,7 @@ def kept(name):
 
 
 def make(anew=True):
-    """target/definitions/crate, with all of it accepted, and target/definitions/clean, what its check left to load. Gives what
-    they are known by."""
+    """The folder crate, with all of it accepted, and clean, what its check left to load. Gives what they are known by."""
     began = time.time()
     used, files = pieces()
     key = digest(files)
@@ -565,10 +571,9 @@ def make(anew=True):
 
 
 def check(inc, crate='crate', seconds=SECONDS):
-    kit = os.environ.get('RATTLE_HOME') or os.path.dirname(os.path.dirname(os.path.realpath(shutil.which('rt'))))
-    own = f'{kit}/on/{os.uname().machine}'
-    words = [f'{own}/bin/rattle', 'check', '--crate-name', 'd', f'{WORK}/{crate}/src/lib.rt', '--extern', f'std={own}/rlib/std.rlib',
-             '-L', f'dependency={own}/rlib', '--antt-project', f'{kit}/logic/antt-project.json', '--logic-built', f'{own}/logic-built',
+    kit = subprocess.run([f'{ROOT}/tools/kit'], stdout=subprocess.PIPE, text=True, check=True).stdout.strip()
+    words = [f'{kit}/bin/rattle', 'check', '--crate-name', 'd', f'{WORK}/{crate}/src/lib.rt', '--extern', f'std={kit}/rlibs/std.rlib',
+             '-L', f'dependency={kit}/rlibs', '--antt-project', f'{kit}/rattle/logic/antt-project.json', '--logic-built', f'{kit}/logic_built',
              '--incremental', f'{WORK}/{inc}']
     try:
         ran = subprocess.run(['sh', '-c', 'exec nice -n 10 "$@"', 'sh'] + words, stdout=subprocess.PIPE, stderr=subprocess.STDOUT, timeout=seconds)
@@ -607,7 +612,7 @@ calls call kind numbers before code out after =
 
 abbrev rows : (ℕ → List ℕ → List ℕ → List ℕ) → ℕ → List ℕ → List ℕ → ℕ → List ℕ → List ℕ → Bool
 rows call kind numbers before code out after =
-    both (gives (call kind numbers) before code out after) (gives (postedOut kind numbers) before code out after)
+    both (gives (call kind numbers) before code out after) (gives (posted_out kind numbers) before code out after)
 """
 
     def places(old, new):
@@ -623,21 +628,21 @@ rows call kind numbers before code out after =
 def housed(mods, text):
     """Equations over the repository's own crates, each with every definition named on its `unfolding` line."""
     short = {m.short: m for m in mods.values()}
-    homes = {name: f'Rattle·{crate}.specs.declared.{module and module + "."}{name}' for crate, module, code in sources()
+    homes = {name: f'Rattle.{crate}.specs.declared.{module and module + "."}{name}' for crate, module, code in sources()
              for name in re.findall(r'^pub (?:struct|enum) (\w+)', code, re.M)}
     used = reached(mods, [text])
-    text = text.replace(IMPORTS + SAME, IMPORTS + 'use Rattle·test_definitions·specs.specs.Same.{both, equal}\n')
+    text = text.replace(IMPORTS + SAME, IMPORTS + 'use Rattle.test_definitions.specs.Same.{both, equal}\n')
     text = re.sub(re.escape(SPECS) + r'declared\.(\w+)', lambda m: homes[m.group(1)], text)
-    text = re.sub(re.escape(SPECS) + r'(\w+)', lambda m: f'Rattle·{short[m.group(1)].crate}.specs.{short[m.group(1)].name}', text)
+    text = re.sub(re.escape(SPECS) + r'(\w+)', lambda m: f'Rattle.{short[m.group(1)].crate}.specs.{short[m.group(1)].name}', text)
     names, lines = [], ''
     for m in used:
         own = [b[3] for b in m.blocks() if b[2] == 'unfoldable']
         if own:
             alias = 'the' + m.short
-            lines += f'use Rattle·{m.crate}.specs.{m.name} as {alias}\n'
+            lines += f'use Rattle.{m.crate}.specs.{m.name} as {alias}\n'
             names += [f'{alias}.{n}' for n in own]
-    text = re.sub(r'^(rows-\d+ : .*\n)', lambda m: m.group(1) + 'unfolding ' + ' '.join(names) + '\n', text, flags=re.M)
-    return lines + text
+    text = re.sub(r'^(rows_\d+ : .*\n)', lambda m: m.group(1) + 'unfolding ' + ' '.join(names) + '\n', text, flags=re.M)
+    return lines + pruned(text)
 
 
 def listed_files():
@@ -647,8 +652,7 @@ def listed_files():
              'Vectors': ('Every fortieth of the vectors and some of all 16-bit words (docs/VECTORS.md): what the definitions give. objdump and qemu say what is right.', vectors(mods, 40, 10 ** 6)),
              'Captures': ('The first four traps of each stored capture of the published Rust (docs/CAPTURES.md), by the numbers of its lines.', published(mods, 4, 10 ** 6))}
     files = {name: f'-- {said}\n-- tools/definitions.py listed writes this file.\n' + housed(mods, text) for name, (said, text) in about.items()}
-    needed = re.sub(r', (_[^\w∷]_|_\+\+_|ltb|T)(?=[,}])', '', IMPORTS)
-    files['Same'] = '-- Lists of numbers compared, by computing.\n-- tools/definitions.py listed writes this file.\n' + needed + SAME.replace('abbrev', 'abbrev pub')
+    files['Same'] = pruned('-- Lists of numbers compared, by computing.\n-- tools/definitions.py listed writes this file.\n' + IMPORTS + SAME.replace('abbrev', 'abbrev pub'))
     files['Lib'] = ''.join(f'pub mod {n}\n' for n in ['Same', 'Further', *about])
     return {f'crates/test_definitions/specs/{name}.antt': text for name, text in files.items()}
 
@@ -659,8 +663,10 @@ def write_listed():
 
 
 def check_listed():
-    """A row that is gone leaves a crate that is proved, so the rows are held to what makes them."""
-    wrong = [path for path, text in listed_files().items() if not os.path.exists(f'{ROOT}/{path}') or open(f'{ROOT}/{path}', encoding='utf-8').read() != text]
+    """A row that is gone leaves a crate that is proved, so the rows are held to what makes them; their imports of the library, which
+    `rt tidy` writes too, may be laid out otherwise."""
+    own = lambda text: re.sub(r'^use Rattle\.std\..*\n', '', text, flags=re.M)
+    wrong = [path for path, text in listed_files().items() if not os.path.exists(f'{ROOT}/{path}') or own(read(f'{ROOT}/{path}')) != own(text)]
     for path in wrong:
         print(f'{path} is not what tools/definitions.py listed writes')
     print(f'crates/test_definitions: {len(wrong)} files differ from what makes them')
@@ -670,8 +676,8 @@ def check_listed():
 
 # ---- the mutants
 
-TOKEN = re.compile(r'(?P<comment>--.*)|(?P<text>"[^"]*")|(?P<number>0x[0-9A-Fa-f_]+|[0-9][0-9_]*)(?![^\s(){};])|(?P<field>\.[A-Za-z0-9]+)'
-                   r'|(?P<mark>[(){};])|(?P<word>[^\s(){};"]+)')
+TOKEN = re.compile(r'(?P<comment>--.*)|(?P<text>"[^"]*")|(?P<number>0x[0-9A-Fa-f_]+|[0-9][0-9_]*)(?![^\s(){};])|(?P<field>\.(?:[a-z]\w*|0))'
+                   r'|(?P<mark>[(){};])|(?P<word>(?:(?!\.[a-z])[^\s(){};"])+)')
 OPERATORS = {'+', '-', '*', '/', '%', '^', '++', '∷', '=', '∙'}
 
 
@@ -760,8 +766,8 @@ def imported(text, library, name):
 
 
 RUST = {'u64': 'ℕ', 'usize': 'ℕ', 'u32': 'ℕ', 'bool': 'Bool'}
-LIBRARY = {'eqb': 'ℕ → ℕ → Bool', 'leb': 'ℕ → ℕ → Bool', 'ltb': 'ℕ → ℕ → Bool', 'getD': 'List ℕ → ℕ → ℕ → ℕ', 'set': 'List ℕ → ℕ → ℕ → List ℕ',
-           'take': 'ℕ → List ℕ → List ℕ', 'drop': 'ℕ → List ℕ → List ℕ', 'length': 'List ℕ → ℕ', 'bitOr': 'ℕ → ℕ → ℕ', 'bitAnd': 'ℕ → ℕ → ℕ',
+LIBRARY = {'eqb': 'ℕ → ℕ → Bool', 'leb': 'ℕ → ℕ → Bool', 'ltb': 'ℕ → ℕ → Bool', 'get_or': 'List ℕ → ℕ → ℕ → ℕ', 'set': 'List ℕ → ℕ → ℕ → List ℕ',
+           'take': 'ℕ → List ℕ → List ℕ', 'drop': 'ℕ → List ℕ → List ℕ', 'length': 'List ℕ → ℕ', 'bit_or': 'ℕ → ℕ → ℕ', 'bit_and': 'ℕ → ℕ → ℕ',
            'and': 'Bool → Bool → Bool', 'or': 'Bool → Bool → Bool', 'not': 'Bool → Bool', 'wrapped': 'ℕ → ℕ', 'replicate': 'ℕ → ℕ → List ℕ',
            'sets': 'List ℕ → ℕ → List ℕ → List ℕ', 'true': 'Bool', 'false': 'Bool', '[]': 'List ℕ'}
 
@@ -875,8 +881,8 @@ def typed(pattern, kind, variants, enums):
 def candidates(module, mods, structs, enums):
     """Every change of every definition of a file by rule: (definition, rule, place, old, new, the file)."""
     text = module.text
-    variants = dict((alias, enum) for enum, alias in re.findall(r'declared\.(?:[a-z]\w*\.)?(\w+)\.the-variants as (\S+)', text))
-    families = [[n.strip() for n in names.split(',')] for names in re.findall(r'^use Rattle·\w+?(?:·specs)?\.specs\.(?!declared)\w+\.\{([^}]*)\}', text, re.M)]
+    variants = dict((alias, enum) for enum, alias in re.findall(r'declared\.(?:[a-z]\w*\.)?(\w+)\.TheVariants as (\S+)', text))
+    families = [[n.strip() for n in names.split(',')] for names in re.findall(r'^use Rattle\.(?!std\.)\w+\.specs\.(?!declared)\w+\.\{([^}]*)\}', text, re.M)]
     families.append([b[3] for b in module.blocks() if b[2]])
     names = {}
     for crate, other in module.uses:
@@ -909,20 +915,20 @@ def candidates(module, mods, structs, enums):
             fixed = set()
             for app in body.apps:
                 head = word(app[0])
-                if head == 'getD' and len(app) == 4:
+                if head == 'get_or' and len(app) == 4:
                     fixed.add(app[3])
                 if head == 'pick' and len(app) == 4:
                     add('branches exchanged', [(*app[2], word(app[3])), (*app[3], word(app[2]))])
                     add('test left out', [(app[0][0], app[3][1], word(app[2]))])
                     add('test left out', [(app[0][0], app[3][1], word(app[3]))])
-                elif head not in ('eqb', 'and', 'or', 'both', 'bitOr', 'bitAnd', 'λ'):
+                elif head not in ('eqb', 'and', 'or', 'both', 'bit_or', 'bit_and', 'λ'):
                     kinds = [types.of(word(p)) for p in app]
                     result = types.of(text[app[0][0]:app[-1][1]])
                     for p, q, k, l in zip(app[1:], app[2:], kinds[1:], kinds[2:]):
-                        if k and k == l and not (head == 'getD' and q == app[3]):
+                        if k and k == l and not (head == 'get_or' and q == app[3]):
                             add('arguments exchanged', [(*p, word(q)), (*q, word(p))])
                     for p, k in zip(app[1:], kinds[1:]):
-                        if k and k == result and not (head == 'getD' and p != app[1]):
+                        if k and k == result and not (head == 'get_or' and p != app[1]):
                             add('call left out', [(app[0][0], app[-1][1], word(p))])
             for values in body.records:
                 for (_, p), (_, q) in zip(values, values[1:]):
@@ -952,13 +958,13 @@ def candidates(module, mods, structs, enums):
                     continue
                 if leaf in ('true', 'false'):
                     other = 'false' if leaf == 'true' else 'true'
-                    add('another case', [(a, b, other)], 'mathlib.Core.Bool', other)
+                    add('another case', [(a, b, other)], 'Rattle.std.specs.Prelude', other)
                 if leaf in ('eqb', 'leb', 'ltb'):
                     for other in {'eqb': ['leb', 'ltb'], 'leb': ['ltb', 'eqb'], 'ltb': ['leb']}[leaf]:
-                        add('another comparison', [(a, b, other)], 'lib.Dec', other)
-                if leaf in ('bitOr', 'bitAnd'):
-                    other = 'bitAnd' if leaf == 'bitOr' else 'bitOr'
-                    add('another operation', [(a, b, other)], 'lib.Bits', other)
+                        add('another comparison', [(a, b, other)], 'Rattle.std.specs.Prelude', other)
+                if leaf in ('bit_or', 'bit_and'):
+                    other = 'bit_and' if leaf == 'bit_or' else 'bit_or'
+                    add('another operation', [(a, b, other)], 'Rattle.std.specs.Prelude', other)
                 if '.' in leaf and leaf.split('.')[0] in variants:
                     cases = enums[variants[leaf.split('.')[0]]]
                     i = [c for c, _ in cases].index(leaf.split('.')[1])
@@ -978,7 +984,7 @@ def candidates(module, mods, structs, enums):
                                 add('another definition', [(a, b, n)])
             for a, b in body.signs:
                 for other in {'+': ['-'], '-': ['+'], '/': ['%'], '%': ['/'], '*': ['+']}.get(text[a:b], []):
-                    add('another operation', [(a, b, other)], 'Prim.Native.Nat', f'_{other}_')
+                    add('another operation', [(a, b, other)], 'Rattle.std.specs.Prelude', f'◌{other}◌')
     return found
 
 
@@ -1091,7 +1097,7 @@ def law_files():
 
 
 def make_laws():
-    """target/definitions/laws, with all of it accepted, and what its check left to load. Gives what they are known by."""
+    """The folder laws, with all of it accepted, and what its check left to load. Gives what they are known by."""
     files = law_files()
     key = digest(files)
     if kept('laws-made') == key:

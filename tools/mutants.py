@@ -2,9 +2,10 @@
 """Small wrong changes of the code, and whether the prover refuses them.
 
     tools/mutants.py list [--crate NAME..] [--function NAME..] [--each N] [--most N]
-    tools/mutants.py run PART/PARTS [--crate NAME..] [--function NAME..] [--each N] [--most N] [--jobs N] [--again] [--later]
+    tools/mutants.py run PART/PARTS [--crate NAME..] [--function NAME..] [--each N] [--most N] [--jobs N] [--again]
     tools/mutants.py table              writes the tables of docs/MUTANTS.md from the results
     tools/mutants.py edits [NAME..]     tries edits/CRATE/*.edit: each must be refused, or the exit status is 1
+    tools/mutants.py fits [NAME..]      only looks whether each of them, and of crates/CRATE/must-fail/*.edit, fits the text as it stands
 
 A mutant is one change at one place of a function's body that keeps the body's shape: another constant, comparison,
 operator, index, field or variant, two arguments, fields, arms or statements exchanged, a statement dropped, a condition
@@ -12,9 +13,9 @@ negated. Contracts, types and constants' declarations are never changed. What th
 not count. The rest is sorted:
 
     fact       a goal is not closed: the facts of the path fit, and the promise does not follow, or two values differ
-    fact-new   the proof file did not fit the changed code; with a proof written anew by tools/prove.py, as `fact`
-    fit        the proof file did not fit, and tools/prove.py writes none that does
-    unfit      the proof file did not fit, and no new one was tried (--later); `left` in the table
+    fact-new   the proof file did not fit the changed code; with a proof written anew, as `fact` (results of an older toolchain)
+    fit        the proof file did not fit, and none that does was found (results of an older toolchain)
+    unfit      the proof file did not fit, and no new one was tried; `left` in the table
     run        accepted, and the program then writes something else than its file `stdout`
     broken     accepted, and the program is not built, ends by a signal or with a status, or does not end: nothing was compared
     accepted   proved, by the proof as it is or by a new one. Each has its reason in tools/mutants.txt, or is open
@@ -22,15 +23,15 @@ not count. The rest is sorted:
 --each N takes at most N mutants of a function and a rule, --most N at most N of a function, chosen by a hash, so the
 same ones each time. Part 2/5 is each fifth function from the second on. `run` appends a line for each mutant to
 docs/mutants.jsonl and passes over what stands there; a mutant is known by its function's text before and after
-the change, so a function that moves keeps its results. After a definition changes, `run --again` tries all anew. With
---later no proof is written anew: a run without it does that for those that are left.
+the change, so a function that moves keeps its results. After a definition changes, `run --again` tries all anew.
 
-It checks a copy of the crate below target/mutants over an incremental folder, some three seconds a mutant.
+It checks a copy of the crate, in the folder for temporary files, over an incremental folder: `rt ci` refuses a copy in the checkout. What
+a crate stands on is there already or built by tools/libraries.
 """
 import argparse
 import fcntl
+import glob
 import hashlib
-import importlib.util
 import json
 import os
 import re
@@ -41,7 +42,7 @@ import tempfile
 import time
 
 ROOT = os.path.dirname(os.path.dirname(os.path.abspath(__file__)))
-WORK = f"{ROOT}/target/mutants"
+WORK = f"{tempfile.gettempdir()}/mutants-of-{hashlib.sha256(ROOT.encode()).hexdigest()[:16]}"
 RESULTS = f"{ROOT}/docs/mutants.jsonl"
 # A library whose functions promise safety alone, and the program whose output shows what they do.
 SHOWN_BY = {"test_call_lines": "test_call_list", "test_call_rows": "test_call_list"}
@@ -373,7 +374,7 @@ def listed_crates():
     for line in open(f"{ROOT}/crates.txt"):
         name, mark, rest = line.split("#")[0].partition(":")
         if mark:
-            deps[name.strip()] = rest.split()
+            deps[name.split()[0]] = rest.split()
     return deps
 
 
@@ -415,52 +416,43 @@ def mutants(crates, each, most, only=()):
 
 # ---- checking
 
-def kit():
-    """The toolchain's folder, and what of it is for this machine."""
-    found = subprocess.run([f"{ROOT}/tools/kit"], stdout=subprocess.PIPE, text=True)
+def told(*words):
+    """What one of the repository's tools prints; it has said itself what is wrong where it fails."""
+    found = subprocess.run([f"{ROOT}/{words[0]}", *words[1:]], stdout=subprocess.PIPE, text=True)
     if found.returncode:
-        sys.exit(found.returncode)  # it has said what it looked for
-    home = found.stdout.strip()
-    return home, f"{home}/on/{os.uname().machine}"
+        sys.exit(found.returncode)
+    return found.stdout.strip()
 
 
 LOCKS = {}
 
 
 def take(worker):
-    """The worker's folder is this run's alone: another run would put links to the repository where this one has its copy."""
+    """The worker's folder is this run's alone."""
     if worker not in LOCKS:
         os.makedirs(WORK, exist_ok=True)
         LOCKS[worker] = open(f"{WORK}/work{worker}.lock", "w")
         try:
             fcntl.flock(LOCKS[worker], fcntl.LOCK_EX | fcntl.LOCK_NB)
         except BlockingIOError:
-            sys.exit(f"tools/mutants.py: another run is at work in target/mutants/work{worker}")
+            sys.exit(f"tools/mutants.py: another run is at work in {WORK}/work{worker}")
 
 
 class Copy:
-    """A repository that holds a copy of one crate, and links to all else."""
+    """A copy of one crate, over the libraries of the repository."""
 
     def __init__(self, crate, deps, worker):
         self.crate, self.deps, self.root = crate, deps, f"{WORK}/work{worker}"
-        self.home, self.own = kit()
+        self.kit = told("tools/kit")
         take(worker)
         shutil.rmtree(f"{self.root}/crates", ignore_errors=True)
-        for folder in ("crates", "target/gen", "tools", f"target/inc/{crate}"):
+        for folder in ("crates", f"inc/{crate}"):
             os.makedirs(f"{self.root}/{folder}", exist_ok=True)
-        for name in deps:
-            if name != crate:
-                os.symlink(f"{ROOT}/crates/{name}", f"{self.root}/crates/{name}")
-        for name in ("crates.txt", "tools/hints"):
-            if not os.path.lexists(f"{self.root}/{name}"):
-                os.symlink(f"{ROOT}/{name}", f"{self.root}/{name}")
         self.dir = f"{self.root}/crates/{crate}"
         os.makedirs(self.dir)
         self.reset()
 
     def reset(self):
-        if os.path.islink(self.dir):
-            sys.exit(f"tools/mutants.py: {self.dir} is a link, and no copy")
         for part in ("src", "specs", "proofs", "data", "stdin", "stdout", "args"):
             original, copy = f"{ROOT}/crates/{self.crate}/{part}", f"{self.dir}/{part}"
             shutil.rmtree(copy, ignore_errors=True)
@@ -472,46 +464,42 @@ class Copy:
     def rattle(self, verb, *words, program=None, rlib=None):
         """Runs rattle on the crate, or on a program over the crate's rlib."""
         crate, folder = (program, f"{ROOT}/crates/{program}") if program else (self.crate, self.dir)
-        main = f"{folder}/src/main.rt"
-        line = [f"{self.own}/bin/rattle", verb, "--crate-name", crate, main if os.path.exists(main) else f"{folder}/src/lib.rt",
-                "--extern", f"std={self.own}/rlib/std.rlib"]
-        for d in self.deps[crate]:
-            home = rlib if program and d == self.crate else f"{ROOT if d in self.deps else self.own}/{'target/' if d in self.deps else ''}rlib/{d}.rlib"
-            line += ["--extern", f"{d}={home}"]
-        line += ["-L", f"dependency={ROOT}/target/rlib", "-L", f"dependency={self.own}/rlib", "--antt-project",
-                 f"{self.home}/logic/antt-project.json", "--logic-built", f"{self.own}/logic-built", *words]
-        done = subprocess.run(line, capture_output=True, text=True, cwd=self.root)
+        root = "src/main.rt" if os.path.exists(f"{folder}/src/main.rt") else "src/lib.rt"
+        line = [f"{self.kit}/bin/rattle", verb, "--crate-name", crate, root]
+        for word in told("tools/libraries", "--words", crate).split("\n"):
+            if program and word.startswith(f"{self.crate}="):
+                word = f"{self.crate}={rlib}"
+            line.append(word)
+        done = subprocess.run([*line, *words], capture_output=True, text=True, cwd=folder)
         return done.returncode, done.stdout + done.stderr
 
     def check(self, *words):
-        return self.rattle("check", "--incremental", f"{self.root}/target/inc/{self.crate}", *words)
+        return self.rattle("check", "--incremental", f"{self.root}/inc/{self.crate}", *words)
 
     def by_run(self, program=None):
         """The sort of an accepted mutant by its run: `accepted` where the crate, or a program over it, still writes what its
         file `stdout` has, `run` where it writes something else, `broken` where it wrote nothing to judge; and what happened.
-        It runs as under `rt check`: over a copy of its data, and as nobody where this is root."""
-        tools, room = f"{self.own}/toolchain", tempfile.mkdtemp()
+        It runs as under `rt ci`: over a copy of its data, and as nobody where this is root."""
+        tools, room = f"{self.kit}/toolchain", tempfile.mkdtemp()
         folder = f"{ROOT}/crates/{program}" if program else self.dir
         try:
             status, said = self.rattle("build", "-o", f"{room}/{self.crate}.rlib") if program else (0, "")
             if not status:
-                kept = f"{self.root}/target/inc/{program or self.crate}"
+                kept = f"{self.root}/inc/{program or self.crate}"
                 os.makedirs(kept, exist_ok=True)
-                status, said = self.rattle("build", "--incremental", kept, "--toolchain", tools, "-o", f"{room}/program.o",
+                status, said = self.rattle("build", "--incremental", kept, "--backend", "llvm", "--toolchain", tools, "-o", f"{room}/program.o",
                                            program=program, rlib=f"{room}/{self.crate}.rlib")
             if status:
                 return "broken", said[-160:]
-            linked = subprocess.run([f"{self.own}/bin/rattle-link", "--target", "x86_64-unknown-linux-gnu", "--toolchain", tools, "-o", f"{room}/program",
-                                     f"{room}/program.o", f"{self.home}/lib/libos_c.a"], capture_output=True, text=True)
+            linked = subprocess.run([f"{self.kit}/bin/rattle-link", "--target", "x86_64-unknown-linux-gnu", "--toolchain", tools, "-o", f"{room}/program",
+                                     f"{room}/program.o", f"{self.kit}/c/libos_c.a", f"{self.kit}/c/liblibc_c.a"], capture_output=True, text=True)
             if linked.returncode:
                 return "broken", f"rattle-link: {linked.stderr[-140:]}"
             part = lambda name: open(f"{folder}/{name}", "rb").read() if os.path.isfile(f"{folder}/{name}") else b""
             shutil.copytree(f"{folder}/data", f"{room}/data") if os.path.isdir(f"{folder}/data") else os.mkdir(f"{room}/data")
-            line = [f"{tools}/lib/ld-linux-x86-64.so.2", "--library-path", f"{tools}/lib", f"{room}/program", *part("args").decode().split("\n")]
+            line = [f"{room}/program", *part("args").decode().split("\n")]
             if line[-1] == "":
                 line.pop()
-            if os.path.exists(f"{tools}/bin/qemu-x86_64"):
-                line.insert(0, f"{tools}/bin/qemu-x86_64")
             if os.getuid() == 0:
                 subprocess.run(["chmod", "-R", "go+rX", room], check=True)
                 subprocess.run(["chown", "-R", "65534:65534", f"{room}/data"], check=True)
@@ -562,7 +550,7 @@ def verdict(status, said, crate, function=None, fresh=False):
     line = re.search(rf"^fn {crate}::{function}: (.*)", said, re.M)
     if line and line[1] == "proved":
         return "accepted", ""
-    errors = re.findall(rf"^(\S*/proofs/(?:\S*/)?{function}/\S*?):(\d+):(\d+): error: (.*)", said, re.M)
+    errors = re.findall(rf"^((?:\S*/)?proofs/(?:\S*/)?{function}/\S*?):(\d+):(\d+): error: (.*)", said, re.M)
     errors = [e for e in errors if FOLLOWS not in e[3]]
     goals = [e for e in errors if of_goal(e[0], int(e[1]), int(e[2]), e[3], fresh)]
     if errors:
@@ -570,55 +558,6 @@ def verdict(status, said, crate, function=None, fresh=False):
     if line and "it calls" in line[1]:
         return "calls", line[1][:160]
     return "fact", (line[1] if line else "")[:160]
-
-
-class Prover:
-    """tools/prove.py, at work in a copy."""
-
-    def __init__(self):
-        spec = importlib.util.spec_from_file_location("prove", f"{ROOT}/tools/prove.py")
-        self.prove = importlib.util.module_from_spec(spec)
-        spec.loader.exec_module(self.prove)
-
-    def write(self, copy, functions):
-        """Writes the functions' proofs anew, where it can."""
-        prove, crate = self.prove, copy.crate
-        for function in functions:
-            shutil.rmtree(f"{copy.dir}/proofs/{function}", ignore_errors=True)
-        generated = f"{copy.root}/target/gen/{crate}"
-        shutil.rmtree(generated, ignore_errors=True)
-        copy.check("--generated", generated)
-        _, said = copy.check()
-        here = os.getcwd()
-        os.chdir(copy.root)
-        hints = {}
-        if os.path.exists(f"tools/hints/{crate}.toml"):
-            hints = prove.tomllib.load(open(f"tools/hints/{crate}.toml", "rb"))
-        where, definition = prove.definitions(crate), prove.promised(crate)
-        for block in re.split(r"^help: write ", said, flags=re.M)[1:]:
-            path = block.split(" ", 1)[0]
-            function = path.rsplit("/", 2)[1]
-            if function not in functions or function not in definition:
-                continue  # another function's, or one whose promise prove.py does not read: no proof is written
-            frame = "\n".join(line[4:] for line in block.split("\n")[1:] if line.startswith("    "))
-            lts = f"{generated}/Rattle·{crate}·proofs/proofs/{function}/Lts.antt"
-            try:
-                text = prove.proof(frame, prove.facts(lts), hints.get(function, {}), definition.get(function), where)
-            except (OSError, KeyError, IndexError):
-                continue
-            os.makedirs(os.path.dirname(path), exist_ok=True)
-            open(path, "w").write(text.rstrip("\n") + "\n")
-        os.chdir(here)
-
-    def knows(self, copy, function):
-        """Whether it wrote the proof that the repository has: each part is one line, or there is a hint for it."""
-        hints, path = f"{ROOT}/tools/hints/{copy.crate}.toml", f"{ROOT}/crates/{copy.crate}/proofs/{function}/Proof.antt"
-        if os.path.exists(hints) and function in self.prove.tomllib.load(open(hints, "rb")):
-            return True
-        if not os.path.exists(path):
-            return True
-        parts = re.findall(r"^(?!pub |use |--|unfolding )[\w-]+(?: \S+)* = (.*)", open(path).read(), re.M)
-        return all(re.match(r"simp \(|refl$|search needs$|tie\.close", part) for part in parts if part)
 
 
 def change(copy, batch):
@@ -636,7 +575,7 @@ def blamed(copy, batch, said):
     found = []
     for file in {m.file for m in batch}:
         text = open(f"{copy.dir}/src/{file}").read()
-        lines = {int(n) for n in re.findall(rf"/src/{re.escape(file)}:(\d+):\d+: error", said)}
+        lines = {int(n) for n in re.findall(rf"\bsrc/{re.escape(file)}:(\d+):\d+: error", said)}
         for name, start, end, _ in functions(text):
             first, last = text.count("\n", 0, start) + 1, text.count("\n", 0, end) + 1
             if any(first <= n <= last for n in lines):
@@ -644,7 +583,7 @@ def blamed(copy, batch, said):
     return found
 
 
-def try_batch(copy, prover, batch):
+def try_batch(copy, batch):
     """Sorts mutants of different functions of a crate, checked at once: a function's proof rests on the contracts of
     those that it calls and not on their code. Gives (mutant, sort, message) for each, or fewer where the front end
     refuses some: the others are to be tried again."""
@@ -657,27 +596,11 @@ def try_batch(copy, prover, batch):
             return [(m, "front", message) for m in guilty]
         if len(batch) == 1:
             return [(batch[0], sort, message)]
-        return [r for m in batch for r in try_batch(copy, prover, [m])]
+        return [r for m in batch for r in try_batch(copy, [m])]
     done = [(m, *verdict(status, said, copy.crate, m.function)) for m in batch]
     if len(batch) > 1:
         alone = [m for m, sort, _ in done if sort == "calls"]
-        done = [r for r in done if r[1] != "calls"] + [r for m in alone for r in try_batch(copy, prover, [m])]
-    return done
-
-
-def prove_anew(copy, prover, batch):
-    """Sorts mutants of different functions whose proofs did not fit, with proofs written anew."""
-    again = [m for m in batch if prover.knows(copy, m.function)]
-    done = [(m, "fit", "") for m in batch if m not in again]
-    if again:
-        change(copy, again)
-        prover.write(copy, [m.function for m in again])
-        status, said = copy.check()
-        for m, sort, message in [(m, *verdict(status, said, copy.crate, m.function, True)) for m in again]:
-            if sort == "calls" and len(again) > 1:
-                done += prove_anew(copy, prover, [m])
-            else:
-                done.append((m, "fact-new" if sort in ("fact", "calls") else sort, message))
+        done = [r for r in done if r[1] != "calls"] + [r for m in alone for r in try_batch(copy, [m])]
     return done
 
 
@@ -701,16 +624,15 @@ def results():
 
 
 def ready(names):
-    """Proves the crates as they are, and what they stand on: those that are proved are passed over."""
-    env = {**os.environ, "RT_JOBS": os.environ.get("RT_JOBS", "1")}
-    if names and subprocess.run(["rt", "check", *names], cwd=ROOT, env=env, stdout=subprocess.DEVNULL).returncode:
-        sys.exit("tools/mutants.py: not proved as it is: see rt check " + " ".join(names))
+    """Has what the crates stand on there."""
+    if names:
+        told("tools/libraries", *names)
 
 
 def run(args, crates, deps):
     part, parts = map(int, args.part.split("/"))
     if args.jobs > 1:
-        ready(crates)  # once: two checks at a time in one target/ would each find the other's crates half made
+        ready(crates)  # once, before the others start
         words = [w for w in sys.argv[3:]] + ["--jobs", "1"]
         children = [subprocess.Popen([sys.executable, os.path.abspath(__file__), "run", f"{(part - 1) * args.jobs + k + 1}/{parts * args.jobs}", *words])
                     for k in range(args.jobs)]
@@ -719,30 +641,17 @@ def run(args, crates, deps):
     work = [group for k, group in enumerate(mutants(crates, args.each, args.most, args.function)) if k % parts == part - 1]
     os.makedirs(WORK, exist_ok=True)
     ready(sorted({group[0].crate for group in work if group}))
-    prover = Prover()
     for crate in crates:
         queues = [[m for m in group if m.key not in known] for group in work if group and group[0].crate == crate]
-        unfit = [(m, "unfit", known[m.key]["message"]) for group in work for m in group
-                 if m.crate == crate and m.key in known and known[m.key]["sort"] == "unfit" and not args.later]
         copy = None
-        while any(queues) or unfit:
+        while any(queues):
             if not copy:
                 copy = Copy(crate, deps, part)
             began = time.time()
-            if any(queues):
-                done = try_batch(copy, prover, [q[0] for q in queues if q])
-                tried = {m.key for m, _, _ in done}
-                queues = [[m for m in q if m.key not in tried] for q in queues]
-                if args.later:
-                    done = [(m, "unfit" if sort == "fit" else sort, message) for m, sort, message in done]
-                else:
-                    unfit += [r for r in done if r[1] == "fit"]
-                    done = [r for r in done if r[1] != "fit"]
-            else:
-                first = {m.function: (m, said) for m, _, said in reversed(unfit)}
-                done = [(m, sort, message or first[m.function][1]) for m, sort, message in prove_anew(copy, prover, [m for m, _ in first.values()])]
-                tried = {m.key for m, _, _ in done}
-                unfit = [r for r in unfit if r[0].key not in tried]
+            done = try_batch(copy, [q[0] for q in queues if q])
+            tried = {m.key for m, _, _ in done}
+            queues = [[m for m in q if m.key not in tried] for q in queues]
+            done = [(m, "unfit" if sort == "fit" else sort, message) for m, sort, message in done]
             done = run_accepted(copy, done)
             took = round((time.time() - began) / max(1, len(done)), 1)
             with open(RESULTS, "a") as out:
@@ -799,8 +708,8 @@ def table(deps):
 
 # ---- edits
 
-def apply_edit(copy, path):
-    """Makes the replacements of an edit file in the copy; what is wrong with the file, if anything."""
+def apply_edit(folder, path):
+    """Makes the replacements of an edit file in a folder; what is wrong with the file, if anything."""
     file, old, pairs = "", "", 0
     for line in open(path).read().split("\n"):
         if line.startswith("file: "):
@@ -808,7 +717,7 @@ def apply_edit(copy, path):
         elif line.startswith("old: "):
             old = line[5:]
         elif line.startswith("new:"):
-            new, target = line[4:].removeprefix(" "), f"{copy.dir}/{file}"
+            new, target = line[4:].removeprefix(" "), f"{folder}/{file}"
             if not re.match(r"(src|specs|proofs)/", file) or ".." in file.split("/") or not os.path.isfile(target):
                 return "a 'file:' line names no file of the crate"
             text = open(target).read()
@@ -817,6 +726,23 @@ def apply_edit(copy, path):
             open(target, "w").write(text.replace(old, new))
             old, pairs = "", pairs + 1
     return "" if pairs else "it has no 'old:' and 'new:' pair"
+
+
+def fits(names, deps):
+    bad = tried = 0
+    for crate in names or deps:
+        for path in sorted(glob.glob(f"{ROOT}/edits/{crate}/*.edit") + glob.glob(f"{ROOT}/crates/{crate}/must-fail/*.edit")):
+            with tempfile.TemporaryDirectory() as room:
+                for part in ("src", "specs", "proofs"):
+                    if os.path.isdir(f"{ROOT}/crates/{crate}/{part}"):
+                        shutil.copytree(f"{ROOT}/crates/{crate}/{part}", f"{room}/{part}")
+                wrong = apply_edit(room, path)
+            tried += 1
+            bad += bool(wrong)
+            if wrong:
+                print(f"{os.path.relpath(path, ROOT)}: {wrong}", flush=True)
+    print(f"{tried - bad} edits fit, {bad} not")
+    return 1 if bad or not tried else 0
 
 
 def edits(names, deps):
@@ -836,7 +762,7 @@ def edits(names, deps):
         for file in sorted(f for f in os.listdir(f"{folder}/{crate}") if f.endswith(".edit")):
             began = time.time()
             copy.reset()
-            wrong = apply_edit(copy, f"{folder}/{crate}/{file}")
+            wrong = apply_edit(copy.dir, f"{folder}/{crate}/{file}")
             if not wrong:
                 status, said = copy.check()
                 if status == 0:
@@ -852,7 +778,7 @@ def edits(names, deps):
 
 def main():
     parser = argparse.ArgumentParser(description=__doc__, formatter_class=argparse.RawDescriptionHelpFormatter, usage=argparse.SUPPRESS)
-    parser.add_argument("command", choices=["list", "run", "table", "edits"])
+    parser.add_argument("command", choices=["list", "run", "table", "edits", "fits"])
     parser.add_argument("part", nargs="?", default="")
     parser.add_argument("names", nargs="*")
     parser.add_argument("--crate", nargs="+", default=[])
@@ -861,7 +787,6 @@ def main():
     parser.add_argument("--most", type=int, default=0)
     parser.add_argument("--jobs", type=int, default=1)
     parser.add_argument("--again", action="store_true")
-    parser.add_argument("--later", action="store_true")
     args = parser.parse_args()
     deps = listed_crates()
     unknown = [c for c in args.crate if c not in deps]
@@ -882,6 +807,8 @@ def main():
         run(args, crates, deps)
     elif args.command == "table":
         sys.exit(table(deps))
+    elif args.command == "fits":
+        sys.exit(fits([n for n in [args.part, *args.names] if n], deps))
     else:
         sys.exit(edits([n for n in [args.part, *args.names] if n], deps))
 

@@ -1,5 +1,9 @@
 #!/usr/bin/env python3
-"""Writes the proof files of a crate's functions.
+"""Wrote the proof files of a crate's functions for an older Rattle, and writes nothing for today's.
+
+Today's Rattle proves most functions by `#![tactic(auto)]`, and answers what is left in Invariants.antt and Answers.antt: `rt check
+--start FN` writes the files to start from. The frame that this script filled, Proof.antt, and the places that it read the facts off, are
+no longer made so. It stays for the words of tools/hints/*.toml, which say what each proof rested on. What it did:
 
     tools/prove.py CRATE            writes a proof for each function that has none
     tools/prove.py CRATE FN..       writes those of the named functions anew
@@ -168,45 +172,7 @@ def proof(frame, path_facts, hint, promise, where):
 
 
 def main():
-    if len(sys.argv) < 2:
-        sys.exit(__doc__)
-    crate, names = sys.argv[1], [a for a in sys.argv[2:] if a != "--all"]
-    proofs = f"crates/{crate}/proofs"
-    if not os.path.isdir(f"crates/{crate}/src"):
-        sys.exit(f"tools/prove.py: there is no crate {crate} in crates/")
-    source = "".join(open(path).read() for path in glob.glob(f"crates/{crate}/src/**/*.rt", recursive=True))
-    unknown = [name for name in names if name.rsplit("/", 1)[-1] not in re.findall(r"\bfn\s+(\w+)", source)]
-    if unknown:  # before anything is removed
-        sys.exit(f"tools/prove.py: the crate {crate} has no function {', '.join(unknown)}")
-    if "--all" in sys.argv:
-        names = [f for f in os.listdir(proofs) if os.path.isfile(f"{proofs}/{f}/Proof.antt")] if os.path.isdir(proofs) else []
-    for name in names:
-        shutil.rmtree(f"{proofs}/{name}", ignore_errors=True)
-    hints = {}
-    if os.path.exists(f"tools/hints/{crate}.toml"):
-        hints = tomllib.load(open(f"tools/hints/{crate}.toml", "rb"))
-    generated = GENERATED + crate
-    shutil.rmtree(generated, ignore_errors=True)
-    run_dev(crate, "--generated", generated)
-    where, definition = definitions(crate), promised(crate)
-    for block in re.split(r"^help: write ", run_dev(crate), flags=re.M)[1:]:
-        path = block.split(" ", 1)[0]
-        function = path.split("/proofs/")[1].rsplit("/Proof.antt", 1)[0]
-        if f"crates/{crate}/proofs/" not in path:
-            sys.exit(f"prove the crates below first: {os.path.relpath(path)}")
-        if names and function not in names and "--all" not in sys.argv:
-            continue
-        frame = "\n".join(line[4:] for line in block.split("\n")[1:] if line.startswith("    "))
-        lts = f"{generated}/Rattle·{crate}·proofs/proofs/{function}/Lts.antt"
-        text = proof(frame, facts(lts), hints.get(function, {}), definition.get(function, ([], 0)), where)
-        os.makedirs(os.path.dirname(path), exist_ok=True)
-        open(path, "w").write(f"-- `{crate}::{function}` meets its contract.\n" + text.rstrip("\n") + "\n")
-        print("wrote", os.path.relpath(path))
-    out = run_dev(crate)
-    open(f"target/prove.{crate}.out", "w").write(out)
-    for line in out.split("\n"):
-        if re.match(r"fn .*(?<!proved)$|logic=|.*\berror\b", line):
-            print(line[:400])
+    sys.exit("tools/prove.py: it wrote proofs for an older Rattle, and writes none for today's: see `rt check --start FN`")
 
 
 if __name__ == "__main__":
