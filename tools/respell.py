@@ -11,6 +11,8 @@ import re
 import sys
 
 SIGN = re.compile(r"^\s*(?:(?:unfoldable|abbrev|pub) )*([^\s(){}.,;:=λ]+) :(?=\s)")
+# A module's own name in one file; those that tools/definitions.py makes stay.
+ALIAS = re.compile(r"^(?:pub )?(?:ghost )?use .* as (?!the[A-Z])([a-z][A-Za-z0-9_]*)[};\s]*$")
 GOAL = re.compile(r" : (?:tie|goal)\.")
 WORD = r"[A-Za-z0-9_'-]"
 READ = {"read_by"}  # a definition that port.py has turned already
@@ -34,7 +36,7 @@ def declared():
     for path in files():
         with open(path, encoding="utf-8") as f:
             for line in f:
-                m = SIGN.match(line)
+                m = SIGN.match(line) or ALIAS.match(line)
                 if not m or line.lstrip().startswith("--"):
                     continue
                 (goals if GOAL.search(line) else names).add(m[1])

@@ -2,7 +2,7 @@
 #![tactic(auto)]
 
 ghost use Rattle.std.specs.Prelude.{◌≡◌};
-ghost use Rattle.scope.specs.declared.hosts.HostCall.TheVariants as hostCall;
+ghost use Rattle.scope.specs.declared.hosts.HostCall.TheVariants as host_call;
 ghost use Rattle.scope.specs.Calls.{called_of};
 
 use scope::{Answer, HostCall, Outcome, Reply, Vcpu};
@@ -35,7 +35,7 @@ pub fn call(v: Vcpu, c: HostCall) -> Outcome
 
 // A register read as an outcome: the record stays.
 fn read(v: Vcpu, index: usize) -> Outcome
-    ensures { result ≡ called_of v (hostCall.GetGpr index) }
+    ensures { result ≡ called_of v (host_call.GetGpr index) }
 {
     let reply = by_value_gprs::get_gpr(v, index);
     Outcome {
@@ -47,7 +47,7 @@ fn read(v: Vcpu, index: usize) -> Outcome
 
 // A new record as an outcome.
 fn fresh(v: Vcpu, hart_id: u64, dtb_addr: u64) -> Outcome
-    ensures { result ≡ called_of v (hostCall.New hart_id dtb_addr) }
+    ensures { result ≡ called_of v (host_call.New hart_id dtb_addr) }
 {
     Outcome {
         vcpu: by_value_setup::new(hart_id, dtb_addr),
@@ -58,7 +58,7 @@ fn fresh(v: Vcpu, hart_id: u64, dtb_addr: u64) -> Outcome
 
 // How much is to be printed, as an outcome: the record stays.
 fn printing(v: Vcpu, length: u64) -> Outcome
-    ensures { result ≡ called_of v (hostCall.ToPrint length) }
+    ensures { result ≡ called_of v (host_call.ToPrint length) }
 {
     let w = v.waiting;
     Outcome {

@@ -2,7 +2,7 @@
 #![tactic(auto)]
 
 ghost use Rattle.std.specs.Prelude.{◌≡◌};
-ghost use Rattle.scope.specs.declared.hosts.HostCall.TheVariants as hostCall;
+ghost use Rattle.scope.specs.declared.hosts.HostCall.TheVariants as host_call;
 ghost use Rattle.scope.specs.Calls.{called_of, gpr_reply};
 
 use scope::{Error, Outcome, Reply, Vcpu, Writes};
@@ -20,7 +20,7 @@ pub fn get_gpr(v: Vcpu, index: usize) -> Reply
 
 // Writes a general register; x0 stays.
 pub fn set_gpr(v: Vcpu, index: usize, value: u64) -> Outcome
-    ensures { result ≡ called_of v (hostCall.SetGpr index value) }
+    ensures { result ≡ called_of v (host_call.SetGpr index value) }
 {
     let c = v.csrs;
     let w = v.waiting;
@@ -30,7 +30,7 @@ pub fn set_gpr(v: Vcpu, index: usize, value: u64) -> Outcome
 
 // Writes a0.
 pub fn set_return_value(v: Vcpu, value: u64) -> Outcome
-    ensures { result ≡ called_of v (hostCall.SetReturnValue value) }
+    ensures { result ≡ called_of v (host_call.SetReturnValue value) }
 {
     let c = v.csrs;
     let w = v.waiting;

@@ -2,14 +2,14 @@
 #![tactic(auto)]
 
 ghost use Rattle.std.specs.Prelude.{true, ◌≡◌};
-ghost use Rattle.scope.specs.declared.hosts.HostCall.TheVariants as hostCall;
+ghost use Rattle.scope.specs.declared.hosts.HostCall.TheVariants as host_call;
 ghost use Rattle.scope.specs.Calls.{called_of};
 
 use scope::{IpiAbi, IpiCompletion, Outcome, Vcpu, Writes};
 
 // Sets or clears a pending interrupt of the guest, by the host's vector.
 pub fn set_virtual_interrupt_pending(v: Vcpu, vector: u64, pending: bool) -> Outcome
-    ensures { result ≡ called_of v (hostCall.SetPending vector pending) }
+    ensures { result ≡ called_of v (host_call.SetPending vector pending) }
 {
     let c = v.csrs;
     let w = v.waiting;
@@ -19,21 +19,21 @@ pub fn set_virtual_interrupt_pending(v: Vcpu, vector: u64, pending: bool) -> Out
 
 // Sets a pending interrupt.
 pub fn inject_interrupt(v: Vcpu, vector: u64) -> Outcome
-    ensures { result ≡ called_of v (hostCall.SetPending vector true) }
+    ensures { result ≡ called_of v (host_call.SetPending vector true) }
 {
     set_virtual_interrupt_pending(v, vector, true)
 }
 
 // The level of the guest's external interrupt line.
 pub fn set_vseip_level(v: Vcpu, asserted: bool) -> Outcome
-    ensures { result ≡ called_of v (hostCall.SetPending 9 asserted) }
+    ensures { result ≡ called_of v (host_call.SetPending 9 asserted) }
 {
     set_virtual_interrupt_pending(v, isa_consts::S_EXT_CODE, asserted)
 }
 
 // Latches pending bits that the hardware raised.
 pub fn latch_hvip(v: Vcpu, bits: u64) -> Outcome
-    ensures { result ≡ called_of v (hostCall.LatchHvip bits) }
+    ensures { result ≡ called_of v (host_call.LatchHvip bits) }
 {
     let c = v.csrs;
     let w = v.waiting;
@@ -47,7 +47,7 @@ pub fn latch_hvip(v: Vcpu, bits: u64) -> Outcome
 
 // Gives the guest the result of an IPI request.
 pub fn complete_ipi(v: Vcpu, abi: IpiAbi, completion: IpiCompletion) -> Outcome
-    ensures { result ≡ called_of v (hostCall.CompleteIpi abi completion) }
+    ensures { result ≡ called_of v (host_call.CompleteIpi abi completion) }
 {
     let c = v.csrs;
     let w = v.waiting;

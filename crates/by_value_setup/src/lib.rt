@@ -2,7 +2,7 @@
 #![tactic(auto)]
 
 ghost use Rattle.std.specs.Prelude.{◌≡◌};
-ghost use Rattle.scope.specs.declared.hosts.HostCall.TheVariants as hostCall;
+ghost use Rattle.scope.specs.declared.hosts.HostCall.TheVariants as host_call;
 ghost use Rattle.scope.specs.Calls.{new_of, called_of};
 
 use isa_types::GuestPhysAddr;
@@ -46,7 +46,7 @@ pub fn new(hart_id: u64, dtb_addr: u64) -> Vcpu
 
 // The state that a guest starts with.
 pub fn setup(v: Vcpu) -> Outcome
-    ensures { result ≡ called_of v hostCall.Setup }
+    ensures { result ≡ called_of v host_call.Setup }
 {
     let c = v.csrs;
     let w = v.waiting;
@@ -56,7 +56,7 @@ pub fn setup(v: Vcpu) -> Outcome
 
 // Where the guest starts.
 pub fn set_entry(v: Vcpu, entry: GuestPhysAddr) -> Outcome
-    ensures { result ≡ called_of v (hostCall.SetEntry entry) }
+    ensures { result ≡ called_of v (host_call.SetEntry entry) }
 {
     let c = v.csrs;
     let w = v.waiting;
@@ -66,7 +66,7 @@ pub fn set_entry(v: Vcpu, entry: GuestPhysAddr) -> Outcome
 
 // Sets the guest-stage page table: 3 levels with mode 8, or 4 with mode 9, and a root at a multiple of 16 KiB.
 pub fn set_nested_page_table(v: Vcpu, levels: u64, mode: u64, root: u64) -> Outcome
-    ensures { result ≡ called_of v (hostCall.SetNestedPageTable levels mode root) }
+    ensures { result ≡ called_of v (host_call.SetNestedPageTable levels mode root) }
 {
     let c = v.csrs;
     let w = v.waiting;

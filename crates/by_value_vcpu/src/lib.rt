@@ -3,14 +3,14 @@
 #![tactic(auto)]
 
 ghost use Rattle.std.specs.Prelude.{◌≡◌};
-ghost use Rattle.scope.specs.declared.hosts.HostCall.TheVariants as hostCall;
+ghost use Rattle.scope.specs.declared.hosts.HostCall.TheVariants as host_call;
 ghost use Rattle.scope.specs.Calls.{called_of};
 
 use scope::{Answer, Outcome, Trap, Vcpu};
 
 // Starts a trap.
 pub fn start(v: Vcpu, t: Trap) -> Outcome
-    ensures { result ≡ called_of v (hostCall.Start t) }
+    ensures { result ≡ called_of v (host_call.Start t) }
 {
     let x = v.x;
     let c = v.csrs;
@@ -20,7 +20,7 @@ pub fn start(v: Vcpu, t: Trap) -> Outcome
 
 // Answers the ask that waits.
 pub fn answer(v: Vcpu, a: Answer) -> Outcome
-    ensures { result ≡ called_of v (hostCall.Answer a) }
+    ensures { result ≡ called_of v (host_call.Answer a) }
 {
     let x = v.x;
     let c = v.csrs;
@@ -30,7 +30,7 @@ pub fn answer(v: Vcpu, a: Answer) -> Outcome
 
 // Completes the load that waits.
 pub fn complete_load(v: Vcpu, n: u64) -> Outcome
-    ensures { result ≡ called_of v (hostCall.CompleteLoad n) }
+    ensures { result ≡ called_of v (host_call.CompleteLoad n) }
 {
     let c = v.csrs;
     let w = v.waiting;

@@ -11,7 +11,7 @@ use Rattle.scope.specs.declared.machine.Vcpu.{Vcpu}
 use Rattle.scope.specs.Record.{bumped, counted, event_number, stored, applied}
 use Rattle.scope.specs.Calls.{base_of, called_of, effect_of}
 use Rattle.scope.specs.Refusals.{done_of, refusal, refuses}
-use Rattle.scope.specs.declared.hosts.HostCall.TheVariants as hostCall
+use Rattle.scope.specs.declared.hosts.HostCall.TheVariants as host_call
 use Rattle.demand3_table.proofs.Bases.{base_kept}
 use Rattle.demand3_table.specs.Runs.{renews}
 use Rattle.demand1.specs.Leaves.{Asked, Failed, ExitLeaves, Says, Unchanged}
@@ -49,20 +49,20 @@ kept v e (reply.Error error.WrongAnswer) s h = unchanged_record v e s
 -- a new record is done
 renewed_done : (v : Vcpu) (c : HostCall) → renews c ≡ true → (called_of v c).reply ≡ reply.Done
 unfolding called_of base_of effect_of done_of applied renews
-renewed_done v (hostCall.New hart tree) h = refl
-renewed_done v hostCall.Setup h = never h
-renewed_done v (hostCall.SetEntry at) h = never h
-renewed_done v (hostCall.GetGpr index) h = never h
-renewed_done v (hostCall.SetGpr index value) h = never h
-renewed_done v (hostCall.SetReturnValue value) h = never h
-renewed_done v (hostCall.SetNestedPageTable levels mode root) h = never h
-renewed_done v (hostCall.SetPending vector level) h = never h
-renewed_done v (hostCall.LatchHvip bits) h = never h
-renewed_done v (hostCall.CompleteIpi abi completion) h = never h
-renewed_done v (hostCall.Start t) h = never h
-renewed_done v (hostCall.Answer a) h = never h
-renewed_done v (hostCall.CompleteLoad n) h = never h
-renewed_done v (hostCall.ToPrint length) h = never h
+renewed_done v (host_call.New hart tree) h = refl
+renewed_done v host_call.Setup h = never h
+renewed_done v (host_call.SetEntry at) h = never h
+renewed_done v (host_call.GetGpr index) h = never h
+renewed_done v (host_call.SetGpr index value) h = never h
+renewed_done v (host_call.SetReturnValue value) h = never h
+renewed_done v (host_call.SetNestedPageTable levels mode root) h = never h
+renewed_done v (host_call.SetPending vector level) h = never h
+renewed_done v (host_call.LatchHvip bits) h = never h
+renewed_done v (host_call.CompleteIpi abi completion) h = never h
+renewed_done v (host_call.Start t) h = never h
+renewed_done v (host_call.Answer a) h = never h
+renewed_done v (host_call.CompleteLoad n) h = never h
+renewed_done v (host_call.ToPrint length) h = never h
 
 -- a refusal of any call leaves the record as it was
 

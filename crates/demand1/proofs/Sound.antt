@@ -39,7 +39,7 @@ use Rattle.scope.specs.declared.machine.Vcpu.{Vcpu}
 use Rattle.scope.specs.declared.decided.Class.TheVariants as class
 use Rattle.demand1.proofs.Rows.{any_answer, ecall_row, one_of}
 use Rattle.scope.specs.Calls.{effect_of, gpr_reply}
-use Rattle.scope.specs.declared.hosts.HostCall.TheVariants as hostCall
+use Rattle.scope.specs.declared.hosts.HostCall.TheVariants as host_call
 use Rattle.scope.specs.declared.traps.Reply.TheVariants as reply
 
 -- one of two by a test
@@ -190,18 +190,18 @@ value_sound v n = record { says = tt }
 -- every call
 pub effect_sound : (v : Vcpu) (c : HostCall) → Sound v.csrs v.waiting (effect_of v c)
 unfolding effect_of gpr_reply
-effect_sound v hostCall.Setup = unless_sound v _ (done_sound v.csrs _ v.waiting v.waiting _)
-effect_sound v (hostCall.SetEntry at) = unless_sound v _ (done_sound v.csrs _ v.waiting v.waiting _)
-effect_sound v (hostCall.GetGpr i) = read_sound v i (ltb i 32) _
-effect_sound v (hostCall.SetGpr i n) = unless_sound v _ (write_sound v.csrs v.waiting i n)
-effect_sound v (hostCall.SetReturnValue n) = unless_sound v _ (done_sound v.csrs _ v.waiting v.waiting _)
-effect_sound v (hostCall.SetNestedPageTable levels mode root) =
+effect_sound v host_call.Setup = unless_sound v _ (done_sound v.csrs _ v.waiting v.waiting _)
+effect_sound v (host_call.SetEntry at) = unless_sound v _ (done_sound v.csrs _ v.waiting v.waiting _)
+effect_sound v (host_call.GetGpr i) = read_sound v i (ltb i 32) _
+effect_sound v (host_call.SetGpr i n) = unless_sound v _ (write_sound v.csrs v.waiting i n)
+effect_sound v (host_call.SetReturnValue n) = unless_sound v _ (done_sound v.csrs _ v.waiting v.waiting _)
+effect_sound v (host_call.SetNestedPageTable levels mode root) =
     unless_sound v _ (paging_sound v.csrs v.waiting levels mode root)
-effect_sound v (hostCall.SetPending k on) = unless_sound v _ (pending_sound v.csrs v.waiting k on)
-effect_sound v (hostCall.LatchHvip n) = unless_sound v _ (done_sound v.csrs _ v.waiting v.waiting _)
-effect_sound v (hostCall.CompleteIpi a k) = unless_sound v _ (done_sound v.csrs _ v.waiting v.waiting _)
-effect_sound v (hostCall.Start t) = start_sound v.x v.csrs v.waiting t
-effect_sound v (hostCall.Answer a) = answer_sound v.x v.csrs v.waiting a
-effect_sound v (hostCall.CompleteLoad n) = completed_sound v.csrs v.waiting n
-effect_sound v (hostCall.ToPrint n) = value_sound v _
-effect_sound v (hostCall.New hart tree) = done_sound v.csrs _ _ v.waiting _
+effect_sound v (host_call.SetPending k on) = unless_sound v _ (pending_sound v.csrs v.waiting k on)
+effect_sound v (host_call.LatchHvip n) = unless_sound v _ (done_sound v.csrs _ v.waiting v.waiting _)
+effect_sound v (host_call.CompleteIpi a k) = unless_sound v _ (done_sound v.csrs _ v.waiting v.waiting _)
+effect_sound v (host_call.Start t) = start_sound v.x v.csrs v.waiting t
+effect_sound v (host_call.Answer a) = answer_sound v.x v.csrs v.waiting a
+effect_sound v (host_call.CompleteLoad n) = completed_sound v.csrs v.waiting n
+effect_sound v (host_call.ToPrint n) = value_sound v _
+effect_sound v (host_call.New hart tree) = done_sound v.csrs _ _ v.waiting _

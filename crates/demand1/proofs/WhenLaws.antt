@@ -2,7 +2,7 @@
 use Rattle.std.specs.Prelude.{ℕ, ◌%◌, ◌^◌, Bool, true, false, List, ◌≡◌, refl, eqb, ltb}
 use Rattle.std.proofs.Common.{ap₂, ◌∙◌}
 use Rattle.isa_types.specs.Pick.{pick, or, and, not}
-use Rattle.scope.specs.declared.hosts.HostCall.TheVariants as hostCall
+use Rattle.scope.specs.declared.hosts.HostCall.TheVariants as host_call
 use Rattle.scope.specs.Decided.{call_effect, answered_effect}
 use Rattle.scope.specs.OneTrap.{answer_number, answer_values}
 use Rattle.scope.specs.Refusals.{asking_of, done_of, failed_of, finished_of, refused_of, unless_asking, leaves_of}
@@ -159,7 +159,7 @@ unfolding refused_of leaves_of gives
 refused_gives e y c n = refl
 
 -- a start
-start_gives : (e : Error) (v : Vcpu) (t : Trap) → gives e (called_of v (hostCall.Start t)).reply ≡ start_when v t e
+start_gives : (e : Error) (v : Vcpu) (t : Trap) → gives e (called_of v (host_call.Start t)).reply ≡ start_when v t e
 unfolding called_of effect_of applied start_effect start_when
 start_gives e v t =
     split (gives_in e) (is_idle v.waiting) (class_gives e (class_of t.scause) v.x v.csrs t) (refused_gives e error.BadState v.csrs v.waiting)
@@ -212,7 +212,7 @@ numbers_gives e c (waiting.Ecall a) word more k h g =
     (refused_gives e error.WrongAnswer c (waiting.Ecall a))
 
 -- an answer
-answer_gives : (e : Error) (v : Vcpu) (a : Answer) → gives e (called_of v (hostCall.Answer a)).reply ≡ answer_when v a e
+answer_gives : (e : Error) (v : Vcpu) (a : Answer) → gives e (called_of v (host_call.Answer a)).reply ≡ answer_when v a e
 unfolding called_of effect_of applied answer_effect fitting_effect values_effect answer_values answer_when fitting_when answer_number
 answer_gives e v (answer.Fetched f) =
     split (gives_in e) (eqb (waiting_ask v.waiting) 1) (fetched_gives e v.x v.csrs v.waiting f) (refused_gives e error.WrongAnswer v.csrs v.waiting)
@@ -236,7 +236,7 @@ completed_gives e c waiting.Idle k = refl
 completed_gives e c (waiting.Load rd l s) k = refl
 completed_gives e c (waiting.Ecall a) k = refl
 
-load_gives : (e : Error) (v : Vcpu) (n : ℕ) → gives e (called_of v (hostCall.CompleteLoad n)).reply ≡ load_when v e
+load_gives : (e : Error) (v : Vcpu) (n : ℕ) → gives e (called_of v (host_call.CompleteLoad n)).reply ≡ load_when v e
 unfolding called_of effect_of applied load_when
 load_gives e v n = completed_gives e v.csrs v.waiting n
 
@@ -291,22 +291,22 @@ read_index e false n = refl
 -- every call
 pub call_when_lem : (e : Error) (v : Vcpu) (c : HostCall) → gives e (called_of v c).reply ≡ call_when v c e
 unfolding called_of effect_of applied leaves_of gives gpr_reply write_effect paging_effect paging_by pending_effect hvip_bit_of index_allowed paging_allowed vector_allowed call_when
-call_when_lem e v hostCall.Setup = changing_gives e v _ true (done_gives e _ _ _)
-call_when_lem e v (hostCall.SetEntry at) = changing_gives e v _ true (done_gives e _ _ _)
-call_when_lem e v (hostCall.GetGpr i) = read_index e (ltb i 32) _
-call_when_lem e v (hostCall.SetGpr i n) =
+call_when_lem e v host_call.Setup = changing_gives e v _ true (done_gives e _ _ _)
+call_when_lem e v (host_call.SetEntry at) = changing_gives e v _ true (done_gives e _ _ _)
+call_when_lem e v (host_call.GetGpr i) = read_index e (ltb i 32) _
+call_when_lem e v (host_call.SetGpr i n) =
     changing_gives e v _ (ltb i 32) (allowed_by e (ltb i 32) v.csrs _ _ v.waiting)
-call_when_lem e v (hostCall.SetReturnValue n) = changing_gives e v _ true (done_gives e _ _ _)
-call_when_lem e v (hostCall.SetNestedPageTable levels mode root) =
+call_when_lem e v (host_call.SetReturnValue n) = changing_gives e v _ true (done_gives e _ _ _)
+call_when_lem e v (host_call.SetNestedPageTable levels mode root) =
     changing_gives e v _ (and (pick (eqb levels 3) (eqb mode 8) (and (eqb levels 4) (eqb mode 9))) (eqb (root % 2 ^ 14) 0))
     (paging_by_lem e (eqb levels 3) (eqb mode 8) (eqb levels 4) (eqb mode 9) (eqb (root % 2 ^ 14) 0) v.csrs _ _ v.waiting)
-call_when_lem e v (hostCall.SetPending k on) =
+call_when_lem e v (host_call.SetPending k on) =
     changing_gives e v _ (or (eqb k supervisor_soft) (or (eqb k supervisor_timer) (supervisor_external k)))
     (pending_by e (eqb k supervisor_soft) (eqb k supervisor_timer) (supervisor_external k) v.csrs _ _ v.waiting)
-call_when_lem e v (hostCall.LatchHvip n) = changing_gives e v _ true (done_gives e _ _ _)
-call_when_lem e v (hostCall.CompleteIpi a k) = changing_gives e v _ true (done_gives e _ _ _)
-call_when_lem e v (hostCall.Start t) = start_gives e v t
-call_when_lem e v (hostCall.Answer a) = answer_gives e v a
-call_when_lem e v (hostCall.CompleteLoad n) = load_gives e v n
-call_when_lem e v (hostCall.ToPrint n) = refl
-call_when_lem e v (hostCall.New hart tree) = done_gives e _ _ _
+call_when_lem e v (host_call.LatchHvip n) = changing_gives e v _ true (done_gives e _ _ _)
+call_when_lem e v (host_call.CompleteIpi a k) = changing_gives e v _ true (done_gives e _ _ _)
+call_when_lem e v (host_call.Start t) = start_gives e v t
+call_when_lem e v (host_call.Answer a) = answer_gives e v a
+call_when_lem e v (host_call.CompleteLoad n) = load_gives e v n
+call_when_lem e v (host_call.ToPrint n) = refl
+call_when_lem e v (host_call.New hart tree) = done_gives e _ _ _

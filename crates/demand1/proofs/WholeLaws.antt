@@ -3,7 +3,7 @@ use Rattle.std.specs.Prelude.{ℕ, Bool, true, false, List, [], ◌∷◌, ◌�
 use Rattle.std.proofs.Common.{arith, ap, sym, ◌∙◌}
 use Rattle.std.proofs.Math.Path.{subst}
 use Rattle.isa_types.specs.Pick.{pick}
-use Rattle.scope.specs.declared.hosts.HostCall.TheVariants as hostCall
+use Rattle.scope.specs.declared.hosts.HostCall.TheVariants as host_call
 use Rattle.scope.specs.declared.hosts.HostCall.{HostCall}
 use Rattle.scope.specs.Decided.{call_effect, answered_effect}
 use Rattle.scope.specs.OneTrap.{answer_number}
@@ -348,12 +348,12 @@ unfolding applied stored counted bumped event_number
 still_record u e s =
     (ap (λ w. stored u.x w) s.writes, s.csrs, ap (λ k. counted u.counts k) s.event)
 
-start_carries : (v : Vcpu) (t : Trap) → Carries v (called_of v (hostCall.Start t)).vcpu
+start_carries : (v : Vcpu) (t : Trap) → Carries v (called_of v (host_call.Start t)).vcpu
 unfolding called_of base_of effect_of applied
 start_carries v t =
     record { carries = λ h. still_record v _ ((start_held v.x v.csrs v.waiting t).held h) }
 
-answer_carries : (v u : Vcpu) (a : Answer) → Carries v u → Carries v (called_of u (hostCall.Answer a)).vcpu
+answer_carries : (v u : Vcpu) (a : Answer) → Carries v u → Carries v (called_of u (host_call.Answer a)).vcpu
 unfolding called_of base_of effect_of applied
 answer_carries v u a k =
     record {
@@ -372,12 +372,12 @@ over_from v u w s o =
       counts = subst (λ (k : List ℕ). Tallied k w.counts) s.2 o.counts;
     }
 
-start_over : (v : Vcpu) (t : Trap) → in_error (called_of v (hostCall.Start t)).reply ≡ true → Over v (called_of v (hostCall.Start t)).vcpu
+start_over : (v : Vcpu) (t : Trap) → in_error (called_of v (host_call.Start t)).reply ≡ true → Over v (called_of v (host_call.Start t)).vcpu
 unfolding called_of base_of effect_of applied
 start_over v t h =
     over_by v (start_effect v.x v.csrs v.waiting t) _ h (start_sound v.x v.csrs v.waiting t).says
 
-answer_over : (v u : Vcpu) (a : Answer) → Carries v u → in_error (called_of u (hostCall.Answer a)).reply ≡ true → Over v (called_of u (hostCall.Answer a)).vcpu
+answer_over : (v u : Vcpu) (a : Answer) → Carries v u → in_error (called_of u (host_call.Answer a)).reply ≡ true → Over v (called_of u (host_call.Answer a)).vcpu
 unfolding called_of base_of effect_of applied
 answer_over v u a k h =
     over_from v u _ (k.carries (answer_ends u.x u.csrs u.waiting a h))
@@ -412,11 +412,11 @@ unfolding in_error ends_trap refusal
 index_idles true n = refl
 index_idles false n = refl
 
-read_idles : (u : Vcpu) (i : ℕ) → Idles u (hostCall.GetGpr i)
+read_idles : (u : Vcpu) (i : ℕ) → Idles u (host_call.GetGpr i)
 unfolding called_of base_of effect_of leaves_of gpr_reply applied stored counted bumped event_number
 read_idles u i = record { same = refl; on = index_idles (ltb i 32) (value_of u.x i) }
 
-print_idles : (u : Vcpu) (n : ℕ) → Idles u (hostCall.ToPrint n)
+print_idles : (u : Vcpu) (n : ℕ) → Idles u (host_call.ToPrint n)
 unfolding called_of base_of effect_of leaves_of applied stored counted bumped event_number in_error
 print_idles u n = record { same = refl; on = refl }
 
@@ -467,8 +467,8 @@ carried_over v o f k (c ∷ l) m h =
     carried_over v (after_turn o c) (middle_over v o f k m.0) (middle_carries v o f k m.0) l (subst (λ (u : Vcpu). Middles u l) (sym (after_steps o c)) m.1) h
 
 -- a trap that ends in an error changes no register and no CSR, counts at most event 2, and nothing waits after it
-pub error_changes_nothing : (v : Vcpu) (t : Trap) (l : List Turn) → Middles (called_of v (hostCall.Start t)).vcpu l
+pub error_changes_nothing : (v : Vcpu) (t : Trap) (l : List Turn) → Middles (called_of v (host_call.Start t)).vcpu l
     → in_error (whole_of v t l).reply ≡ true
     → Over v (whole_of v t l).vcpu
 unfolding whole_of
-error_changes_nothing v t l m h = carried_over v (called_of v (hostCall.Start t)) (start_over v t) (start_carries v t) l m h
+error_changes_nothing v t l m h = carried_over v (called_of v (host_call.Start t)) (start_over v t) (start_carries v t) l m h

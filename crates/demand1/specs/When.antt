@@ -27,7 +27,7 @@ use Rattle.scope.specs.declared.hosts.HostCall.{HostCall}
 use Rattle.scope.specs.declared.hosts.Post.{Post}
 use Rattle.scope.specs.declared.decided.Class.TheVariants as class
 use Rattle.scope.specs.Classes.{class_of}
-use Rattle.scope.specs.declared.hosts.HostCall.TheVariants as hostCall
+use Rattle.scope.specs.declared.hosts.HostCall.TheVariants as host_call
 
 -- the two are one error: their numbers are equal
 unfoldable pub is : Error → Error → Bool
@@ -130,22 +130,22 @@ vector_allowed v = or (eqb v supervisor_soft) (or (eqb v supervisor_timer) (supe
 
 -- every call: whether it gives error e
 unfoldable pub call_when : Vcpu → HostCall → Error → Bool
-call_when v hostCall.Setup e = changing_when v true e
-call_when v (hostCall.SetEntry at) e = changing_when v true e
+call_when v host_call.Setup e = changing_when v true e
+call_when v (host_call.SetEntry at) e = changing_when v true e
 -- a register read: 1 for an index above 31, and never 2
-call_when v (hostCall.GetGpr i) e = and (not (index_allowed i)) (is e error.InvalidInput)
-call_when v (hostCall.SetGpr i n) e = changing_when v (index_allowed i) e
-call_when v (hostCall.SetReturnValue n) e = changing_when v true e
-call_when v (hostCall.SetNestedPageTable levels mode root) e = changing_when v (paging_allowed levels mode root) e
-call_when v (hostCall.SetPending k on) e = changing_when v (vector_allowed k) e
-call_when v (hostCall.LatchHvip n) e = changing_when v true e
-call_when v (hostCall.CompleteIpi a k) e = changing_when v true e
-call_when v (hostCall.Start t) e = start_when v t e
-call_when v (hostCall.Answer a) e = answer_when v a e
-call_when v (hostCall.CompleteLoad n) e = load_when v e
+call_when v (host_call.GetGpr i) e = and (not (index_allowed i)) (is e error.InvalidInput)
+call_when v (host_call.SetGpr i n) e = changing_when v (index_allowed i) e
+call_when v (host_call.SetReturnValue n) e = changing_when v true e
+call_when v (host_call.SetNestedPageTable levels mode root) e = changing_when v (paging_allowed levels mode root) e
+call_when v (host_call.SetPending k on) e = changing_when v (vector_allowed k) e
+call_when v (host_call.LatchHvip n) e = changing_when v true e
+call_when v (host_call.CompleteIpi a k) e = changing_when v true e
+call_when v (host_call.Start t) e = start_when v t e
+call_when v (host_call.Answer a) e = answer_when v a e
+call_when v (host_call.CompleteLoad n) e = load_when v e
 -- neither has a row in 01's table
-call_when v (hostCall.ToPrint n) e = false
-call_when v (hostCall.New hart tree) e = false
+call_when v (host_call.ToPrint n) e = false
+call_when v (host_call.New hart tree) e = false
 
 -- a row of posts: every vector is allowed
 unfoldable pub row_allowed : List Post → Bool

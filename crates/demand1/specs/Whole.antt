@@ -1,6 +1,6 @@
 -- A whole trap: its start and the answers that carry it on. 01, One trap; Refusals and errors by number.
 use Rattle.std.specs.Prelude.{ℕ, Bool, true, false, List, [], ◌∷◌, ◌≡◌, eqb}
-use Rattle.scope.specs.declared.hosts.HostCall.TheVariants as hostCall
+use Rattle.scope.specs.declared.hosts.HostCall.TheVariants as host_call
 use Rattle.scope.specs.declared.traps.Answer.{Answer}
 use Rattle.scope.specs.declared.traps.Error.{Error}
 use Rattle.scope.specs.declared.traps.Reply.{Reply}
@@ -32,16 +32,16 @@ carried o (c ∷ l) = carried (after_turn o c) l
 
 -- a start and the turns after it
 unfoldable pub whole_of : Vcpu → Trap → List Turn → Outcome
-whole_of v t l = carried (called_of v (hostCall.Start t)) l
+whole_of v t l = carried (called_of v (host_call.Start t)) l
 
 -- a turn in the middle of a trap: an answer, in turn or not; any call that is refused, and a row of posts while an ask waits; a read;
 -- printing
 pub data Middle (u : Vcpu) : Turn → Type 0 where
-  answer : (a : Answer) → Middle u (call (hostCall.Answer a))
+  answer : (a : Answer) → Middle u (call (host_call.Answer a))
   refused : {c : HostCall} → refuses (called_of u c).reply ≡ true → Middle u (call c)
   row : (ps : List Post) → eqb (waiting_ask u.waiting) 0 ≡ false → Middle u (post ps)
-  read : (i : ℕ) → Middle u (call (hostCall.GetGpr i))
-  count : (n : ℕ) → Middle u (call (hostCall.ToPrint n))
+  read : (i : ℕ) → Middle u (call (host_call.GetGpr i))
+  count : (n : ℕ) → Middle u (call (host_call.ToPrint n))
   bytes : (buffer : List ℕ) → Middle u (print buffer)
 
 unfoldable pub Middles : Vcpu → List Turn → Type 0

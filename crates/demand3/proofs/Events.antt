@@ -47,7 +47,7 @@ use Rattle.scope.specs.Answers.{answer_effect, fetch_effect, fitting_effect, num
 use Rattle.scope.specs.declared.machine.EcallAsk.TheVariants as asked
 use Rattle.scope.specs.declared.decided.Class.TheVariants as class
 use Rattle.scope.specs.Calls.{effect_of}
-use Rattle.scope.specs.declared.hosts.HostCall.TheVariants as hostCall
+use Rattle.scope.specs.declared.hosts.HostCall.TheVariants as host_call
 use Rattle.scope.specs.declared.decided.LegacyRequest.TheVariants as legacy
 
 -- both ways of a test give the same number
@@ -284,20 +284,20 @@ guarded_event v e h = both (eqb (waiting_ask v.waiting) 0) counts h refl
 -- one call
 pub event_kind : (v : Vcpu) (c : HostCall) → event_number (effect_of v c).event ≡ call_kind v c
 unfolding effect_of call_kind done_of refused_of leaves_of start_effect answer_effect event_number
-event_kind v hostCall.Setup = guarded_event v _ refl
-event_kind v (hostCall.SetEntry at) = guarded_event v _ refl
-event_kind v (hostCall.GetGpr index) = refl
-event_kind v (hostCall.SetGpr index value) = guarded_event v _ (write_event v.csrs v.waiting index value)
-event_kind v (hostCall.SetReturnValue value) = guarded_event v _ refl
-event_kind v (hostCall.SetNestedPageTable levels mode root) =
+event_kind v host_call.Setup = guarded_event v _ refl
+event_kind v (host_call.SetEntry at) = guarded_event v _ refl
+event_kind v (host_call.GetGpr index) = refl
+event_kind v (host_call.SetGpr index value) = guarded_event v _ (write_event v.csrs v.waiting index value)
+event_kind v (host_call.SetReturnValue value) = guarded_event v _ refl
+event_kind v (host_call.SetNestedPageTable levels mode root) =
     guarded_event v _ (levels_event v.csrs v.waiting levels mode root)
-event_kind v (hostCall.SetPending vector level) = guarded_event v _ (pending_event v.csrs v.waiting vector level)
-event_kind v (hostCall.LatchHvip bits) = guarded_event v _ refl
-event_kind v (hostCall.CompleteIpi abi completion) = guarded_event v _ refl
-event_kind v (hostCall.Start t) =
+event_kind v (host_call.SetPending vector level) = guarded_event v _ (pending_event v.csrs v.waiting vector level)
+event_kind v (host_call.LatchHvip bits) = guarded_event v _ refl
+event_kind v (host_call.CompleteIpi abi completion) = guarded_event v _ refl
+event_kind v (host_call.Start t) =
     each (is_idle v.waiting) counts (class_event v.csrs (class_of t.scause) v.x t) refl
-event_kind v (hostCall.Answer a) =
+event_kind v (host_call.Answer a) =
     each (eqb (waiting_ask v.waiting) (answer_number a)) counts (answer_event v.x v.csrs v.waiting a) refl
-event_kind v (hostCall.CompleteLoad n) = completed_event v.csrs v.waiting n
-event_kind v (hostCall.ToPrint length) = refl
-event_kind v (hostCall.New hart tree) = refl
+event_kind v (host_call.CompleteLoad n) = completed_event v.csrs v.waiting n
+event_kind v (host_call.ToPrint length) = refl
+event_kind v (host_call.New hart tree) = refl

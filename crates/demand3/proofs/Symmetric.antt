@@ -19,7 +19,7 @@ use Rattle.scope.specs.declared.decided.Class.{Class}
 use Rattle.scope.specs.declared.hosts.HostCall.{HostCall}
 use Rattle.scope.specs.declared.decided.Class.TheVariants as class
 use Rattle.scope.specs.Classes.{class_of}
-use Rattle.scope.specs.declared.hosts.HostCall.TheVariants as hostCall
+use Rattle.scope.specs.declared.hosts.HostCall.TheVariants as host_call
 
 -- the names of a call that does not name r are the same on both records
 
@@ -63,21 +63,21 @@ module _ {r : ℕ} {x y : List ℕ} (f : Files r x y) where
 
 call_names_lem : (r : ℕ) (v w : Vcpu) (c : HostCall) → Alike r v w → Apart r (call_names v c) → call_names v c ≡ call_names w c
 unfolding call_names
-call_names_lem r v w (hostCall.Start t) a h =
+call_names_lem r v w (host_call.Start t) a h =
     rw (← a.waiting) (parted (is_idle v.waiting) (λ l. l) (λ l. l) h (class_names_lem a.files (class_of t.scause) t) (λ h. refl))
-call_names_lem r v w (hostCall.Answer n) a h = ap (λ (k : Waiting). answer_names k n) a.waiting
-call_names_lem r v w hostCall.Setup a h = refl
-call_names_lem r v w (hostCall.SetEntry at) a h = refl
-call_names_lem r v w (hostCall.GetGpr index) a h = refl
-call_names_lem r v w (hostCall.SetGpr index value) a h = refl
-call_names_lem r v w (hostCall.SetReturnValue value) a h = refl
-call_names_lem r v w (hostCall.SetNestedPageTable levels mode root) a h = refl
-call_names_lem r v w (hostCall.SetPending vector level) a h = refl
-call_names_lem r v w (hostCall.LatchHvip bits) a h = refl
-call_names_lem r v w (hostCall.CompleteIpi abi completion) a h = refl
-call_names_lem r v w (hostCall.CompleteLoad n) a h = refl
-call_names_lem r v w (hostCall.ToPrint length) a h = refl
-call_names_lem r v w (hostCall.New hart tree) a h = refl
+call_names_lem r v w (host_call.Answer n) a h = ap (λ (k : Waiting). answer_names k n) a.waiting
+call_names_lem r v w host_call.Setup a h = refl
+call_names_lem r v w (host_call.SetEntry at) a h = refl
+call_names_lem r v w (host_call.GetGpr index) a h = refl
+call_names_lem r v w (host_call.SetGpr index value) a h = refl
+call_names_lem r v w (host_call.SetReturnValue value) a h = refl
+call_names_lem r v w (host_call.SetNestedPageTable levels mode root) a h = refl
+call_names_lem r v w (host_call.SetPending vector level) a h = refl
+call_names_lem r v w (host_call.LatchHvip bits) a h = refl
+call_names_lem r v w (host_call.CompleteIpi abi completion) a h = refl
+call_names_lem r v w (host_call.CompleteLoad n) a h = refl
+call_names_lem r v w (host_call.ToPrint length) a h = refl
+call_names_lem r v w (host_call.New hart tree) a h = refl
 
 names_alike : (r : ℕ) (v w : Vcpu) (c : Turn) → Alike r v w → Apart r (names_of v c) → names_of v c ≡ names_of w c
 unfolding names_of

@@ -32,7 +32,7 @@ use Rattle.scope.specs.declared.hosts.HostCall.{HostCall}
 use Rattle.isa_decoder.specs.declared.Trapped.{Trapped}
 use Rattle.scope.specs.declared.decided.Class.TheVariants as class
 use Rattle.scope.specs.Classes.{class_of}
-use Rattle.scope.specs.declared.hosts.HostCall.TheVariants as hostCall
+use Rattle.scope.specs.declared.hosts.HostCall.TheVariants as host_call
 
 none : Apart 0 []
 none = record { free = refl }
@@ -158,37 +158,37 @@ zero_answer n answers.Other = none
 
 zero_call_names : (v : Vcpu) (c : HostCall) → Apart 0 (call_names v c)
 unfolding call_names
-zero_call_names v (hostCall.Start t) = picked (is_idle v.waiting) (zero_class (class_of t.scause) v.x t) none
-zero_call_names v (hostCall.Answer a) = zero_answer v.waiting a
-zero_call_names v hostCall.Setup = none
-zero_call_names v (hostCall.SetEntry entry) = none
-zero_call_names v (hostCall.GetGpr index) = none
-zero_call_names v (hostCall.SetGpr index value) = none
-zero_call_names v (hostCall.SetReturnValue value) = none
-zero_call_names v (hostCall.SetNestedPageTable levels mode root) = none
-zero_call_names v (hostCall.SetPending vector on) = none
-zero_call_names v (hostCall.LatchHvip bits) = none
-zero_call_names v (hostCall.CompleteIpi abi completion) = none
-zero_call_names v (hostCall.CompleteLoad n) = none
-zero_call_names v (hostCall.ToPrint length) = none
-zero_call_names v (hostCall.New hart tree) = none
+zero_call_names v (host_call.Start t) = picked (is_idle v.waiting) (zero_class (class_of t.scause) v.x t) none
+zero_call_names v (host_call.Answer a) = zero_answer v.waiting a
+zero_call_names v host_call.Setup = none
+zero_call_names v (host_call.SetEntry entry) = none
+zero_call_names v (host_call.GetGpr index) = none
+zero_call_names v (host_call.SetGpr index value) = none
+zero_call_names v (host_call.SetReturnValue value) = none
+zero_call_names v (host_call.SetNestedPageTable levels mode root) = none
+zero_call_names v (host_call.SetPending vector on) = none
+zero_call_names v (host_call.LatchHvip bits) = none
+zero_call_names v (host_call.CompleteIpi abi completion) = none
+zero_call_names v (host_call.CompleteLoad n) = none
+zero_call_names v (host_call.ToPrint length) = none
+zero_call_names v (host_call.New hart tree) = none
 
 zero_call_reads : (c : HostCall) → Apart 0 (call_reads c)
 unfolding call_reads
-zero_call_reads (hostCall.GetGpr index) = zero_source index
-zero_call_reads hostCall.Setup = none
-zero_call_reads (hostCall.SetEntry entry) = none
-zero_call_reads (hostCall.SetGpr index value) = none
-zero_call_reads (hostCall.SetReturnValue value) = none
-zero_call_reads (hostCall.SetNestedPageTable levels mode root) = none
-zero_call_reads (hostCall.SetPending vector on) = none
-zero_call_reads (hostCall.LatchHvip bits) = none
-zero_call_reads (hostCall.CompleteIpi abi completion) = none
-zero_call_reads (hostCall.Start t) = none
-zero_call_reads (hostCall.Answer a) = none
-zero_call_reads (hostCall.CompleteLoad n) = none
-zero_call_reads (hostCall.ToPrint length) = none
-zero_call_reads (hostCall.New hart tree) = none
+zero_call_reads (host_call.GetGpr index) = zero_source index
+zero_call_reads host_call.Setup = none
+zero_call_reads (host_call.SetEntry entry) = none
+zero_call_reads (host_call.SetGpr index value) = none
+zero_call_reads (host_call.SetReturnValue value) = none
+zero_call_reads (host_call.SetNestedPageTable levels mode root) = none
+zero_call_reads (host_call.SetPending vector on) = none
+zero_call_reads (host_call.LatchHvip bits) = none
+zero_call_reads (host_call.CompleteIpi abi completion) = none
+zero_call_reads (host_call.Start t) = none
+zero_call_reads (host_call.Answer a) = none
+zero_call_reads (host_call.CompleteLoad n) = none
+zero_call_reads (host_call.ToPrint length) = none
+zero_call_reads (host_call.New hart tree) = none
 
 zero_named : (v : Vcpu) (c : Turn) → Apart 0 (names_of v c)
 unfolding names_of

@@ -21,7 +21,7 @@ use Rattle.scope.specs.declared.decided.Class.{Class}
 use Rattle.scope.specs.declared.hosts.HostCall.{HostCall}
 use Rattle.scope.specs.declared.decided.Class.TheVariants as class
 use Rattle.scope.specs.Classes.{class_of}
-use Rattle.scope.specs.declared.hosts.HostCall.TheVariants as hostCall
+use Rattle.scope.specs.declared.hosts.HostCall.TheVariants as host_call
 
 -- SBI, 'RFENCE Extension': fids 0 to 6 are kinds 3 to 9 in order; any other fid is of no kind, 0
 unfoldable pub fence_kind : ℕ → ℕ
@@ -93,20 +93,20 @@ answer_kind n answers.Other = 0
 
 -- the kind of trap that a call starts or carries on; a refused call is of none
 unfoldable pub call_kind : Vcpu → HostCall → ℕ
-call_kind v (hostCall.Start t) = pick (is_idle v.waiting) (class_kind (class_of t.scause) v.x t) 0
-call_kind v (hostCall.Answer a) = pick (eqb (waiting_ask v.waiting) (answer_number a)) (answer_kind v.waiting a) 0
-call_kind v hostCall.Setup = 0
-call_kind v (hostCall.SetEntry at) = 0
-call_kind v (hostCall.GetGpr index) = 0
-call_kind v (hostCall.SetGpr index value) = 0
-call_kind v (hostCall.SetReturnValue value) = 0
-call_kind v (hostCall.SetNestedPageTable levels mode root) = 0
-call_kind v (hostCall.SetPending vector level) = 0
-call_kind v (hostCall.LatchHvip bits) = 0
-call_kind v (hostCall.CompleteIpi abi completion) = 0
-call_kind v (hostCall.CompleteLoad n) = 0
-call_kind v (hostCall.ToPrint length) = 0
-call_kind v (hostCall.New hart tree) = 0
+call_kind v (host_call.Start t) = pick (is_idle v.waiting) (class_kind (class_of t.scause) v.x t) 0
+call_kind v (host_call.Answer a) = pick (eqb (waiting_ask v.waiting) (answer_number a)) (answer_kind v.waiting a) 0
+call_kind v host_call.Setup = 0
+call_kind v (host_call.SetEntry at) = 0
+call_kind v (host_call.GetGpr index) = 0
+call_kind v (host_call.SetGpr index value) = 0
+call_kind v (host_call.SetReturnValue value) = 0
+call_kind v (host_call.SetNestedPageTable levels mode root) = 0
+call_kind v (host_call.SetPending vector level) = 0
+call_kind v (host_call.LatchHvip bits) = 0
+call_kind v (host_call.CompleteIpi abi completion) = 0
+call_kind v (host_call.CompleteLoad n) = 0
+call_kind v (host_call.ToPrint length) = 0
+call_kind v (host_call.New hart tree) = 0
 
 unfoldable pub kind_of : Vcpu → Turn → ℕ
 kind_of v (call c) = call_kind v c

@@ -37,7 +37,7 @@ use Rattle.demand3_table.specs.Runs.{Lasting, turn_renews, sight_of, step_of, ru
 use Rattle.demand3_table.specs.Alike.{Alike}
 use Rattle.demand3.specs.Shown.{example_record, other, Met, rows_given, exit_numbers, ask_numbers, reply_numbers, sight_numbers, told_of, same_list, Row, named, matters, all_matter, Joined, waits}
 use Rattle.scope.specs.Answers.{answer_effect, fetch_effect, fitting_effect, numbers_effect, values_effect, word_effect}
-use Rattle.scope.specs.declared.hosts.HostCall.TheVariants as hostCall
+use Rattle.scope.specs.declared.hosts.HostCall.TheVariants as host_call
 use Rattle.scope.specs.declared.machine.EcallAsk.TheVariants as asked
 use Rattle.scope.specs.declared.traps.Error.TheVariants as error
 use Rattle.scope.specs.declared.machine.Waiting.TheVariants as waiting
@@ -77,11 +77,11 @@ dbcn = example_record (set (set (set (set zeros 17 eid_dbcn) 10 3) 11 0x8000) 5 
 
 abbrev dbcn_calls : List Turn
 dbcn_calls =
-    call (hostCall.Start ecall)
-    ∷ call (hostCall.Answer (answers.CopiedIn 3))
+    call (host_call.Start ecall)
+    ∷ call (host_call.Answer (answers.CopiedIn 3))
     ∷ post (record { vector = 9; level = 1 } ∷ [])
     ∷ print (65 ∷ 66 ∷ 67 ∷ 68 ∷ [])
-    ∷ call (hostCall.Answer (answers.Printed 0 3))
+    ∷ call (host_call.Answer (answers.Printed 0 3))
     ∷ post (record { vector = 9; level = 1 } ∷ record { vector = 8; level = 1 } ∷ [])
     ∷ []
 
@@ -112,7 +112,7 @@ abbrev load : Vcpu
 load = example_record (set zeros 5 1)
 
 abbrev load_calls : List Turn
-load_calls = call (hostCall.Start (trapped 21 0 0x2383)) ∷ call (hostCall.CompleteLoad 0x8000_0000) ∷ []
+load_calls = call (host_call.Start (trapped 21 0 0x2383)) ∷ call (host_call.CompleteLoad 0x8000_0000) ∷ []
 
 pub load_met : Met 5 2 load load_calls (reply.Exit (exit.MmioRead (record { 0 = 0x1000_0000 }) width.Word) ∷ reply.Done ∷ [])
 unfolding opened
@@ -131,7 +131,7 @@ abbrev fence : Vcpu
 fence = example_record (set (set (set zeros 17 eid_rfnc) 16 1) 5 1)
 
 abbrev fence_calls : List Turn
-fence_calls = call (hostCall.Start ecall) ∷ call (hostCall.Answer (answers.Forwarded 0 0)) ∷ []
+fence_calls = call (host_call.Start ecall) ∷ call (host_call.Answer (answers.Forwarded 0 0)) ∷ []
 
 pub fence_met : Met 5 2 fence fence_calls (reply.Ask (ask.Forward eid_rfnc 1 (record { a0 = 0; a1 = 0; a2 = 0; a3 = 0; a4 = 0; a5 = 0 })) ∷ reply.Exit exit.Nothing ∷ [])
 unfolding opened
@@ -150,7 +150,7 @@ abbrev missed : Vcpu
 missed = example_record (set zeros 5 1)
 
 abbrev missed_calls : List Turn
-missed_calls = call (hostCall.Start (trapped 22 0 0)) ∷ call (hostCall.Answer (answers.Fetched (fetch.Page (record { 0 = 0x8000_0000 })))) ∷ []
+missed_calls = call (host_call.Start (trapped 22 0 0)) ∷ call (host_call.Answer (answers.Fetched (fetch.Page (record { 0 = 0x8000_0000 })))) ∷ []
 
 pub missed_met : Met 5 2 missed missed_calls (reply.Ask (ask.Fetch (record { 0 = 0x8000_0000 }) true) ∷ reply.Exit exit.Nothing ∷ [])
 unfolding opened
@@ -169,7 +169,7 @@ abbrev reading : Vcpu
 reading = example_record (set (set zeros 17 2) 10 1)
 
 abbrev reading_calls : List Turn
-reading_calls = call (hostCall.Start ecall) ∷ call (hostCall.Answer (answers.Char 65)) ∷ []
+reading_calls = call (host_call.Start ecall) ∷ call (host_call.Answer (answers.Char 65)) ∷ []
 
 pub written_joined : Joined a0 2 reading reading_calls (reply.Ask ask.GetChar ∷ reply.Exit exit.Nothing ∷ [])
 unfolding opened
@@ -190,10 +190,10 @@ printing = waits (waiting.Ecall (asked.Print 3)) (example_record (set (set zeros
 
 abbrev printing_calls : List Turn
 printing_calls =
-    call (hostCall.Start ecall)
-    ∷ call (hostCall.GetGpr 6)
+    call (host_call.Start ecall)
+    ∷ call (host_call.GetGpr 6)
     ∷ print (65 ∷ 66 ∷ 67 ∷ [])
-    ∷ call (hostCall.Answer (answers.Printed 0 3))
+    ∷ call (host_call.Answer (answers.Printed 0 3))
     ∷ []
 
 pub waiting_met : Met 5 2 printing printing_calls (reply.Error error.BadState ∷ reply.Value 8 ∷ reply.Done ∷ reply.Exit exit.Nothing ∷ [])
@@ -213,7 +213,7 @@ abbrev calls : ℕ → ℕ → List ℕ
 calls eid fid = set (set zeros 17 eid) 16 fid
 
 abbrev row : ℕ → List ℕ → Row
-row r x = record { register = r; content = 9; before = example_record x; calls = call (hostCall.Start ecall) ∷ [] }
+row r x = record { register = r; content = 9; before = example_record x; calls = call (host_call.Start ecall) ∷ [] }
 
 -- a7; legacy 0, a0; HVC, a5; sPI 0, a1; HSM 0, a2; DBCN 0, a2
 abbrev rows : List Row
@@ -231,21 +231,21 @@ unfolding opened
 rows_matter = refl
 
 -- csrrw of x5
-pub stimecmp_matters : matters (record { register = 5; content = 9; before = example_record zeros; calls = call (hostCall.Start (trapped 22 0x14D292F3 0)) ∷ [] }) ≡ true
+pub stimecmp_matters : matters (record { register = 5; content = 9; before = example_record zeros; calls = call (host_call.Start (trapped 22 0x14D292F3 0)) ∷ [] }) ≡ true
 unfolding opened
 stimecmp_matters = rw (csrrw_opcode, csrrw_csr, csrrw_funct3, csrrw_rs1)
 
 -- sw of x7
-pub store_matters : matters (record { register = 7; content = 6; before = example_record (set zeros 7 5); calls = call (hostCall.Start (trapped 23 0 0x702023)) ∷ [] }) ≡ true
+pub store_matters : matters (record { register = 7; content = 6; before = example_record (set zeros 7 5); calls = call (host_call.Start (trapped 23 0 0x702023)) ∷ [] }) ≡ true
 unfolding opened
 store_matters = rw (sw_x7, store_source_store, cut_5, cut_6)
 
 -- compressed stores: c.sw of x9, which its trap fetches, and c.sdsp of x7, whose fetch waits when the sequence starts
 
 abbrev fetched : ℕ → Turn
-fetched w = call (hostCall.Answer (answers.Fetched (fetch.Word w)))
+fetched w = call (host_call.Answer (answers.Fetched (fetch.Word w)))
 
-pub c_sw_matters : matters (record { register = 9; content = 6; before = example_record (set zeros 9 5); calls = call (hostCall.Start (trapped 23 0 0)) ∷ fetched 0xc004 ∷ [] }) ≡ true
+pub c_sw_matters : matters (record { register = 9; content = 6; before = example_record (set zeros 9 5); calls = call (host_call.Start (trapped 23 0 0)) ∷ fetched 0xc004 ∷ [] }) ≡ true
 unfolding opened
 c_sw_matters = rw (absent, store_source_absent, c_sw_x9, store_source_store, cut_5, cut_6)
 
@@ -262,7 +262,7 @@ abbrev fetching : Vcpu
 fetching = waits (waiting.FetchFault (record { 0 = 0x1000_0000 }) access.Read) (example_record (set zeros 5 1))
 
 abbrev fetching_calls : List Turn
-fetching_calls = fetched 0x4382 ∷ call (hostCall.CompleteLoad 0x8000_0000) ∷ []
+fetching_calls = fetched 0x4382 ∷ call (host_call.CompleteLoad 0x8000_0000) ∷ []
 
 pub fetching_met : Met 5 2 fetching fetching_calls (reply.Exit (exit.MmioRead (record { 0 = 0x1000_0000 }) width.Word) ∷ reply.Done ∷ [])
 unfolding opened

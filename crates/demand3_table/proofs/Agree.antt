@@ -44,7 +44,7 @@ use Rattle.scope.specs.Answers.{answer_effect, fetch_effect, fitting_effect, wor
 use Rattle.scope.specs.declared.traps.Ask.TheVariants as ask
 use Rattle.scope.specs.declared.machine.EcallAsk.TheVariants as asked
 use Rattle.scope.specs.declared.decided.Class.TheVariants as class
-use Rattle.scope.specs.declared.hosts.HostCall.TheVariants as hostCall
+use Rattle.scope.specs.declared.hosts.HostCall.TheVariants as host_call
 use Rattle.scope.specs.Refusals.{unless_asking}
 use Rattle.scope.specs.declared.machine.Writes.TheVariants as writes
 use Rattle.scope.specs.declared.decided.Class.{Class}
@@ -275,20 +275,20 @@ module _ {r : ℕ} {x y : List ℕ} (f : Files r x y) where
 -- one call, on two records that are alike
 pub effect_alike : (r : ℕ) (v w : Vcpu) (c : HostCall) → Alike r v w → Apart r (call_names v c) → Apart r (call_reads c) → effect_of v c ≡ effect_of w c
 unfolding effect_of call_names call_reads unless_asking start_effect gpr_reply answer_effect
-effect_alike r v w hostCall.Setup a h k = rw (a.csrs, a.waiting)
-effect_alike r v w (hostCall.SetEntry at) a h k = rw (a.csrs, a.waiting)
-effect_alike r v w (hostCall.GetGpr index) a h k = rw (a.csrs, a.waiting, value_alike a.files index k)
-effect_alike r v w (hostCall.SetGpr index value) a h k = rw (a.csrs, a.waiting)
-effect_alike r v w (hostCall.SetReturnValue value) a h k = rw (a.csrs, a.waiting)
-effect_alike r v w (hostCall.SetNestedPageTable levels mode root) a h k = rw (a.csrs, a.waiting)
-effect_alike r v w (hostCall.SetPending vector level) a h k = rw (a.csrs, a.waiting)
-effect_alike r v w (hostCall.LatchHvip bits) a h k = rw (a.csrs, a.waiting)
-effect_alike r v w (hostCall.CompleteIpi abi completion) a h k = rw (a.csrs, a.waiting)
-effect_alike r v w (hostCall.Start t) a h k =
+effect_alike r v w host_call.Setup a h k = rw (a.csrs, a.waiting)
+effect_alike r v w (host_call.SetEntry at) a h k = rw (a.csrs, a.waiting)
+effect_alike r v w (host_call.GetGpr index) a h k = rw (a.csrs, a.waiting, value_alike a.files index k)
+effect_alike r v w (host_call.SetGpr index value) a h k = rw (a.csrs, a.waiting)
+effect_alike r v w (host_call.SetReturnValue value) a h k = rw (a.csrs, a.waiting)
+effect_alike r v w (host_call.SetNestedPageTable levels mode root) a h k = rw (a.csrs, a.waiting)
+effect_alike r v w (host_call.SetPending vector level) a h k = rw (a.csrs, a.waiting)
+effect_alike r v w (host_call.LatchHvip bits) a h k = rw (a.csrs, a.waiting)
+effect_alike r v w (host_call.CompleteIpi abi completion) a h k = rw (a.csrs, a.waiting)
+effect_alike r v w (host_call.Start t) a h k =
     rw (← a.csrs, ← a.waiting)
     (parted (is_idle v.waiting) (λ e. e) (λ e. e) h (class_alike a.files (class_of t.scause) v.csrs t) (λ h. refl))
-effect_alike r v w (hostCall.Answer n) a h k =
+effect_alike r v w (host_call.Answer n) a h k =
     rw (← a.csrs, ← a.waiting, answer_alike a.files v.waiting v.csrs n h)
-effect_alike r v w (hostCall.CompleteLoad n) a h k = rw (a.csrs, a.waiting)
-effect_alike r v w (hostCall.ToPrint length) a h k = rw (a.csrs, a.waiting)
-effect_alike r v w (hostCall.New hart tree) a h k = refl
+effect_alike r v w (host_call.CompleteLoad n) a h k = rw (a.csrs, a.waiting)
+effect_alike r v w (host_call.ToPrint length) a h k = rw (a.csrs, a.waiting)
+effect_alike r v w (host_call.New hart tree) a h k = refl

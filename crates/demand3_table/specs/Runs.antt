@@ -2,7 +2,7 @@
 use Rattle.std.specs.Prelude.{ℕ, Bool, true, false, List, [], ◌∷◌, ◌≡◌, eqb, ltb}
 use Rattle.demand3_table.specs.Turns.{Turn, call, print, post}
 use Rattle.isa_types.specs.Pick.{pick, or}
-use Rattle.scope.specs.declared.hosts.HostCall.TheVariants as hostCall
+use Rattle.scope.specs.declared.hosts.HostCall.TheVariants as host_call
 use Rattle.scope.specs.declared.hosts.HostCall.{HostCall}
 use Rattle.scope.specs.declared.hosts.Posted.{Posted}
 use Rattle.scope.specs.declared.traps.Reply.{Reply}
@@ -65,20 +65,20 @@ Untouched r v (c ∷ cs) = (Apart r (names_of v c)) × (Apart r (reads_of c)) ×
 
 -- the call makes a new record
 unfoldable pub renews : HostCall → Bool
-renews (hostCall.New hart tree) = true
-renews hostCall.Setup = false
-renews (hostCall.SetEntry at) = false
-renews (hostCall.GetGpr index) = false
-renews (hostCall.SetGpr index value) = false
-renews (hostCall.SetReturnValue value) = false
-renews (hostCall.SetNestedPageTable levels mode root) = false
-renews (hostCall.SetPending vector level) = false
-renews (hostCall.LatchHvip bits) = false
-renews (hostCall.CompleteIpi abi completion) = false
-renews (hostCall.Start t) = false
-renews (hostCall.Answer a) = false
-renews (hostCall.CompleteLoad n) = false
-renews (hostCall.ToPrint length) = false
+renews (host_call.New hart tree) = true
+renews host_call.Setup = false
+renews (host_call.SetEntry at) = false
+renews (host_call.GetGpr index) = false
+renews (host_call.SetGpr index value) = false
+renews (host_call.SetReturnValue value) = false
+renews (host_call.SetNestedPageTable levels mode root) = false
+renews (host_call.SetPending vector level) = false
+renews (host_call.LatchHvip bits) = false
+renews (host_call.CompleteIpi abi completion) = false
+renews (host_call.Start t) = false
+renews (host_call.Answer a) = false
+renews (host_call.CompleteLoad n) = false
+renews (host_call.ToPrint length) = false
 
 -- the writes reach r; x0 is never written
 unfoldable pub wrote : ℕ → Writes → Bool

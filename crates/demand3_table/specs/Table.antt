@@ -22,7 +22,7 @@ use Rattle.scope.specs.declared.machine.Waiting.TheVariants as waiting
 use Rattle.scope.specs.Record.{is_idle}
 use Rattle.scope.specs.declared.hosts.HostCall.{HostCall}
 use Rattle.scope.specs.declared.decided.Class.TheVariants as class
-use Rattle.scope.specs.declared.hosts.HostCall.TheVariants as hostCall
+use Rattle.scope.specs.declared.hosts.HostCall.TheVariants as host_call
 use Rattle.scope.specs.declared.decided.Class.{Class}
 use Rattle.scope.specs.Classes.{class_of}
 
@@ -182,20 +182,20 @@ answer_names n answers.Other = []
 
 -- the registers that a call's trap names; a refused start names none
 unfoldable pub call_names : Vcpu → HostCall → List ℕ
-call_names v (hostCall.Start t) = pick (is_idle v.waiting) (class_names (class_of t.scause) v.x t) []
-call_names v (hostCall.Answer a) = answer_names v.waiting a
-call_names v hostCall.Setup = []
-call_names v (hostCall.SetEntry at) = []
-call_names v (hostCall.GetGpr index) = []
-call_names v (hostCall.SetGpr index value) = []
-call_names v (hostCall.SetReturnValue value) = []
-call_names v (hostCall.SetNestedPageTable levels mode root) = []
-call_names v (hostCall.SetPending vector level) = []
-call_names v (hostCall.LatchHvip bits) = []
-call_names v (hostCall.CompleteIpi abi completion) = []
-call_names v (hostCall.CompleteLoad n) = []
-call_names v (hostCall.ToPrint length) = []
-call_names v (hostCall.New hart tree) = []
+call_names v (host_call.Start t) = pick (is_idle v.waiting) (class_names (class_of t.scause) v.x t) []
+call_names v (host_call.Answer a) = answer_names v.waiting a
+call_names v host_call.Setup = []
+call_names v (host_call.SetEntry at) = []
+call_names v (host_call.GetGpr index) = []
+call_names v (host_call.SetGpr index value) = []
+call_names v (host_call.SetReturnValue value) = []
+call_names v (host_call.SetNestedPageTable levels mode root) = []
+call_names v (host_call.SetPending vector level) = []
+call_names v (host_call.LatchHvip bits) = []
+call_names v (host_call.CompleteIpi abi completion) = []
+call_names v (host_call.CompleteLoad n) = []
+call_names v (host_call.ToPrint length) = []
+call_names v (host_call.New hart tree) = []
 
 unfoldable pub names_of : Vcpu → Turn → List ℕ
 names_of v (call c) = call_names v c
@@ -204,20 +204,20 @@ names_of v (post ps) = []
 
 -- the registers that a call reads out to the host; x0 reads 0, whatever its slot holds
 unfoldable pub call_reads : HostCall → List ℕ
-call_reads (hostCall.GetGpr index) = source_names index
-call_reads hostCall.Setup = []
-call_reads (hostCall.SetEntry at) = []
-call_reads (hostCall.SetGpr index value) = []
-call_reads (hostCall.SetReturnValue value) = []
-call_reads (hostCall.SetNestedPageTable levels mode root) = []
-call_reads (hostCall.SetPending vector level) = []
-call_reads (hostCall.LatchHvip bits) = []
-call_reads (hostCall.CompleteIpi abi completion) = []
-call_reads (hostCall.Start t) = []
-call_reads (hostCall.Answer a) = []
-call_reads (hostCall.CompleteLoad n) = []
-call_reads (hostCall.ToPrint length) = []
-call_reads (hostCall.New hart tree) = []
+call_reads (host_call.GetGpr index) = source_names index
+call_reads host_call.Setup = []
+call_reads (host_call.SetEntry at) = []
+call_reads (host_call.SetGpr index value) = []
+call_reads (host_call.SetReturnValue value) = []
+call_reads (host_call.SetNestedPageTable levels mode root) = []
+call_reads (host_call.SetPending vector level) = []
+call_reads (host_call.LatchHvip bits) = []
+call_reads (host_call.CompleteIpi abi completion) = []
+call_reads (host_call.Start t) = []
+call_reads (host_call.Answer a) = []
+call_reads (host_call.CompleteLoad n) = []
+call_reads (host_call.ToPrint length) = []
+call_reads (host_call.New hart tree) = []
 
 unfoldable pub reads_of : Turn → List ℕ
 reads_of (call c) = call_reads c

@@ -3,7 +3,7 @@ use Rattle.std.specs.Prelude.{ℕ, suc, ◌+◌, ◌<◌, true, false, List, ◌
 use Rattle.std.proofs.Common.{arith, ap, ap₂, sym, subst, ◌∙◌}
 use Rattle.isa_types.specs.Pick.{and, or, wrapped}
 use Rattle.scope.specs.Calls.{called_of}
-use Rattle.scope.specs.declared.hosts.HostCall.TheVariants as hostCall
+use Rattle.scope.specs.declared.hosts.HostCall.TheVariants as host_call
 use Rattle.scope.specs.declared.hosts.HostCall.{HostCall}
 use Rattle.scope.specs.declared.hosts.Post.{Post}
 use Rattle.scope.specs.declared.hosts.Posted.{Posted}
@@ -134,7 +134,7 @@ host_refusal_keeps_the_record r s c w e d h =
     let one = leads e (places.does d) in refused_place r s c w e one.sized one.left d.says h
 
 -- a register read leaves all 58
-pub place_read_keeps_the_record : (r s p : List ℕ) (index w : ℕ) → length r ≡ 58 → Made r (hostCall.GetGpr index) s p w → s ≡ r
+pub place_read_keeps_the_record : (r s p : List ℕ) (index w : ℕ) → length r ≡ 58 → Made r (host_call.GetGpr index) s p w → s ≡ r
 unfolding use_turn turn_left
 place_read_keeps_the_record r s p index w e m =
     let one = leads e (places.gives m) in
@@ -152,7 +152,7 @@ pub place_ask_waits : (r s p : List ℕ) (c : HostCall) (w : ℕ) → Made r c s
 place_ask_waits r s p c w m a e =
     subst (λ (v : Vcpu). Pending (view_of r) a v) (sym m.shows) (ask_waits (view_of r) c a e)
 
-start_first : (r : Record) (t : Trap) (cs : List Use) → left_after r (turns_of (places.given (hostCall.Start t) ∷ cs)) ≡ left_after r (call (hostCall.Start t) ∷ turns_of cs)
+start_first : (r : Record) (t : Trap) (cs : List Use) → left_after r (turns_of (places.given (host_call.Start t) ∷ cs)) ≡ left_after r (call (host_call.Start t) ∷ turns_of cs)
 unfolding turns_of use_turn
 start_first r t cs = refl
 
@@ -162,8 +162,8 @@ place_exit_leaves r s p c w m y e =
     subst (λ (v : Vcpu). ExitLeaves y v.waiting) (sym m.shows) (exit_leaves (view_of r) c y e)
 
 -- a trap that ends in an error, from its start through its last answer, with refused calls, rows while an ask waits, and reads between
-pub place_error_changes_nothing : (r u : List ℕ) (t : Trap) (cs : List Use) (ws : List Shown) → length r ≡ 58 → Places r (places.given (hostCall.Start t) ∷ cs) ws u
-    → Middles (called_of (view_of r) (hostCall.Start t)).vcpu (turns_of cs) → in_error (whole_of (view_of r) t (turns_of cs)).reply ≡ true → OverWords (record_of r) (record_of u)
+pub place_error_changes_nothing : (r u : List ℕ) (t : Trap) (cs : List Use) (ws : List Shown) → length r ≡ 58 → Places r (places.given (host_call.Start t) ∷ cs) ws u
+    → Middles (called_of (view_of r) (host_call.Start t)).vcpu (turns_of cs) → in_error (whole_of (view_of r) t (turns_of cs)).reply ≡ true → OverWords (record_of r) (record_of u)
 unfolding view_of
 place_error_changes_nothing r u t cs ws e p m h =
     subst (λ (z : Record). OverWords (record_of r) z) (sym ((ran e p).left ∙ start_first (record_of r) t cs)) (error_leaves_the_words (record_of r) t (turns_of cs) (record_sized r e) m h)
@@ -265,12 +265,12 @@ words_row_when y r s ps g x =
     (ap (λ (k : Posted). eqb (error_number y) k.refusal) x.1 ∙ row_when_lem y (unpack_of r) ps, ap (λ (k : Posted). k.applied) x.1 ∙ row_applies_lem (unpack_of r) ps)
 
 -- so does a register read, and the question how much is to be printed
-pub words_read_keeps_the_record : (r s : Record) (c : CallWords) (g : ReplyWords) (index : ℕ) → Sized r → call_of c ≡ hostCall.GetGpr index → Exported r c s g → s ≡ r
+pub words_read_keeps_the_record : (r s : Record) (c : CallWords) (g : ReplyWords) (index : ℕ) → Sized r → call_of c ≡ host_call.GetGpr index → Exported r c s g → s ≡ r
 unfolding exported_of
 words_read_keeps_the_record r s c g index z k x =
     x.0 ∙ ap (left_of r) k ∙ read_leaves_the_words r index z
 
-pub words_print_keeps_the_record : (r s : Record) (c : CallWords) (g : ReplyWords) (n : ℕ) → Sized r → call_of c ≡ hostCall.ToPrint n → Exported r c s g → s ≡ r
+pub words_print_keeps_the_record : (r s : Record) (c : CallWords) (g : ReplyWords) (n : ℕ) → Sized r → call_of c ≡ host_call.ToPrint n → Exported r c s g → s ≡ r
 unfolding exported_of
 words_print_keeps_the_record r s c g n z k x =
     x.0 ∙ ap (left_of r) k ∙ print_leaves_the_words r n z
@@ -303,8 +303,8 @@ entered_third k {r} {q} {u} {t} {cs} {gs} {hs} z y a n p o =
       joins = λ h. entered_left p ∙ both.joins h ∙ sym (entered_left o);
     }
 
-pub entered_error_changes_nothing : (r u : Record) (t : Trap) (c : CallWords) (cs : List Spoken) (gs : List Answered) → Sized r → call_of c ≡ hostCall.Start t → Entered r (places.called c ∷ cs) gs u
-    → Middles (called_of (unpack_of r) (hostCall.Start t)).vcpu (turns_in cs) → in_error (whole_of (unpack_of r) t (turns_in cs)).reply ≡ true → OverWords r u
+pub entered_error_changes_nothing : (r u : Record) (t : Trap) (c : CallWords) (cs : List Spoken) (gs : List Answered) → Sized r → call_of c ≡ host_call.Start t → Entered r (places.called c ∷ cs) gs u
+    → Middles (called_of (unpack_of r) (host_call.Start t)).vcpu (turns_in cs) → in_error (whole_of (unpack_of r) t (turns_in cs)).reply ≡ true → OverWords r u
 unfolding turns_in spoken_turn
 entered_error_changes_nothing r u t c cs gs z k p m h =
     subst (λ (n : Record). OverWords r n) (sym (entered_left p ∙ ap (λ (l : HostCall). left_after r (call l ∷ turns_in cs)) k)) (error_leaves_the_words r t (turns_in cs) z m h)

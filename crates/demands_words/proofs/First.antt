@@ -5,7 +5,7 @@ use Rattle.std.proofs.Common.{arith, ap, sym, subst, ◌∙◌, eq-eqb, eqb-true
 use Rattle.std.proofs.lemmas.Bool.{eqb-false}
 use Rattle.isa_types.specs.Pick.{and}
 use Rattle.scope.specs.Calls.{base_of, called_of, effect_of}
-use Rattle.scope.specs.declared.hosts.HostCall.TheVariants as hostCall
+use Rattle.scope.specs.declared.hosts.HostCall.TheVariants as host_call
 use Rattle.scope.specs.declared.hosts.HostCall.{HostCall}
 use Rattle.scope.specs.declared.machine.Outcome.{Outcome}
 use Rattle.scope.specs.declared.machine.Record.{Record}
@@ -49,7 +49,7 @@ laid_same r u w z h k =
     let csrs : csrs_words u.csrs ≡ r.csrs = ap (λ (v : Vcpu). csrs_words v.csrs) h ∙ csrs_words_back r.csrs z.thirteen in
     λ i. record { x = (h i).x; csrs = csrs i; counts = (h i).counts; waiting = k i }
 
-new_done : (v : Vcpu) (hart tree : ℕ) → refuses (called_of v (hostCall.New hart tree)).reply ≡ false
+new_done : (v : Vcpu) (hart tree : ℕ) → refuses (called_of v (host_call.New hart tree)).reply ≡ false
 unfolding called_of base_of effect_of done_of applied refuses
 new_done v hart tree = refl
 
@@ -59,20 +59,20 @@ trap_refused w p n h = rw h refl
 
 refused_waits : (v : Vcpu) (c : HostCall) (w : List ℕ) (n : Waiting) → refuses (called_of v c).reply ≡ true → waiting_left c w (called_of v c).reply n ≡ w
 unfolding waiting_left
-refused_waits v (hostCall.New hart tree) w n h = never (sym (new_done v hart tree) ∙ h)
-refused_waits v hostCall.Setup w n h = refl
-refused_waits v (hostCall.SetEntry at) w n h = refl
-refused_waits v (hostCall.GetGpr index) w n h = refl
-refused_waits v (hostCall.SetGpr index value) w n h = refl
-refused_waits v (hostCall.SetReturnValue value) w n h = refl
-refused_waits v (hostCall.SetNestedPageTable levels mode root) w n h = refl
-refused_waits v (hostCall.SetPending vector level) w n h = refl
-refused_waits v (hostCall.LatchHvip bits) w n h = refl
-refused_waits v (hostCall.CompleteIpi abi completion) w n h = refl
-refused_waits v (hostCall.Start t) w n h = trap_refused w _ n h
-refused_waits v (hostCall.Answer a) w n h = trap_refused w _ n h
-refused_waits v (hostCall.CompleteLoad k) w n h = trap_refused w _ n h
-refused_waits v (hostCall.ToPrint length) w n h = refl
+refused_waits v (host_call.New hart tree) w n h = never (sym (new_done v hart tree) ∙ h)
+refused_waits v host_call.Setup w n h = refl
+refused_waits v (host_call.SetEntry at) w n h = refl
+refused_waits v (host_call.GetGpr index) w n h = refl
+refused_waits v (host_call.SetGpr index value) w n h = refl
+refused_waits v (host_call.SetReturnValue value) w n h = refl
+refused_waits v (host_call.SetNestedPageTable levels mode root) w n h = refl
+refused_waits v (host_call.SetPending vector level) w n h = refl
+refused_waits v (host_call.LatchHvip bits) w n h = refl
+refused_waits v (host_call.CompleteIpi abi completion) w n h = refl
+refused_waits v (host_call.Start t) w n h = trap_refused w _ n h
+refused_waits v (host_call.Answer a) w n h = trap_refused w _ n h
+refused_waits v (host_call.CompleteLoad k) w n h = trap_refused w _ n h
+refused_waits v (host_call.ToPrint length) w n h = refl
 
 -- a refusal of any call leaves every word
 pub refusal_leaves_the_words : (r : Record) (c : HostCall) → Sized r → refuses (called_of (unpack_of r) c).reply ≡ true → left_of r c ≡ r
@@ -81,11 +81,11 @@ refusal_leaves_the_words r c z h =
     laid_same r _ _ z (refusal_keeps_the_record (unpack_of r) c h) (refused_waits (unpack_of r) c r.waiting _ h)
 
 -- so does a register read, and the question how much is to be printed
-pub read_leaves_the_words : (r : Record) (index : ℕ) → Sized r → left_of r (hostCall.GetGpr index) ≡ r
+pub read_leaves_the_words : (r : Record) (index : ℕ) → Sized r → left_of r (host_call.GetGpr index) ≡ r
 unfolding left_of left_by called_of base_of effect_of leaves_of applied stored counted bumped event_number waiting_left
 read_leaves_the_words r index z = laid_same r (unpack_of r) r.waiting z refl refl
 
-pub print_leaves_the_words : (r : Record) (n : ℕ) → Sized r → left_of r (hostCall.ToPrint n) ≡ r
+pub print_leaves_the_words : (r : Record) (n : ℕ) → Sized r → left_of r (host_call.ToPrint n) ≡ r
 unfolding left_of left_by called_of base_of effect_of leaves_of applied stored counted bumped event_number waiting_left
 print_leaves_the_words r n z = laid_same r (unpack_of r) r.waiting z refl refl
 
@@ -112,13 +112,13 @@ over_words r s z y o =
     }
 
 pub error_leaves_the_words : (r : Record) (t : Trap) (l : List Turn) → Sized r
-    → Middles (called_of (unpack_of r) (hostCall.Start t)).vcpu l
+    → Middles (called_of (unpack_of r) (host_call.Start t)).vcpu l
     → in_error (whole_of (unpack_of r) t l).reply ≡ true
-    → OverWords r (left_after r (call (hostCall.Start t) ∷ l))
+    → OverWords r (left_after r (call (host_call.Start t) ∷ l))
 unfolding whole_of left_after turn_left
 error_leaves_the_words r t l z m h =
-    let after = after_shows (called_of (unpack_of r) (hostCall.Start t)) (left_of r (hostCall.Start t)) l (left_sized r (hostCall.Start t) z) (left_shows r (hostCall.Start t) z) in
-    over_words r (left_after (left_of r (hostCall.Start t)) l) z after.1
+    let after = after_shows (called_of (unpack_of r) (host_call.Start t)) (left_of r (host_call.Start t)) l (left_sized r (host_call.Start t) z) (left_shows r (host_call.Start t) z) in
+    over_words r (left_after (left_of r (host_call.Start t)) l) z after.1
     (subst (λ (u : Vcpu). Over (unpack_of r) u) (sym after.0) (error_changes_nothing (unpack_of r) t l m h))
 
 -- the table of 'given exactly when', of the word that is returned, and of kind and number

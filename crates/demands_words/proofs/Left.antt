@@ -4,7 +4,7 @@ use Rattle.std.proofs.Common.{arith, ap, subst, sym, ◌∙◌}
 use Rattle.std.proofs.lemmas.List.Edits.{sets}
 use Rattle.isa_types.specs.Pick.{pick}
 use Rattle.scope.specs.Calls.{called_of, effect_of}
-use Rattle.scope.specs.declared.hosts.HostCall.TheVariants as hostCall
+use Rattle.scope.specs.declared.hosts.HostCall.TheVariants as host_call
 use Rattle.scope.specs.declared.hosts.HostCall.{HostCall}
 use Rattle.scope.specs.declared.machine.Csrs.{Csrs}
 use Rattle.scope.specs.declared.machine.EcallAsk.TheVariants as asked
@@ -119,20 +119,20 @@ as_read r = refl
 left_waits : (r : Record) (c : HostCall) → length r.waiting ≡ 4
     → waiting_of (waiting_left c r.waiting (called_of (unpack_of r) c).reply (called_of (unpack_of r) c).vcpu.waiting) ≡ (called_of (unpack_of r) c).vcpu.waiting
 unfolding waiting_left trap_left called_of effect_of applied leaves_of
-left_waits r (hostCall.New hart tree) e = waiting_back (called_of (unpack_of r) (hostCall.New hart tree)).vcpu.waiting
-left_waits r hostCall.Setup e = as_read r ∙ guarded (unpack_of r) _ (done_stays _ _ _)
-left_waits r (hostCall.SetEntry at) e = as_read r ∙ guarded (unpack_of r) _ (done_stays _ _ _)
-left_waits r (hostCall.GetGpr index) e = as_read r
-left_waits r (hostCall.SetGpr index value) e = as_read r ∙ guarded (unpack_of r) _ (write_stays _ _ index value)
-left_waits r (hostCall.SetReturnValue value) e = as_read r ∙ guarded (unpack_of r) _ (done_stays _ _ _)
-left_waits r (hostCall.SetNestedPageTable levels mode root) e = as_read r ∙ guarded (unpack_of r) _ (paging_stays _ _ levels mode root)
-left_waits r (hostCall.SetPending vector level) e = as_read r ∙ guarded (unpack_of r) _ (pending_stays _ _ vector level)
-left_waits r (hostCall.LatchHvip bits) e = as_read r ∙ guarded (unpack_of r) _ (done_stays _ _ _)
-left_waits r (hostCall.CompleteIpi abi completion) e = as_read r ∙ guarded (unpack_of r) _ (done_stays _ _ _)
-left_waits r (hostCall.Start t) e = trap_waits r (hostCall.Start t) e _ refl
-left_waits r (hostCall.Answer a) e = trap_waits r (hostCall.Answer a) e _ refl
-left_waits r (hostCall.CompleteLoad n) e = trap_waits r (hostCall.CompleteLoad n) e _ refl
-left_waits r (hostCall.ToPrint length) e = as_read r
+left_waits r (host_call.New hart tree) e = waiting_back (called_of (unpack_of r) (host_call.New hart tree)).vcpu.waiting
+left_waits r host_call.Setup e = as_read r ∙ guarded (unpack_of r) _ (done_stays _ _ _)
+left_waits r (host_call.SetEntry at) e = as_read r ∙ guarded (unpack_of r) _ (done_stays _ _ _)
+left_waits r (host_call.GetGpr index) e = as_read r
+left_waits r (host_call.SetGpr index value) e = as_read r ∙ guarded (unpack_of r) _ (write_stays _ _ index value)
+left_waits r (host_call.SetReturnValue value) e = as_read r ∙ guarded (unpack_of r) _ (done_stays _ _ _)
+left_waits r (host_call.SetNestedPageTable levels mode root) e = as_read r ∙ guarded (unpack_of r) _ (paging_stays _ _ levels mode root)
+left_waits r (host_call.SetPending vector level) e = as_read r ∙ guarded (unpack_of r) _ (pending_stays _ _ vector level)
+left_waits r (host_call.LatchHvip bits) e = as_read r ∙ guarded (unpack_of r) _ (done_stays _ _ _)
+left_waits r (host_call.CompleteIpi abi completion) e = as_read r ∙ guarded (unpack_of r) _ (done_stays _ _ _)
+left_waits r (host_call.Start t) e = trap_waits r (host_call.Start t) e _ refl
+left_waits r (host_call.Answer a) e = trap_waits r (host_call.Answer a) e _ refl
+left_waits r (host_call.CompleteLoad n) e = trap_waits r (host_call.CompleteLoad n) e _ refl
+left_waits r (host_call.ToPrint length) e = as_read r
 
 shown : (u : Vcpu) (w : List ℕ) → waiting_of w ≡ u.waiting → unpack_of (laid_with u w) ≡ u
 unfolding unpack_of laid_with

@@ -2,7 +2,7 @@
 use Rattle.std.specs.Prelude.{ℕ, List, [], ◌≡◌, refl, drop, length, take}
 use Rattle.std.proofs.Common.{ap, ap₂, sym, ◌∙◌}
 use Rattle.scope.specs.Calls.{base_of, called_of, effect_of, printable}
-use Rattle.scope.specs.declared.hosts.HostCall.TheVariants as hostCall
+use Rattle.scope.specs.declared.hosts.HostCall.TheVariants as host_call
 use Rattle.scope.specs.declared.hosts.HostCall.{HostCall}
 use Rattle.scope.specs.declared.hosts.Post.{Post}
 use Rattle.scope.specs.declared.machine.Record.{Record}
@@ -78,11 +78,11 @@ sized_by r s c e waits = all_there s _ (left_four c (drop 54 r) _ _ (last_four r
 row_sized : (r s : List ℕ) → length r ≡ 58 → drop 54 s ≡ drop 54 r → length s ≡ 58
 row_sized r s e waits = all_there s _ (last_four r e) waits
 
-print_vcpu : (v : Vcpu) (n : ℕ) → (called_of v (hostCall.ToPrint n)).vcpu ≡ v
+print_vcpu : (v : Vcpu) (n : ℕ) → (called_of v (host_call.ToPrint n)).vcpu ≡ v
 unfolding called_of base_of effect_of leaves_of applied stored counted bumped event_number
 print_vcpu v n = refl
 
-print_value : (v : Vcpu) (n : ℕ) → value_in (called_of v (hostCall.ToPrint n)).reply ≡ printable v.waiting n
+print_value : (v : Vcpu) (n : ℕ) → value_in (called_of v (host_call.ToPrint n)).reply ≡ printable v.waiting n
 unfolding called_of effect_of leaves_of applied value_in
 print_value v n = refl
 

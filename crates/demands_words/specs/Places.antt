@@ -1,7 +1,7 @@
 -- Sequences of calls and rows of posts through the exported entries, by their promises alone: in place on 58 words, and by words.
 use Rattle.std.specs.Prelude.{ℕ, List, [], ◌∷◌, ◌≡◌, length}
 use Rattle.scope.specs.Calls.{printable}
-use Rattle.scope.specs.declared.hosts.HostCall.TheVariants as hostCall
+use Rattle.scope.specs.declared.hosts.HostCall.TheVariants as host_call
 use Rattle.scope.specs.declared.hosts.HostCall.{HostCall}
 use Rattle.scope.specs.declared.hosts.Post.{Post}
 use Rattle.scope.specs.declared.hosts.Posted.{Posted}
@@ -30,7 +30,7 @@ pub data Use : Type 0 where
 unfoldable pub use_turn : Use → Turn
 use_turn (given c) = call c
 use_turn (plain c) = call c
-use_turn (count n) = call (hostCall.ToPrint n)
+use_turn (count n) = call (host_call.ToPrint n)
 use_turn (row ps) = turns.post ps
 
 unfoldable pub turns_of : List Use → List Turn

@@ -21,7 +21,7 @@ use Rattle.scope.specs.VirtualInstruction.{missed_effect, missed_of, stimecmp_ef
 use Rattle.scope.specs.Decided.{answered_effect}
 use Rattle.scope.specs.Answers.{answer_effect, fitting_effect, fetch_effect, numbers_effect, values_effect, word_effect}
 use Rattle.scope.specs.Calls.{base_of, called_of, effect_of}
-use Rattle.scope.specs.declared.hosts.HostCall.TheVariants as hostCall
+use Rattle.scope.specs.declared.hosts.HostCall.TheVariants as host_call
 use Rattle.in_place_record.specs.Steps.{Laid, Settled, out_over, trap_leaves}
 use Rattle.in_place_record.specs.View.{view_of}
 use Rattle.scope.specs.ReplyWords.{reply_word}
@@ -133,12 +133,12 @@ unfit n ask a b h = unfit_by n (answer_number_lem ask a b) h
 no_zero : (ask a b : ℕ) → eqb 0 (answer_number (answer_for ask a b)) ≡ false
 no_zero ask a b = no_zero_by (answer_number_lem ask a b)
 
-pub wrong_made : (r o : List ℕ) (ask a b : ℕ) → eqb (waiting_ask (view_of r).waiting) ask ≡ false → Laid (trap_leaves r) o (called_of (view_of r) (hostCall.Answer (answer_for ask a b))) r o 0x107
+pub wrong_made : (r o : List ℕ) (ask a b : ℕ) → eqb (waiting_ask (view_of r).waiting) ask ≡ false → Laid (trap_leaves r) o (called_of (view_of r) (host_call.Answer (answer_for ask a b))) r o 0x107
 unfolding called_of base_of effect_of answer_effect
 wrong_made r o ask a b e = rw (unfit (view_of r).waiting ask a b e) (refused_made r o (view_of r).waiting refl)
 
 -- to the fetch that waits
-pub fetch_called : (v : Vcpu) (a b : ℕ) → waiting_ask v.waiting ≡ 1 → applied v (fetch_effect v.x v.csrs v.waiting (fetch_of a b)) ≡ called_of v (hostCall.Answer (answer_for 1 a b))
+pub fetch_called : (v : Vcpu) (a b : ℕ) → waiting_ask v.waiting ≡ 1 → applied v (fetch_effect v.x v.csrs v.waiting (fetch_of a b)) ≡ called_of v (host_call.Answer (answer_for 1 a b))
 unfolding called_of base_of effect_of answer_effect answer_number fitting_effect answer_for
 fetch_called v a b e = rw e
 
@@ -146,7 +146,7 @@ fetch_called v a b e = rw e
 
 numbers_by : (x k : List ℕ) (c : Csrs) (w : Waiting) (ask a b : ℕ) → waiting_ask w ≡ ask → 1 < ask →
     let v : Vcpu = record { x = x; csrs = c; counts = k; waiting = w } in
-    applied v (numbers_effect c w a b) ≡ called_of v (hostCall.Answer (answer_for ask a b))
+    applied v (numbers_effect c w a b) ≡ called_of v (host_call.Answer (answer_for ask a b))
 unfolding called_of base_of effect_of answer_effect answer_number answer_values fitting_effect values_effect answer_for waiting_ask ecall_ask_number numbers_effect ecall_answer
 numbers_by x k c waiting.Idle ask a b e h = absurd (low ask 0 e h (omega arith))
 numbers_by x k c (waiting.Load rd w s) ask a b e h = absurd (low ask 0 e h (omega arith))
@@ -162,10 +162,10 @@ numbers_by x k c (waiting.Ecall asked.PutByte) ask a b e h = rw (← e) refl
 numbers_by x k c (waiting.Ecall asked.GetChar) ask a b e h = rw (← e) refl
 numbers_by x k c (waiting.Ecall asked.Forward) ask a b e h = rw (← e) refl
 
-pub numbers_called : (v : Vcpu) (ask a b : ℕ) → waiting_ask v.waiting ≡ ask → 1 < ask → applied v (numbers_effect v.csrs v.waiting a b) ≡ called_of v (hostCall.Answer (answer_for ask a b))
+pub numbers_called : (v : Vcpu) (ask a b : ℕ) → waiting_ask v.waiting ≡ ask → 1 < ask → applied v (numbers_effect v.csrs v.waiting a b) ≡ called_of v (host_call.Answer (answer_for ask a b))
 numbers_called v ask a b e h = numbers_by v.x v.counts v.csrs v.waiting ask a b e h
 
-pub none_waits : (r o : List ℕ) (w : Waiting) (ask a b : ℕ) → w ≡ (view_of r).waiting → waiting_ask w ≡ 0 → Laid (trap_leaves r) o (called_of (view_of r) (hostCall.Answer (answer_for ask a b))) r o 0x107
+pub none_waits : (r o : List ℕ) (w : Waiting) (ask a b : ℕ) → w ≡ (view_of r).waiting → waiting_ask w ≡ 0 → Laid (trap_leaves r) o (called_of (view_of r) (host_call.Answer (answer_for ask a b))) r o 0x107
 unfolding called_of base_of effect_of answer_effect
 none_waits r o w ask a b e z =
     rw (ap waiting_ask (sym e) ∙ z, no_zero ask a b) (refused_made r o (view_of r).waiting refl)
@@ -173,14 +173,14 @@ none_waits r o w ask a b e z =
 -- the same, as the functions come by it
 
 pub fetch_made : (r o s p : List ℕ) (w : Waiting) (ask a b c : ℕ) → w ≡ (view_of r).waiting → waiting_ask w ≡ 1 → ask ≡ 1
-    → Laid (trap_leaves r) o (applied (view_of r) (fetch_effect (view_of r).x (view_of r).csrs w (fetch_of a b))) s p c → Laid (trap_leaves r) o (called_of (view_of r) (hostCall.Answer (answer_for ask a b))) s p c
+    → Laid (trap_leaves r) o (applied (view_of r) (fetch_effect (view_of r).x (view_of r).csrs w (fetch_of a b))) s p c → Laid (trap_leaves r) o (called_of (view_of r) (host_call.Answer (answer_for ask a b))) s p c
 fetch_made r o s p w ask a b c e f h m =
-    subst (λ (n : ℕ). Laid (trap_leaves r) o (called_of (view_of r) (hostCall.Answer (answer_for n a b))) s p c) (sym h)
+    subst (λ (n : ℕ). Laid (trap_leaves r) o (called_of (view_of r) (host_call.Answer (answer_for n a b))) s p c) (sym h)
     (subst (λ (q : Outcome). Laid (trap_leaves r) o q s p c) (fetch_called (view_of r) a b (ap waiting_ask (sym e) ∙ f))
     (subst (λ (n : Waiting). Laid (trap_leaves r) o (applied (view_of r) (fetch_effect (view_of r).x (view_of r).csrs n (fetch_of a b))) s p c) e m))
 
 pub unfit_made : (r o : List ℕ) (w : Waiting) (number ask a b : ℕ) → w ≡ (view_of r).waiting → waiting_ask w ≡ number → (ask ≡ number → ⊥)
-    → Laid (trap_leaves r) o (called_of (view_of r) (hostCall.Answer (answer_for ask a b))) r o 0x107
+    → Laid (trap_leaves r) o (called_of (view_of r) (host_call.Answer (answer_for ask a b))) r o 0x107
 unfit_made r o w number ask a b e f n =
     wrong_made r o ask a b (ap (λ (k : ℕ). eqb k ask) (ap waiting_ask (sym e) ∙ f) ∙ ne_eqb number ask (λ h. n (sym h)))
 
@@ -210,7 +210,7 @@ ecall_number : (e : EcallAsk) → waiting_ask (waiting.Ecall e) ≡ ecall_ask_nu
 unfolding waiting_ask
 ecall_number e = refl
 
-ecall_called : (v : Vcpu) (e : EcallAsk) (a b : ℕ) → waiting.Ecall e ≡ v.waiting → applied v (ecall_answer v.csrs e a b) ≡ called_of v (hostCall.Answer (answer_for (ecall_ask_number e) a b))
+ecall_called : (v : Vcpu) (e : EcallAsk) (a b : ℕ) → waiting.Ecall e ≡ v.waiting → applied v (ecall_answer v.csrs e a b) ≡ called_of v (host_call.Answer (answer_for (ecall_ask_number e) a b))
 ecall_called v e a b h =
     ap (applied v) (ecall_numbers v.csrs e a b ∙ ap (λ (w : Waiting). numbers_effect v.csrs w a b) h)
     ∙ numbers_called v (ecall_ask_number e) a b (ap waiting_ask (sym h) ∙ ecall_number e) (above_one e)
@@ -221,14 +221,14 @@ known {e} {a} {w} f h = subst (λ (k : EcallAsk). waiting.Ecall k ≡ w) f h
 
 pub ecall_made : (r o s p : List ℕ) → length r ≡ 58 → (e : EcallAsk) (number ask word more c : ℕ) (d : Answered) → waiting.Ecall e ≡ (view_of r).waiting → number ≡ ecall_ask_number e → ask ≡ number
     → ((q : Csrs) → answered_effect q d ≡ ecall_answer q e word more) → Leaves (answered_left r o d) s p c
-    → Laid (trap_leaves r) o (called_of (view_of r) (hostCall.Answer (answer_for ask word more))) s p c
+    → Laid (trap_leaves r) o (called_of (view_of r) (host_call.Answer (answer_for ask word more))) s p c
 ecall_made r o s p n e number ask word more c d w f g h l =
-    subst (λ (k : ℕ). Laid (trap_leaves r) o (called_of (view_of r) (hostCall.Answer (answer_for k word more))) s p c) (sym (g ∙ f))
+    subst (λ (k : ℕ). Laid (trap_leaves r) o (called_of (view_of r) (host_call.Answer (answer_for k word more))) s p c) (sym (g ∙ f))
     (subst (λ (q : Outcome). Laid (trap_leaves r) o q s p c) (ecall_called (view_of r) e word more w)
     (asked_made r o s p n e word more c d h l))
 
 pub ecall_unfit : (r o : List ℕ) (e : EcallAsk) (number ask a b : ℕ) → waiting.Ecall e ≡ (view_of r).waiting → number ≡ ecall_ask_number e → (ask ≡ number → ⊥)
-    → Laid (trap_leaves r) o (called_of (view_of r) (hostCall.Answer (answer_for ask a b))) r o 0x107
+    → Laid (trap_leaves r) o (called_of (view_of r) (host_call.Answer (answer_for ask a b))) r o 0x107
 ecall_unfit r o e number ask a b w f n = unfit_made r o (waiting.Ecall e) number ask a b w (ecall_number e ∙ sym f) n
 
 pub missed_answer : (r o s p : List ℕ) (w : Waiting) (a b c : ℕ) → length r ≡ 58 → eqb b 0 ≡ false

@@ -5,7 +5,7 @@
 ghost use Rattle.std.specs.Prelude.{◌≡◌};
 ghost use Rattle.isa_fields.specs.Fields.{rs1_field};
 ghost use Rattle.isa_decoder.specs.Length.{fetched_of};
-ghost use Rattle.scope.specs.declared.hosts.HostCall.TheVariants as hostCall;
+ghost use Rattle.scope.specs.declared.hosts.HostCall.TheVariants as host_call;
 ghost use Rattle.scope.specs.declared.machine.Waiting.TheVariants as waiting;
 ghost use Rattle.scope.specs.Record.{ecall_ask_number, value_of, waiting_ask, applied};
 ghost use Rattle.scope.specs.VirtualInstruction.{stimecmp_effect, stimecmp_word};
@@ -41,7 +41,7 @@ pub fn answer_words(a: &[u64; 3]) -> AnswerWords
 
 // Answers the ask that waits.
 pub fn answer(r: &mut [u64; 58], out: &mut [u64; 8], a: AnswerWords) -> u64
-    ensures { Laid (trap_leaves r.old) out.old (called_of (view_of r.old) (hostCall.Answer (answer_for a.ask a.word a.more))) r.new out.new result }
+    ensures { Laid (trap_leaves r.old) out.old (called_of (view_of r.old) (host_call.Answer (answer_for a.ask a.word a.more))) r.new out.new result }
 {
     let w = in_place_read::waiting(r);
     waits(r, out, w, a.ask, a.word, a.more)
@@ -49,7 +49,7 @@ pub fn answer(r: &mut [u64; 58], out: &mut [u64; 8], a: AnswerWords) -> u64
 
 // Completes the load that waits.
 pub fn complete_load(r: &mut [u64; 58], n: u64) -> u64
-    ensures { Settled (trap_leaves r.old) (called_of (view_of r.old) (hostCall.CompleteLoad n)) r.new result }
+    ensures { Settled (trap_leaves r.old) (called_of (view_of r.old) (host_call.CompleteLoad n)) r.new result }
 {
     in_place_record::sized(r);
     let w = in_place_read::waiting(r);
@@ -58,7 +58,7 @@ pub fn complete_load(r: &mut [u64; 58], n: u64) -> u64
 
 // By what waits, and only then by the answer's number. Where no ask waits every answer is refused.
 fn waits(r: &mut [u64; 58], out: &mut [u64; 8], w: Waiting, ask: u64, word: u64, more: u64) -> u64
-    ensures { w ≡ (view_of r.old).waiting → Laid (trap_leaves r.old) out.old (called_of (view_of r.old) (hostCall.Answer (answer_for ask word more))) r.new out.new result }
+    ensures { w ≡ (view_of r.old).waiting → Laid (trap_leaves r.old) out.old (called_of (view_of r.old) (host_call.Answer (answer_for ask word more))) r.new out.new result }
 {
     match w {
         Waiting::Idle => 0x107,
@@ -82,7 +82,7 @@ fn fetch_waits(
     word: u64,
     more: u64,
 ) -> u64
-    ensures { w ≡ (view_of r.old).waiting → waiting_ask w ≡ 1 → Laid (trap_leaves r.old) out.old (called_of (view_of r.old) (hostCall.Answer (answer_for ask word more))) r.new out.new result }
+    ensures { w ≡ (view_of r.old).waiting → waiting_ask w ≡ 1 → Laid (trap_leaves r.old) out.old (called_of (view_of r.old) (host_call.Answer (answer_for ask word more))) r.new out.new result }
 {
     if ask == 1 {
         return fetched(r, out, w, word, more);
@@ -100,7 +100,7 @@ fn ecall_waits(
     word: u64,
     more: u64,
 ) -> u64
-    ensures { waiting.Ecall e ≡ (view_of r.old).waiting → Laid (trap_leaves r.old) out.old (called_of (view_of r.old) (hostCall.Answer (answer_for ask word more))) r.new out.new result }
+    ensures { waiting.Ecall e ≡ (view_of r.old).waiting → Laid (trap_leaves r.old) out.old (called_of (view_of r.old) (host_call.Answer (answer_for ask word more))) r.new out.new result }
 {
     match e {
         EcallAsk::CopyMask => answered(2, r, out, EcallAsk::CopyMask, ask, word, more),
@@ -141,7 +141,7 @@ fn answered(
     word: u64,
     more: u64,
 ) -> u64
-    ensures { waiting.Ecall e ≡ (view_of r.old).waiting → number ≡ ecall_ask_number e → Laid (trap_leaves r.old) out.old (called_of (view_of r.old) (hostCall.Answer (answer_for ask word more))) r.new out.new result }
+    ensures { waiting.Ecall e ≡ (view_of r.old).waiting → number ≡ ecall_ask_number e → Laid (trap_leaves r.old) out.old (called_of (view_of r.old) (host_call.Answer (answer_for ask word more))) r.new out.new result }
 {
     in_place_record::sized(r);
     if ask == number {

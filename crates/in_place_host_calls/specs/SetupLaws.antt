@@ -6,7 +6,7 @@ use Rattle.scope.specs.declared.machine.Waiting.{Waiting}
 use Rattle.scope.specs.declared.machine.Writes.TheVariants as writes
 use Rattle.scope.specs.Host.{paging_by, paging_effect, table_csrs}
 use Rattle.scope.specs.Calls.{base_of, called_of, effect_of, new_of}
-use Rattle.scope.specs.declared.hosts.HostCall.TheVariants as hostCall
+use Rattle.scope.specs.declared.hosts.HostCall.TheVariants as host_call
 use Rattle.scope.specs.Record.{applied, bumped, counted, event_number, stored}
 use Rattle.scope.specs.Refusals.{done_of}
 use Rattle.scope.specs.ReplyWords.{reply_word}
@@ -31,6 +31,6 @@ unfolding view_of record_of unpack_of csrs_of waiting_of waiting_by kind_word wa
 new_shows hart tree = (refl, refl)
 
 -- so it is the call that makes a new record, whatever was there
-pub new_done : (entry s : List ℕ) (hart tree : ℕ) → (view_of s ≡ new_of hart tree) × (drop 54 s ≡ replicate 4 0) → Done entry (hostCall.New hart tree) s 0x40
+pub new_done : (entry s : List ℕ) (hart tree : ℕ) → (view_of s ≡ new_of hart tree) × (drop 54 s ≡ replicate 4 0) → Done entry (host_call.New hart tree) s 0x40
 unfolding called_of base_of effect_of new_of done_of applied stored counted bumped event_number reply_word waiting_left waiting_words
 new_done entry s hart tree h = record { shows = h.0; waits = h.1; says = refl }

@@ -2,7 +2,7 @@
 #![tactic(auto)]
 
 ghost use Rattle.std.specs.Prelude.{◌≡◌, drop, replicate};
-ghost use Rattle.scope.specs.declared.hosts.HostCall.TheVariants as hostCall;
+ghost use Rattle.scope.specs.declared.hosts.HostCall.TheVariants as host_call;
 ghost use Rattle.scope.specs.Calls.{new_of, called_of};
 ghost use Rattle.scope.specs.Record.{applied};
 ghost use Rattle.scope.specs.Refusals.{unless_asking};
@@ -15,7 +15,7 @@ use scope::{Effect, IpiAbi, IpiCompletion, Waiting, Writes};
 
 // The state that a guest starts with.
 pub fn setup(r: &mut [u64; 58]) -> u64
-    ensures { Settled (host_leaves r.old) (called_of (view_of r.old) hostCall.Setup) r.new result }
+    ensures { Settled (host_leaves r.old) (called_of (view_of r.old) host_call.Setup) r.new result }
 {
     let c = in_place_read::csrs(r);
     let w = in_place_read::waiting(r);
@@ -25,7 +25,7 @@ pub fn setup(r: &mut [u64; 58]) -> u64
 
 // Where the guest starts.
 pub fn set_entry(r: &mut [u64; 58], entry: GuestPhysAddr) -> u64
-    ensures { Settled (host_leaves r.old) (called_of (view_of r.old) (hostCall.SetEntry entry)) r.new result }
+    ensures { Settled (host_leaves r.old) (called_of (view_of r.old) (host_call.SetEntry entry)) r.new result }
 {
     let c = in_place_read::csrs(r);
     let w = in_place_read::waiting(r);
@@ -35,7 +35,7 @@ pub fn set_entry(r: &mut [u64; 58], entry: GuestPhysAddr) -> u64
 
 // Sets the guest-stage page table.
 pub fn set_nested_page_table(r: &mut [u64; 58], levels: u64, mode: u64, root: u64) -> u64
-    ensures { Settled (host_leaves r.old) (called_of (view_of r.old) (hostCall.SetNestedPageTable levels mode root)) r.new result }
+    ensures { Settled (host_leaves r.old) (called_of (view_of r.old) (host_call.SetNestedPageTable levels mode root)) r.new result }
 {
     let c = in_place_read::csrs(r);
     let w = in_place_read::waiting(r);
@@ -54,7 +54,7 @@ pub fn new(r: &mut [u64; 58], hart_id: u64, dtb_addr: u64)
 
 // Reads a general register.
 pub fn get_gpr(r: &[u64; 58], out: &mut [u64; 8], index: usize) -> u64
-    ensures { Laid (host_leaves r.now) out.old (called_of (view_of r.now) (hostCall.GetGpr index)) r.now out.new result }
+    ensures { Laid (host_leaves r.now) out.old (called_of (view_of r.now) (host_call.GetGpr index)) r.now out.new result }
 {
     if index < 32 {
         out[0] = in_place_read::read(r, index);
@@ -65,7 +65,7 @@ pub fn get_gpr(r: &[u64; 58], out: &mut [u64; 8], index: usize) -> u64
 
 // Writes a general register; x0 stays.
 pub fn set_gpr(r: &mut [u64; 58], index: usize, value: u64) -> u64
-    ensures { Settled (host_leaves r.old) (called_of (view_of r.old) (hostCall.SetGpr index value)) r.new result }
+    ensures { Settled (host_leaves r.old) (called_of (view_of r.old) (host_call.SetGpr index value)) r.new result }
 {
     let c = in_place_read::csrs(r);
     let w = in_place_read::waiting(r);
@@ -75,7 +75,7 @@ pub fn set_gpr(r: &mut [u64; 58], index: usize, value: u64) -> u64
 
 // Writes a0.
 pub fn set_return_value(r: &mut [u64; 58], value: u64) -> u64
-    ensures { Settled (host_leaves r.old) (called_of (view_of r.old) (hostCall.SetReturnValue value)) r.new result }
+    ensures { Settled (host_leaves r.old) (called_of (view_of r.old) (host_call.SetReturnValue value)) r.new result }
 {
     let c = in_place_read::csrs(r);
     let w = in_place_read::waiting(r);
@@ -85,7 +85,7 @@ pub fn set_return_value(r: &mut [u64; 58], value: u64) -> u64
 
 // Sets or clears a pending interrupt of the guest.
 pub fn set_pending(r: &mut [u64; 58], vector: u64, level: bool) -> u64
-    ensures { Settled (host_leaves r.old) (called_of (view_of r.old) (hostCall.SetPending vector level)) r.new result }
+    ensures { Settled (host_leaves r.old) (called_of (view_of r.old) (host_call.SetPending vector level)) r.new result }
 {
     let c = in_place_read::csrs(r);
     let w = in_place_read::waiting(r);
@@ -95,7 +95,7 @@ pub fn set_pending(r: &mut [u64; 58], vector: u64, level: bool) -> u64
 
 // Latches pending bits that the hardware raised.
 pub fn latch_hvip(r: &mut [u64; 58], bits: u64) -> u64
-    ensures { Settled (host_leaves r.old) (called_of (view_of r.old) (hostCall.LatchHvip bits)) r.new result }
+    ensures { Settled (host_leaves r.old) (called_of (view_of r.old) (host_call.LatchHvip bits)) r.new result }
 {
     let c = in_place_read::csrs(r);
     let w = in_place_read::waiting(r);
@@ -109,7 +109,7 @@ pub fn latch_hvip(r: &mut [u64; 58], bits: u64) -> u64
 
 // Gives the guest the result of an IPI request.
 pub fn complete_ipi(r: &mut [u64; 58], abi: IpiAbi, completion: IpiCompletion) -> u64
-    ensures { Settled (host_leaves r.old) (called_of (view_of r.old) (hostCall.CompleteIpi abi completion)) r.new result }
+    ensures { Settled (host_leaves r.old) (called_of (view_of r.old) (host_call.CompleteIpi abi completion)) r.new result }
 {
     let c = in_place_read::csrs(r);
     let w = in_place_read::waiting(r);

@@ -4,7 +4,7 @@ use Rattle.std.proofs.Common.{arith, ap, ap₂, sym, ◌∙◌, length-drop, len
 use Rattle.std.proofs.lemmas.List.Edits.{sets}
 use Rattle.isa_types.specs.Pick.{pick}
 use Rattle.scope.specs.declared.machine.Vcpu.{Vcpu}
-use Rattle.scope.specs.declared.hosts.HostCall.TheVariants as hostCall
+use Rattle.scope.specs.declared.hosts.HostCall.TheVariants as host_call
 use Rattle.scope.specs.declared.hosts.HostCall.{HostCall}
 use Rattle.scope.specs.declared.machine.EcallAsk.TheVariants as asked
 use Rattle.scope.specs.declared.machine.EcallAsk.{EcallAsk}
@@ -72,20 +72,20 @@ trap_four w p n e = pick_four (refuses p) _ _ e (sets_length w 0 (take (waiting_
 -- every call leaves four waiting words of four
 pub left_four : (c : HostCall) (w : List ℕ) (p : Reply) (n : Waiting) → length w ≡ 4 → length (waiting_left c w p n) ≡ 4
 unfolding waiting_left
-left_four (hostCall.New hart tree) w p n e = waiting_four n
-left_four hostCall.Setup w p n e = e
-left_four (hostCall.SetEntry at) w p n e = e
-left_four (hostCall.GetGpr index) w p n e = e
-left_four (hostCall.SetGpr index value) w p n e = e
-left_four (hostCall.SetReturnValue value) w p n e = e
-left_four (hostCall.SetNestedPageTable levels mode root) w p n e = e
-left_four (hostCall.SetPending vector level) w p n e = e
-left_four (hostCall.LatchHvip bits) w p n e = e
-left_four (hostCall.CompleteIpi abi completion) w p n e = e
-left_four (hostCall.Start t) w p n e = trap_four w p n e
-left_four (hostCall.Answer a) w p n e = trap_four w p n e
-left_four (hostCall.CompleteLoad number) w p n e = trap_four w p n e
-left_four (hostCall.ToPrint n') w p n e = e
+left_four (host_call.New hart tree) w p n e = waiting_four n
+left_four host_call.Setup w p n e = e
+left_four (host_call.SetEntry at) w p n e = e
+left_four (host_call.GetGpr index) w p n e = e
+left_four (host_call.SetGpr index value) w p n e = e
+left_four (host_call.SetReturnValue value) w p n e = e
+left_four (host_call.SetNestedPageTable levels mode root) w p n e = e
+left_four (host_call.SetPending vector level) w p n e = e
+left_four (host_call.LatchHvip bits) w p n e = e
+left_four (host_call.CompleteIpi abi completion) w p n e = e
+left_four (host_call.Start t) w p n e = trap_four w p n e
+left_four (host_call.Answer a) w p n e = trap_four w p n e
+left_four (host_call.CompleteLoad number) w p n e = trap_four w p n e
+left_four (host_call.ToPrint n') w p n e = e
 
 pub all_there : (r w : List ℕ) → length w ≡ 4 → drop 54 r ≡ w → length r ≡ 58
 all_there r w e f =

@@ -3,7 +3,7 @@
 #![tactic(auto)]
 
 ghost use Rattle.std.specs.Prelude.{◌≡◌, ◌%◌, ◌^◌, get_or};
-ghost use Rattle.scope.specs.declared.hosts.HostCall.TheVariants as hostCall;
+ghost use Rattle.scope.specs.declared.hosts.HostCall.TheVariants as host_call;
 ghost use Rattle.scope.specs.Refusals.{refused_of};
 ghost use Rattle.scope.specs.declared.traps.Error.TheVariants as error;
 ghost use Rattle.isa_types.specs.Pick.{pick};
@@ -37,7 +37,7 @@ pub fn trap_of(t: &[u64; 5]) -> Trap
 
 // Starts a trap.
 pub fn start(r: &mut [u64; 58], out: &mut [u64; 8], t: Trap) -> u64
-    ensures { Laid (trap_leaves r.old) out.old (called_of (view_of r.old) (hostCall.Start t)) r.new out.new result }
+    ensures { Laid (trap_leaves r.old) out.old (called_of (view_of r.old) (host_call.Start t)) r.new out.new result }
 {
     let idle = decide_record::is_idle(in_place_read::waiting(r));
     started(idle, r, out, t)

@@ -5,7 +5,7 @@
 
 ghost use Rattle.std.specs.Prelude.{◌≡◌, ◌+◌, ◌≤◌, length};
 ghost use Rattle.replay_scope.specs.Lines.{four_at, header_key, key_of, line_of};
-ghost use Rattle.replay_lines.specs.Read.{Read, Spelled, begins as beginsWith};
+ghost use Rattle.replay_lines.specs.Read.{Read, Spelled, begins as begins_with};
 
 use replay_digits::Digits;
 use replay_scope::{Got, Line, Place};
@@ -111,7 +111,7 @@ fn spell_by(key: &[u8], s: &[u8]) -> usize
 // Whether the bytes begin with the key.
 fn begins(key: &[u8], s: &[u8]) -> bool
     requires { length key.now ≤ length s.now }
-    ensures { result ≡ beginsWith key.now s.now }
+    ensures { result ≡ begins_with key.now s.now }
 {
     let mut i: usize = 0;
     while i < key.len() {

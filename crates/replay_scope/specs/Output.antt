@@ -2,7 +2,7 @@
 -- output gets. 01, Replay program.
 use Rattle.std.specs.Prelude.{ℕ, ◌+◌, ◌-◌, Bool, true, false, List, [], ◌∷◌, ◌++◌, eqb, ltb, get_or}
 use Rattle.isa_types.specs.Pick.{and, pick, wrapped}
-use Rattle.scope.specs.declared.hosts.HostCall.TheVariants as hostCall
+use Rattle.scope.specs.declared.hosts.HostCall.TheVariants as host_call
 use Rattle.scope.specs.declared.machine.Outcome.{Outcome}
 use Rattle.scope.specs.declared.machine.Vcpu.{Vcpu}
 use Rattle.scope.specs.declared.traps.Reply.{Reply}
@@ -65,7 +65,7 @@ silent v p = record { state = record { vcpu = v; progress = p }; gives = gives.N
 unfoldable pub begun : State
 begun =
     record {
-      vcpu = (called_of (new_of 0 0) hostCall.Setup).vcpu;
+      vcpu = (called_of (new_of 0 0) host_call.Setup).vcpu;
       progress =
           record {
             line = unread (place.Header 0);
@@ -79,9 +79,9 @@ begun =
 -- 01, Replay program: the header's numbers are sepc, vstimecmp, x01 to x31
 unfoldable pub headed_of : Vcpu → ℕ → ℕ → Vcpu
 headed_of v i n =
-    pick (eqb i 0) (called_of v (hostCall.SetEntry (record { 0 = n }))).vcpu
+    pick (eqb i 0) (called_of v (host_call.SetEntry (record { 0 = n }))).vcpu
     (pick (eqb i 1) (record { x = v.x; csrs = timed v.csrs n; counts = v.counts; waiting = v.waiting })
-    (called_of v (hostCall.SetGpr (i - 1) n)).vcpu)
+    (called_of v (host_call.SetGpr (i - 1) n)).vcpu)
 
 -- behind line i of the header: its next line, or behind the last the first trap
 unfoldable pub after_header : ℕ → Place
@@ -123,7 +123,7 @@ unfit_of s =
 unfoldable pub trap_started : State → ℕ → Step
 trap_started s htinst =
     settled_of s.progress
-    (called_of s.vcpu (hostCall.Start (record {
+    (called_of s.vcpu (host_call.Start (record {
       scause = s.progress.kept.scause;
       stval = s.progress.kept.stval;
       htval = s.progress.kept.htval;
@@ -136,10 +136,10 @@ trap_started s htinst =
 unfoldable pub pair_taken : State → ℕ → Step
 pair_taken s more =
     pick (eqb (waiting_ask s.vcpu.waiting) 0)
-    (settled_of s.progress (called_of s.vcpu (hostCall.CompleteLoad s.progress.kept.word)))
+    (settled_of s.progress (called_of s.vcpu (host_call.CompleteLoad s.progress.kept.word)))
     (pick (and (eqb (waiting_ask s.vcpu.waiting) 1) (ltb 5 more)) (unfit_of s)
     (settled_of s.progress
-    (called_of s.vcpu (hostCall.Answer (answer_for (waiting_ask s.vcpu.waiting) s.progress.kept.word more)))))
+    (called_of s.vcpu (host_call.Answer (answer_for (waiting_ask s.vcpu.waiting) s.progress.kept.word more)))))
 
 -- the numbers kept, with one of them new
 abbrev pub with_scause : Kept → ℕ → Kept

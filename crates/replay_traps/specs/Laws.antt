@@ -4,7 +4,7 @@ use Rattle.std.proofs.Math.Path.{sym}
 use Rattle.std.proofs.Common.{ap, ◌∙◌, lit≤, get_or-take}
 use borrow.Author.Tests.{eq-eqb, lt-ltb, ne_eqb}
 use Rattle.isa_types.specs.Pick.{and, pick}
-use Rattle.scope.specs.declared.hosts.HostCall.TheVariants as hostCall
+use Rattle.scope.specs.declared.hosts.HostCall.TheVariants as host_call
 use Rattle.scope.specs.Calls.{called_of}
 use Rattle.scope.specs.Refusals.{error_number}
 use Rattle.scope.specs.Record.{is_idle, waiting_ask}
@@ -120,30 +120,30 @@ word_follows p r t idle e g i j =
 -- a trap's start, an answer and a load's completion, by what the call promises and the step after it
 module _ (p : Progress) (r : List ℕ) (later : List ℕ) (t : Next) where
   pub start_stepped : (htinst : ℕ) (leaves : Outcome → List ℕ) (o out : List ℕ) (word : ℕ)
-      → Laid leaves o (called_of (view_of r) (hostCall.Start (record { scause = p.kept.scause; stval = p.kept.stval; htval = p.kept.htval; htinst = htinst; room = 4096 }))) later out word
+      → Laid leaves o (called_of (view_of r) (host_call.Start (record { scause = p.kept.scause; stval = p.kept.stval; htval = p.kept.htval; htinst = htinst; room = 4096 }))) later out word
       → ((q : Outcome) → view_of later ≡ q.vcpu → word ≡ reply_word q.reply → step_in later t ≡ settled_of p q)
       → step_in later t ≡ trap_started (state_in r p) htinst
   unfolding trap_started state_in
   start_stepped htinst leaves o out word m on = on _ m.shows m.says
 
   pub load_stepped : (more ask : ℕ) (leaves : Outcome → List ℕ) (word : ℕ) → ask ≡ waiting_ask (view_of r).waiting → ask ≡ 0
-      → Settled leaves (called_of (view_of r) (hostCall.CompleteLoad p.kept.word)) later word
+      → Settled leaves (called_of (view_of r) (host_call.CompleteLoad p.kept.word)) later word
       → ((q : Outcome) → view_of later ≡ q.vcpu → word ≡ reply_word q.reply → step_in later t ≡ settled_of p q)
       → step_in later t ≡ pair_taken (state_in r p) more
   unfolding pair_taken state_in
   load_stepped more ask leaves word a z m on =
       let e : waiting_ask (view_of r).waiting ≡ 0 = sym a ∙ z in
-      on (called_of (view_of r) (hostCall.CompleteLoad p.kept.word)) m.shows m.says ∙ simp (eq-eqb _ _ e)
+      on (called_of (view_of r) (host_call.CompleteLoad p.kept.word)) m.shows m.says ∙ simp (eq-eqb _ _ e)
 
   -- for a fetch, more is at most 5
   pub answer_stepped : (more ask : ℕ) (leaves : Outcome → List ℕ) (o out : List ℕ) (word : ℕ) → ask ≡ waiting_ask (view_of r).waiting → (ask ≢ 0)
       → and (ask == 1) (nat_lt 5 more) ≡ false
-      → Laid leaves o (called_of (view_of r) (hostCall.Answer (answer_for ask p.kept.word more))) later out word
+      → Laid leaves o (called_of (view_of r) (host_call.Answer (answer_for ask p.kept.word more))) later out word
       → ((q : Outcome) → view_of later ≡ q.vcpu → word ≡ reply_word q.reply → step_in later t ≡ settled_of p q)
       → step_in later t ≡ pair_taken (state_in r p) more
   unfolding pair_taken state_in
   answer_stepped more ask leaves o out word a z n m on =
-      on (called_of (view_of r) (hostCall.Answer (answer_for ask p.kept.word more))) m.shows m.says ∙ simp (sym a, ne_eqb _ _ z, n)
+      on (called_of (view_of r) (host_call.Answer (answer_for ask p.kept.word more))) m.shows m.says ∙ simp (sym a, ne_eqb _ _ z, n)
 
   -- and above 5 the line is unfit
   pub unfit_stepped : (more ask : ℕ) → ask ≡ waiting_ask (view_of r).waiting → ask ≡ 1 → 5 < more

@@ -23,7 +23,7 @@ use Rattle.isa_types.specs.declared.GuestPhysAddr.{GuestPhysAddr}
 use Rattle.scope.specs.Calls.{called_of}
 use Rattle.scope.specs.ReplyWords.{out_of, reply_word}
 use Rattle.scope.specs.Words.{unpack_of}
-use Rattle.scope.specs.declared.hosts.HostCall.TheVariants as hostCall
+use Rattle.scope.specs.declared.hosts.HostCall.TheVariants as host_call
 use Rattle.scope.specs.declared.hosts.HostCall.{HostCall}
 use Rattle.scope.specs.declared.machine.Record.{Record}
 use Rattle.scope.specs.declared.machine.Vcpu.{Vcpu}
@@ -103,7 +103,7 @@ else_names access.Read i h = refl
 else_names access.Write i h = absurd (h refl)
 else_names access.Execute i h = refl
 
-started : (v : Vcpu) (c : HostCall) (t : Trap) (n : ℕ) (k : Access) → c ≡ hostCall.Start t → is_idle v.waiting ≡ true → class_of n ≡ class.PageFault k → t.scause ≡ n → t.htinst ≡ 0
+started : (v : Vcpu) (c : HostCall) (t : Trap) (n : ℕ) (k : Access) → c ≡ host_call.Start t → is_idle v.waiting ≡ true → class_of n ≡ class.PageFault k → t.scause ≡ n → t.htinst ≡ 0
     → Asks v (called_of v c) (guest_page_fault_addr t.htval t.stval) k
 started v c t n k e idle at cause zero =
     subst (λ (c : HostCall). Asks v (called_of v c) (guest_page_fault_addr t.htval t.stval) k) (sym e) (asks v t k idle (ap class_of cause ∙ at) zero)

@@ -14,7 +14,7 @@ use Rattle.scope.specs.declared.decided.Class.TheVariants as class
 use Rattle.scope.specs.declared.decided.Class.{Class}
 use Rattle.scope.specs.declared.decided.Missed.TheVariants as missed
 use Rattle.scope.specs.declared.decided.Missed.{Missed}
-use Rattle.scope.specs.declared.hosts.HostCall.TheVariants as hostCall
+use Rattle.scope.specs.declared.hosts.HostCall.TheVariants as host_call
 use Rattle.scope.specs.declared.hosts.HostCall.{HostCall}
 use Rattle.scope.specs.declared.machine.Csrs.{Csrs}
 use Rattle.scope.specs.declared.machine.Vcpu.{Vcpu}
@@ -86,21 +86,21 @@ start_keeps x c n t h = start_by x c n t (is_idle n) h
 
 effect_keeps : (v : Vcpu) (c : HostCall) → touches_hvip v c ≡ false → KeepsHvip v.csrs (effect_of v c)
 unfolding touches_hvip effect_of leaves_of
-effect_keeps v (hostCall.New hart tree) h = never h
-effect_keeps v hostCall.Setup h = never h
-effect_keeps v (hostCall.SetPending vector level) h = never h
-effect_keeps v (hostCall.LatchHvip bits) h = never h
-effect_keeps v (hostCall.Start t) h = start_keeps v.x v.csrs v.waiting t h
-effect_keeps v (hostCall.SetEntry at) h = unless_keeps hvip_of steady v (entry_keeps hvip_of steady v.csrs at _ v.waiting)
-effect_keeps v (hostCall.GetGpr index) h = record { kept = refl }
-effect_keeps v (hostCall.SetGpr index value) h = unless_keeps hvip_of steady v (write_keeps hvip_of steady v.csrs v.waiting index value)
-effect_keeps v (hostCall.SetReturnValue value) h = unless_keeps hvip_of steady v (done_keeps hvip_of v.csrs _ v.waiting)
-effect_keeps v (hostCall.SetNestedPageTable levels mode root) h =
+effect_keeps v (host_call.New hart tree) h = never h
+effect_keeps v host_call.Setup h = never h
+effect_keeps v (host_call.SetPending vector level) h = never h
+effect_keeps v (host_call.LatchHvip bits) h = never h
+effect_keeps v (host_call.Start t) h = start_keeps v.x v.csrs v.waiting t h
+effect_keeps v (host_call.SetEntry at) h = unless_keeps hvip_of steady v (entry_keeps hvip_of steady v.csrs at _ v.waiting)
+effect_keeps v (host_call.GetGpr index) h = record { kept = refl }
+effect_keeps v (host_call.SetGpr index value) h = unless_keeps hvip_of steady v (write_keeps hvip_of steady v.csrs v.waiting index value)
+effect_keeps v (host_call.SetReturnValue value) h = unless_keeps hvip_of steady v (done_keeps hvip_of v.csrs _ v.waiting)
+effect_keeps v (host_call.SetNestedPageTable levels mode root) h =
     unless_keeps hvip_of steady v (paging_keeps hvip_of steady v.csrs v.waiting levels mode root)
-effect_keeps v (hostCall.CompleteIpi abi completion) h = unless_keeps hvip_of steady v (done_keeps hvip_of v.csrs _ v.waiting)
-effect_keeps v (hostCall.Answer a) h = answer_keeps hvip_of steady v.x v.csrs v.waiting a (λ f e k. missed_keeps v.csrs _)
-effect_keeps v (hostCall.CompleteLoad n) h = completed_keeps hvip_of steady v.csrs v.waiting n
-effect_keeps v (hostCall.ToPrint length) h = record { kept = refl }
+effect_keeps v (host_call.CompleteIpi abi completion) h = unless_keeps hvip_of steady v (done_keeps hvip_of v.csrs _ v.waiting)
+effect_keeps v (host_call.Answer a) h = answer_keeps hvip_of steady v.x v.csrs v.waiting a (λ f e k. missed_keeps v.csrs _)
+effect_keeps v (host_call.CompleteLoad n) h = completed_keeps hvip_of steady v.csrs v.waiting n
+effect_keeps v (host_call.ToPrint length) h = record { kept = refl }
 
 -- every other call leaves hvip
 pub hvip_kept : (v : Vcpu) (c : HostCall) → touches_hvip v c ≡ false → HvipKept v (called_of v c).vcpu

@@ -16,7 +16,7 @@ use Rattle.scope.specs.Refusals.{failed_of, finished_of, refused_of}
 use Rattle.scope.specs.ReplyWords.{out_of, reply_word}
 use Rattle.scope.specs.VirtualInstruction.{injected_of, missed_effect, missed_of, trap_status_of}
 use Rattle.scope.specs.Words.{unpack_of}
-use Rattle.scope.specs.declared.hosts.HostCall.TheVariants as hostCall
+use Rattle.scope.specs.declared.hosts.HostCall.TheVariants as host_call
 use Rattle.scope.specs.declared.hosts.HostCall.{HostCall}
 use Rattle.scope.specs.declared.machine.Event.TheVariants as event
 use Rattle.scope.specs.declared.machine.Outcome.{Outcome}
@@ -135,7 +135,7 @@ both true d h = (refl, h)
 both false d h = never (sym h)
 
 module _ (P : Type 0) (v : Vcpu) (c : HostCall) (t : TouchedBy P v c) where
-  listed_fault : waiting_ask v.waiting ≡ 1 → (f : Fetch) → c ≡ hostCall.Answer (answer.Fetched f) → injects f ≡ true → P
+  listed_fault : waiting_ask v.waiting ≡ 1 → (f : Fetch) → c ≡ host_call.Answer (answer.Fetched f) → injects f ≡ true → P
   unfolding injects
   listed_fault w (fetch.Page a) e h = t.page a (record { asks = w; answers = e })
   listed_fault w (fetch.Access a) e h = t.access a (record { asks = w; answers = e })
@@ -144,7 +144,7 @@ module _ (P : Type 0) (v : Vcpu) (c : HostCall) (t : TouchedBy P v c) where
   listed_fault w fetch.Unhandled e h = never (sym h)
   listed_fault w (fetch.Word k) e h = never (sym h)
 
-  listed_answer : waiting_ask v.waiting ≡ 1 → (a : Answer) → c ≡ hostCall.Answer a → answer_injects a ≡ true → P
+  listed_answer : waiting_ask v.waiting ≡ 1 → (a : Answer) → c ≡ host_call.Answer a → answer_injects a ≡ true → P
   unfolding answer_injects
   listed_answer w (answer.Fetched f) e h = listed_fault w f e h
   listed_answer w (answer.MaskCopied count bytes) e h = never (sym h)
@@ -159,21 +159,21 @@ module _ (P : Type 0) (v : Vcpu) (c : HostCall) (t : TouchedBy P v c) where
 
   listed_call : (d : HostCall) → c ≡ d → touches_mode v d ≡ true → P
   unfolding touches_mode
-  listed_call (hostCall.New hart tree) e h = t.new hart tree e
-  listed_call hostCall.Setup e h = t.setup e
-  listed_call (hostCall.Answer a) e h =
+  listed_call (host_call.New hart tree) e h = t.new hart tree e
+  listed_call host_call.Setup e h = t.setup e
+  listed_call (host_call.Answer a) e h =
       let k = both (eqb (waiting_ask v.waiting) 1) (answer_injects a) h in listed_answer (eqb-true _ 1 k.0) a e k.1
-  listed_call (hostCall.Start s) e h = never (sym h)
-  listed_call (hostCall.SetEntry at) e h = never (sym h)
-  listed_call (hostCall.GetGpr index) e h = never (sym h)
-  listed_call (hostCall.SetGpr index value) e h = never (sym h)
-  listed_call (hostCall.SetReturnValue value) e h = never (sym h)
-  listed_call (hostCall.SetNestedPageTable levels mode root) e h = never (sym h)
-  listed_call (hostCall.SetPending vector level) e h = never (sym h)
-  listed_call (hostCall.LatchHvip bits) e h = never (sym h)
-  listed_call (hostCall.CompleteIpi abi completion) e h = never (sym h)
-  listed_call (hostCall.CompleteLoad n) e h = never (sym h)
-  listed_call (hostCall.ToPrint length) e h = never (sym h)
+  listed_call (host_call.Start s) e h = never (sym h)
+  listed_call (host_call.SetEntry at) e h = never (sym h)
+  listed_call (host_call.GetGpr index) e h = never (sym h)
+  listed_call (host_call.SetGpr index value) e h = never (sym h)
+  listed_call (host_call.SetReturnValue value) e h = never (sym h)
+  listed_call (host_call.SetNestedPageTable levels mode root) e h = never (sym h)
+  listed_call (host_call.SetPending vector level) e h = never (sym h)
+  listed_call (host_call.LatchHvip bits) e h = never (sym h)
+  listed_call (host_call.CompleteIpi abi completion) e h = never (sym h)
+  listed_call (host_call.CompleteLoad n) e h = never (sym h)
+  listed_call (host_call.ToPrint length) e h = never (sym h)
 
   -- follows of every call that `touches_mode` lists: it lists no other
   pub touched_by : touches_mode v c ≡ true → P

@@ -19,7 +19,7 @@ use Rattle.scope.specs.Record.{applied, bumped, counted, event_number, is_idle, 
 use Rattle.scope.specs.Refusals.{asking_of}
 use Rattle.scope.specs.VirtualInstruction.{ask_fetch_of}
 use Rattle.scope.specs.declared.decided.Class.TheVariants as class
-use Rattle.scope.specs.declared.hosts.HostCall.TheVariants as hostCall
+use Rattle.scope.specs.declared.hosts.HostCall.TheVariants as host_call
 use Rattle.scope.specs.declared.machine.Vcpu.{Vcpu}
 use Rattle.scope.specs.declared.machine.Waiting.TheVariants as waiting
 use Rattle.scope.specs.declared.machine.Waiting.{Waiting}
@@ -42,7 +42,7 @@ means v at k op n =
     }
 
 pub asks : (v : Vcpu) (t : Trap) (k : Access) → is_idle v.waiting ≡ true → class_of t.scause ≡ class.PageFault k → t.htinst ≡ 0
-    → Asks v (called_of v (hostCall.Start t)) (guest_page_fault_addr t.htval t.stval) k
+    → Asks v (called_of v (host_call.Start t)) (guest_page_fault_addr t.htval t.stval) k
 unfolding called_of base_of effect_of start_effect class_effect page_fault_of mmio_of fault_of fault_effect ask_fetch_of asking_of applied stored counted event_number bumped
 asks v t k idle cause zero =
     rw (idle, cause, ap htinst_of zero ∙ absent)
@@ -51,7 +51,7 @@ asks v t k idle cause zero =
 -- by htinst: the start of a guest page fault where nothing waits
 pub by_htinst : (v : Vcpu) (t : Trap) (k : Access) (op : Decoded) (n : ℕ) → is_idle v.waiting ≡ true → class_of t.scause ≡ class.PageFault k
     → htinst_of t.htinst ≡ trapped.Instruction op n
-    → Means v (called_of v (hostCall.Start t)) (guest_page_fault_addr t.htval t.stval) k op n
+    → Means v (called_of v (host_call.Start t)) (guest_page_fault_addr t.htval t.stval) k op n
 unfolding called_of base_of effect_of start_effect class_effect page_fault_of
 by_htinst v t k op n idle cause e =
     rw (idle, cause, e) (means v (guest_page_fault_addr t.htval t.stval) k op n)
@@ -59,7 +59,7 @@ by_htinst v t k op n idle cause e =
 -- by a fetch: the answer to the ask of a guest page fault
 pub by_fetch : (v : Vcpu) (at : GuestPhysAddr) (k : Access) (word : ℕ) (op : Decoded) (n : ℕ) → v.waiting ≡ waiting.FetchFault at k
     → fetched_of word ≡ trapped.Instruction op n
-    → Means v (called_of v (hostCall.Answer (answer.Fetched (fetch.Word word)))) at k op n
+    → Means v (called_of v (host_call.Answer (answer.Fetched (fetch.Word word)))) at k op n
 unfolding called_of base_of effect_of answer_effect waiting_ask answer_number fitting_effect fetch_effect word_effect
 by_fetch v at k word op n waits e =
     subst (λ (w : Waiting). Means v (applied v (answer_effect v.x v.csrs w (answer.Fetched (fetch.Word word)))) at k op n) (sym waits)

@@ -18,7 +18,7 @@ use Rattle.scope.specs.declared.decided.Class.TheVariants as class
 use Rattle.scope.specs.declared.decided.Class.{Class}
 use Rattle.scope.specs.declared.decided.SbiCall.TheVariants as call
 use Rattle.scope.specs.declared.decided.SbiCall.{SbiCall}
-use Rattle.scope.specs.declared.hosts.HostCall.TheVariants as hostCall
+use Rattle.scope.specs.declared.hosts.HostCall.TheVariants as host_call
 use Rattle.scope.specs.declared.hosts.HostCall.{HostCall}
 use Rattle.scope.specs.declared.machine.Csrs.{Csrs}
 use Rattle.scope.specs.declared.machine.GuestCsrs.{GuestCsrs}
@@ -107,22 +107,22 @@ module _ (at : Csrs → ℕ) (s : Steady at) (pends : (c : Csrs) (n : ℕ) → a
 
   effect_keeps : (v : Vcpu) (c : HostCall) → touches_mode v c ≡ false → Keeps at v.csrs (effect_of v c)
   unfolding touches_mode effect_of leaves_of
-  effect_keeps v (hostCall.New hart tree) h = never h
-  effect_keeps v hostCall.Setup h = never h
-  effect_keeps v (hostCall.Answer a) h =
+  effect_keeps v (host_call.New hart tree) h = never h
+  effect_keeps v host_call.Setup h = never h
+  effect_keeps v (host_call.Answer a) h =
       answer_keeps at s v.x v.csrs v.waiting a (λ f e k. missed_keeps v.csrs f (faulted v.waiting a f e k h))
-  effect_keeps v (hostCall.Start t) h = start_keeps v.x v.csrs v.waiting t
-  effect_keeps v (hostCall.SetEntry entry) h = unless_keeps at s v (entry_keeps at s v.csrs entry _ v.waiting)
-  effect_keeps v (hostCall.GetGpr index) h = record { kept = refl }
-  effect_keeps v (hostCall.SetGpr index value) h = unless_keeps at s v (write_keeps at s v.csrs v.waiting index value)
-  effect_keeps v (hostCall.SetReturnValue value) h = unless_keeps at s v (done_keeps at v.csrs _ v.waiting)
-  effect_keeps v (hostCall.SetNestedPageTable levels mode root) h =
+  effect_keeps v (host_call.Start t) h = start_keeps v.x v.csrs v.waiting t
+  effect_keeps v (host_call.SetEntry entry) h = unless_keeps at s v (entry_keeps at s v.csrs entry _ v.waiting)
+  effect_keeps v (host_call.GetGpr index) h = record { kept = refl }
+  effect_keeps v (host_call.SetGpr index value) h = unless_keeps at s v (write_keeps at s v.csrs v.waiting index value)
+  effect_keeps v (host_call.SetReturnValue value) h = unless_keeps at s v (done_keeps at v.csrs _ v.waiting)
+  effect_keeps v (host_call.SetNestedPageTable levels mode root) h =
       unless_keeps at s v (paging_keeps at s v.csrs v.waiting levels mode root)
-  effect_keeps v (hostCall.SetPending vector level) h = unless_keeps at s v (pending_keeps v.csrs v.waiting vector level)
-  effect_keeps v (hostCall.LatchHvip bits) h = unless_keeps at s v (pended_keeps v.csrs _ _ v.waiting)
-  effect_keeps v (hostCall.CompleteIpi abi completion) h = unless_keeps at s v (done_keeps at v.csrs _ v.waiting)
-  effect_keeps v (hostCall.CompleteLoad n) h = completed_keeps at s v.csrs v.waiting n
-  effect_keeps v (hostCall.ToPrint length) h = record { kept = refl }
+  effect_keeps v (host_call.SetPending vector level) h = unless_keeps at s v (pending_keeps v.csrs v.waiting vector level)
+  effect_keeps v (host_call.LatchHvip bits) h = unless_keeps at s v (pended_keeps v.csrs _ _ v.waiting)
+  effect_keeps v (host_call.CompleteIpi abi completion) h = unless_keeps at s v (done_keeps at v.csrs _ v.waiting)
+  effect_keeps v (host_call.CompleteLoad n) h = completed_keeps at s v.csrs v.waiting n
+  effect_keeps v (host_call.ToPrint length) h = record { kept = refl }
 
 abbrev sstatus_of : Csrs → ℕ
 sstatus_of c = c.guest.sstatus

@@ -10,7 +10,7 @@ use Rattle.scope.specs.Ecalls.{ecall_effect, time_effect}
 use Rattle.scope.specs.Record.{applied, is_idle}
 use Rattle.scope.specs.Refusals.{refused_of}
 use Rattle.scope.specs.Words.{unpack_of}
-use Rattle.scope.specs.declared.hosts.HostCall.TheVariants as hostCall
+use Rattle.scope.specs.declared.hosts.HostCall.TheVariants as host_call
 use Rattle.scope.specs.declared.hosts.HostCall.{HostCall}
 use Rattle.scope.specs.declared.machine.Record.{Record}
 use Rattle.scope.specs.declared.machine.Vcpu.{Vcpu}
@@ -34,32 +34,32 @@ use Rattle.requests.proofs.TickDropped.{dropped}
 -- the two calls
 
 called : (v : Vcpu) (t : Trap) → Ecalls v t
-    → (called_of v (hostCall.Start t)).vcpu.csrs ≡ (ecall_effect v.csrs (get_or v.x 17 0) (get_or v.x 16 0) (arguments_of v.x) t.room).csrs
+    → (called_of v (host_call.Start t)).vcpu.csrs ≡ (ecall_effect v.csrs (get_or v.x 17 0) (get_or v.x 16 0) (arguments_of v.x) t.room).csrs
 unfolding called_of base_of effect_of applied start_effect class_of class_effect
 called v t h =
     ap (λ (b : Bool). (pick b (class_effect (class_of t.scause) v.x v.csrs t) (refused_of v.csrs v.waiting error.BadState)).csrs) h.idle
     ∙ ap (λ (n : ℕ). (class_effect (class_of n) v.x v.csrs t).csrs) h.cause
 
-legacy_0_drops : (v : Vcpu) (t : Trap) → Ecalls v t → get_or v.x 17 0 ≡ legacy_set_timer → TickDropped v (called_of v (hostCall.Start t)).vcpu
+legacy_0_drops : (v : Vcpu) (t : Trap) → Ecalls v t → get_or v.x 17 0 ≡ legacy_set_timer → TickDropped v (called_of v (host_call.Start t)).vcpu
 unfolding ecall_effect arguments_of
 legacy_0_drops v t h eid =
-    dropped v (called_of v (hostCall.Start t)).vcpu _
+    dropped v (called_of v (host_call.Start t)).vcpu _
     (called v t h ∙ ap (λ (n : ℕ). (ecall_effect v.csrs n (get_or v.x 16 0) (arguments_of v.x) t.room).csrs) eid)
 
-time_0_drops : (v : Vcpu) (t : Trap) → Ecalls v t → get_or v.x 17 0 ≡ eid_time → get_or v.x 16 0 ≡ 0 → TickDropped v (called_of v (hostCall.Start t)).vcpu
+time_0_drops : (v : Vcpu) (t : Trap) → Ecalls v t → get_or v.x 17 0 ≡ eid_time → get_or v.x 16 0 ≡ 0 → TickDropped v (called_of v (host_call.Start t)).vcpu
 unfolding ecall_effect time_effect arguments_of
 time_0_drops v t h eid fid =
-    dropped v (called_of v (hostCall.Start t)).vcpu _
+    dropped v (called_of v (host_call.Start t)).vcpu _
     (called v t h ∙ ap₂ (λ (n m : ℕ). (ecall_effect v.csrs n m (arguments_of v.x) t.room).csrs) eid fid)
 
 -- a stimecmp instruction is none of the calls that touch hvip
 
-virtual_elsewhere : (v : Vcpu) (t : Trap) → t.scause ≡ virtual_instruction → touches_hvip v (hostCall.Start t) ≡ false
+virtual_elsewhere : (v : Vcpu) (t : Trap) → t.scause ≡ virtual_instruction → touches_hvip v (host_call.Start t) ≡ false
 unfolding touches_hvip
 virtual_elsewhere v t cause =
     ap (λ (n : ℕ). and (eqb n env_call_from_vs) (and (is_idle v.waiting) (ecall_touches (get_or v.x 17 0) (get_or v.x 16 0)))) cause
 
-answer_elsewhere : (v : Vcpu) (a : Answer) → touches_hvip v (hostCall.Answer a) ≡ false
+answer_elsewhere : (v : Vcpu) (a : Answer) → touches_hvip v (host_call.Answer a) ≡ false
 unfolding touches_hvip
 answer_elsewhere v a = refl
 

@@ -14,7 +14,7 @@ use Rattle.isa_fields.specs.Fields.{rd_field}
 use Rattle.isa_types.specs.Pick.{pick}
 use Rattle.isa_types.specs.declared.GuestPhysAddr.{GuestPhysAddr}
 use Rattle.isa_types.specs.declared.Width.TheVariants as width
-use Rattle.scope.specs.declared.hosts.HostCall.TheVariants as hostCall
+use Rattle.scope.specs.declared.hosts.HostCall.TheVariants as host_call
 use Rattle.scope.specs.declared.hosts.HostCall.{HostCall}
 use Rattle.scope.specs.declared.machine.Outcome.{Outcome}
 use Rattle.scope.specs.declared.machine.Vcpu.{Vcpu}
@@ -28,7 +28,7 @@ use Rattle.requests.specs.Meaning.{Asks, Means, Nested}
 -- the answer that c is: the word that a guest page fault of access k at an address had to have fetched, 16 bits long
 pub record Fetched (v : Vcpu) (c : HostCall) (at : GuestPhysAddr) (k : Access) (word : ℕ) : Type 0 where
   pub waits : v.waiting ≡ waiting.FetchFault at k
-  pub answers : c ≡ hostCall.Answer (answer.Fetched (fetch.Word word))
+  pub answers : c ≡ host_call.Answer (answer.Fetched (fetch.Word word))
   pub short : eqb (quadrant_field word) 3 ≡ false
 
 -- a word that is none of the eight forms. C.LWSP and C.LDSP ask for an rd
@@ -52,8 +52,8 @@ source_field w = pick (eqb (quadrant_field w) 0) (pick (c_store_funct3 w) (prime
 -- upper 16 bits are not looked at. Last the reading table's row: under a write the answer names the source of a compressed store, x0
 -- never, and under anything else nothing
 pub record W2 (v : Vcpu) (o : Outcome) (c : HostCall) : Type 0 where
-  pub asks_21 : (t : Trap) → c ≡ hostCall.Start t → is_idle v.waiting ≡ true → t.scause ≡ load_guest_page_fault → t.htinst ≡ 0 → Asks v o (guest_page_fault_addr t.htval t.stval) access.Read
-  pub asks_23 : (t : Trap) → c ≡ hostCall.Start t → is_idle v.waiting ≡ true → t.scause ≡ store_guest_page_fault → t.htinst ≡ 0 → Asks v o (guest_page_fault_addr t.htval t.stval) access.Write
+  pub asks_21 : (t : Trap) → c ≡ host_call.Start t → is_idle v.waiting ≡ true → t.scause ≡ load_guest_page_fault → t.htinst ≡ 0 → Asks v o (guest_page_fault_addr t.htval t.stval) access.Read
+  pub asks_23 : (t : Trap) → c ≡ host_call.Start t → is_idle v.waiting ≡ true → t.scause ≡ store_guest_page_fault → t.htinst ≡ 0 → Asks v o (guest_page_fault_addr t.htval t.stval) access.Write
   pub c_lw : (at : GuestPhysAddr) (k : Access) (word : ℕ) → Fetched v c at k word → Encodes 0 2 word → Means v o at k (decoded.Load width.Word true (prime_field word)) 2
   pub c_ld : (at : GuestPhysAddr) (k : Access) (word : ℕ) → Fetched v c at k word → Encodes 0 3 word → Means v o at k (decoded.Load width.Double true (prime_field word)) 2
   pub c_sw : (at : GuestPhysAddr) (k : Access) (word : ℕ) → Fetched v c at k word → Encodes 0 6 word → Means v o at k (decoded.Store width.Word (prime_field word)) 2

@@ -5,7 +5,7 @@ use Rattle.isa_consts.specs.Sbi.{eid_time, legacy_clear_ipi, legacy_set_timer}
 use Rattle.isa_consts.specs.Traps.{env_call_from_vs}
 use Rattle.isa_types.specs.Pick.{and, or}
 use Rattle.scope.specs.Record.{is_idle}
-use Rattle.scope.specs.declared.hosts.HostCall.TheVariants as hostCall
+use Rattle.scope.specs.declared.hosts.HostCall.TheVariants as host_call
 use Rattle.scope.specs.declared.hosts.HostCall.{HostCall}
 use Rattle.scope.specs.declared.machine.Vcpu.{Vcpu}
 
@@ -20,18 +20,18 @@ ecall_touches eid fid = or (eqb eid legacy_set_timer) (or (eqb eid legacy_clear_
 -- a new record and setup, which leave 0; an interrupt set pending or cleared, and latching; three ecalls, unless something waits and
 -- the start is refused. eid is a7 (x17), fid a6 (x16)
 unfoldable pub touches_hvip : Vcpu → HostCall → Bool
-touches_hvip v (hostCall.New hart tree) = true
-touches_hvip v hostCall.Setup = true
-touches_hvip v (hostCall.SetPending vector level) = true
-touches_hvip v (hostCall.LatchHvip bits) = true
-touches_hvip v (hostCall.Start t) =
+touches_hvip v (host_call.New hart tree) = true
+touches_hvip v host_call.Setup = true
+touches_hvip v (host_call.SetPending vector level) = true
+touches_hvip v (host_call.LatchHvip bits) = true
+touches_hvip v (host_call.Start t) =
     and (eqb t.scause env_call_from_vs) (and (is_idle v.waiting) (ecall_touches (get_or v.x 17 0) (get_or v.x 16 0)))
-touches_hvip v (hostCall.SetEntry at) = false
-touches_hvip v (hostCall.GetGpr index) = false
-touches_hvip v (hostCall.SetGpr index value) = false
-touches_hvip v (hostCall.SetReturnValue value) = false
-touches_hvip v (hostCall.SetNestedPageTable levels mode root) = false
-touches_hvip v (hostCall.CompleteIpi abi completion) = false
-touches_hvip v (hostCall.Answer a) = false
-touches_hvip v (hostCall.CompleteLoad n) = false
-touches_hvip v (hostCall.ToPrint length) = false
+touches_hvip v (host_call.SetEntry at) = false
+touches_hvip v (host_call.GetGpr index) = false
+touches_hvip v (host_call.SetGpr index value) = false
+touches_hvip v (host_call.SetReturnValue value) = false
+touches_hvip v (host_call.SetNestedPageTable levels mode root) = false
+touches_hvip v (host_call.CompleteIpi abi completion) = false
+touches_hvip v (host_call.Answer a) = false
+touches_hvip v (host_call.CompleteLoad n) = false
+touches_hvip v (host_call.ToPrint length) = false

@@ -7,7 +7,7 @@ use Rattle.isa_types.specs.Pick.{pick}
 use Rattle.isa_types.specs.declared.GuestPhysAddr.{GuestPhysAddr}
 use Rattle.isa_types.specs.declared.GuestVirtAddr.{GuestVirtAddr}
 use Rattle.scope.specs.Record.{listed, no_args, waiting_ask}
-use Rattle.scope.specs.declared.hosts.HostCall.TheVariants as hostCall
+use Rattle.scope.specs.declared.hosts.HostCall.TheVariants as host_call
 use Rattle.scope.specs.declared.hosts.HostCall.{HostCall}
 use Rattle.scope.specs.declared.machine.Outcome.{Outcome}
 use Rattle.scope.specs.declared.machine.Vcpu.{Vcpu}
@@ -62,7 +62,7 @@ pub record NotFetched (v : Vcpu) (o : Outcome) : Type 0 where
 -- a fetch waits, of a virtual instruction or of a guest page fault, and c is the answer to it
 pub record FetchAnswered (v : Vcpu) (c : HostCall) (f : Fetch) : Type 0 where
   pub asks : waiting_ask v.waiting ≡ 1
-  pub answers : c ≡ hostCall.Answer (answer.Fetched f)
+  pub answers : c ≡ host_call.Answer (answer.Fetched f)
 
 -- the request, of call c on record v with this outcome: the three faults that are injected; the two that are not; and every other call
 -- leaves the mode alone, but those that `touches_mode` lists
@@ -76,8 +76,8 @@ pub record W5 (v : Vcpu) (o : Outcome) (c : HostCall) : Type 0 where
 
 -- what follows of each of these: new, setup, the answer to a fetch that waits by one of the three faults
 pub record TouchedBy (P : Type 0) (v : Vcpu) (c : HostCall) : Type 0 where
-  pub new : (hart tree : ℕ) → c ≡ hostCall.New hart tree → P
-  pub setup : c ≡ hostCall.Setup → P
+  pub new : (hart tree : ℕ) → c ≡ host_call.New hart tree → P
+  pub setup : c ≡ host_call.Setup → P
   pub page : (a : GuestVirtAddr) → FetchAnswered v c (fetch.Page a) → P
   pub access : (a : GuestVirtAddr) → FetchAnswered v c (fetch.Access a) → P
   pub misaligned : (a : GuestVirtAddr) → FetchAnswered v c (fetch.Misaligned a) → P

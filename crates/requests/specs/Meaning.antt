@@ -11,7 +11,7 @@ use Rattle.isa_types.specs.declared.Width.{Width}
 use Rattle.scope.specs.Calls.{called_of}
 use Rattle.scope.specs.GuestPageFault.{mmio_of}
 use Rattle.scope.specs.Record.{applied, listed, moved, no_args, stored, value_of}
-use Rattle.scope.specs.declared.hosts.HostCall.TheVariants as hostCall
+use Rattle.scope.specs.declared.hosts.HostCall.TheVariants as host_call
 use Rattle.scope.specs.declared.machine.Outcome.{Outcome}
 use Rattle.scope.specs.declared.machine.Vcpu.{Vcpu}
 use Rattle.scope.specs.declared.machine.Waiting.TheVariants as waiting
@@ -31,7 +31,7 @@ pub record Loads (v : Vcpu) (o : Outcome) (at : GuestPhysAddr) (w : Width) (sign
   pub counts : o.vcpu.counts ≡ v.counts
   pub waits : o.vcpu.waiting ≡ waiting.Load rd w signed
   pub beside : o.args ≡ listed no_args
-  pub completes : (m : ℕ) → called_of o.vcpu (hostCall.CompleteLoad m)
+  pub completes : (m : ℕ) → called_of o.vcpu (host_call.CompleteLoad m)
       ≡ record {
         vcpu = record { x = stored v.x (writes.One rd (extend_of w signed m)); csrs = moved v.csrs n; counts = v.counts; waiting = waiting.Idle };
         reply = reply.Done;

@@ -4,7 +4,7 @@ use Rattle.std.specs.Prelude.{ℕ, Bool, true, false, ◌≡◌, eqb}
 use Rattle.isa_registers.specs.BitLaws.{bit_of}
 use Rattle.isa_types.specs.Pick.{and}
 use Rattle.scope.specs.Record.{waiting_ask}
-use Rattle.scope.specs.declared.hosts.HostCall.TheVariants as hostCall
+use Rattle.scope.specs.declared.hosts.HostCall.TheVariants as host_call
 use Rattle.scope.specs.declared.hosts.HostCall.{HostCall}
 use Rattle.scope.specs.declared.machine.GuestCsrs.{GuestCsrs}
 use Rattle.scope.specs.declared.machine.Vcpu.{Vcpu}
@@ -64,17 +64,17 @@ answer_injects answer.Other = false
 
 -- a new record and setup; such a fault for an answer, where a fetch waits. (Setup while an ask waits is refused and touches nothing.)
 unfoldable pub touches_mode : Vcpu → HostCall → Bool
-touches_mode v (hostCall.New hart tree) = true
-touches_mode v hostCall.Setup = true
-touches_mode v (hostCall.Answer a) = and (eqb (waiting_ask v.waiting) 1) (answer_injects a)
-touches_mode v (hostCall.Start t) = false
-touches_mode v (hostCall.SetEntry at) = false
-touches_mode v (hostCall.GetGpr index) = false
-touches_mode v (hostCall.SetGpr index value) = false
-touches_mode v (hostCall.SetReturnValue value) = false
-touches_mode v (hostCall.SetNestedPageTable levels mode root) = false
-touches_mode v (hostCall.SetPending vector level) = false
-touches_mode v (hostCall.LatchHvip bits) = false
-touches_mode v (hostCall.CompleteIpi abi completion) = false
-touches_mode v (hostCall.CompleteLoad n) = false
-touches_mode v (hostCall.ToPrint length) = false
+touches_mode v (host_call.New hart tree) = true
+touches_mode v host_call.Setup = true
+touches_mode v (host_call.Answer a) = and (eqb (waiting_ask v.waiting) 1) (answer_injects a)
+touches_mode v (host_call.Start t) = false
+touches_mode v (host_call.SetEntry at) = false
+touches_mode v (host_call.GetGpr index) = false
+touches_mode v (host_call.SetGpr index value) = false
+touches_mode v (host_call.SetReturnValue value) = false
+touches_mode v (host_call.SetNestedPageTable levels mode root) = false
+touches_mode v (host_call.SetPending vector level) = false
+touches_mode v (host_call.LatchHvip bits) = false
+touches_mode v (host_call.CompleteIpi abi completion) = false
+touches_mode v (host_call.CompleteLoad n) = false
+touches_mode v (host_call.ToPrint length) = false

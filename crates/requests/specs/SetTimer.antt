@@ -5,7 +5,7 @@ use Rattle.isa_consts.specs.Traps.{env_call_from_vs, virtual_instruction}
 use Rattle.isa_registers.specs.BitLaws.{bit_of}
 use Rattle.isa_types.specs.Pick.{pick}
 use Rattle.scope.specs.Record.{is_idle}
-use Rattle.scope.specs.declared.hosts.HostCall.TheVariants as hostCall
+use Rattle.scope.specs.declared.hosts.HostCall.TheVariants as host_call
 use Rattle.scope.specs.declared.hosts.HostCall.{HostCall}
 use Rattle.scope.specs.declared.machine.Vcpu.{Vcpu}
 use Rattle.scope.specs.declared.traps.Answer.{Answer}
@@ -26,8 +26,8 @@ pub record Ecalls (v : Vcpu) (t : Trap) : Type 0 where
 -- fetched: the two lines about it hold of every virtual instruction and every answer. "Nothing else moves": the last line says that no
 -- call touches hvip but those that `touches_hvip` lists; that their own rows stayed is seen from the change alone
 pub record W1 (v u : Vcpu) (c : HostCall) : Type 0 where
-  pub legacy_0 : (t : Trap) → c ≡ hostCall.Start t → Ecalls v t → get_or v.x 17 0 ≡ legacy_set_timer → TickDropped v u
-  pub time_0 : (t : Trap) → c ≡ hostCall.Start t → Ecalls v t → get_or v.x 17 0 ≡ eid_time → get_or v.x 16 0 ≡ 0 → TickDropped v u
-  pub stval : (t : Trap) → c ≡ hostCall.Start t → t.scause ≡ virtual_instruction → HvipKept v u
-  pub fetched : (a : Answer) → c ≡ hostCall.Answer a → HvipKept v u
+  pub legacy_0 : (t : Trap) → c ≡ host_call.Start t → Ecalls v t → get_or v.x 17 0 ≡ legacy_set_timer → TickDropped v u
+  pub time_0 : (t : Trap) → c ≡ host_call.Start t → Ecalls v t → get_or v.x 17 0 ≡ eid_time → get_or v.x 16 0 ≡ 0 → TickDropped v u
+  pub stval : (t : Trap) → c ≡ host_call.Start t → t.scause ≡ virtual_instruction → HvipKept v u
+  pub fetched : (a : Answer) → c ≡ host_call.Answer a → HvipKept v u
   pub elsewhere : touches_hvip v c ≡ false → HvipKept v u

@@ -3,7 +3,7 @@
 use Rattle.std.specs.Prelude.{ℕ, List, ltb, leb, replicate, set, length, take}
 use Rattle.std.specs.Int.Bits.{bit_or}
 use Rattle.isa_types.specs.Pick.{pick}
-use Rattle.scope.specs.declared.hosts.HostCall.TheVariants as hostCall
+use Rattle.scope.specs.declared.hosts.HostCall.TheVariants as host_call
 use Rattle.scope.specs.declared.hosts.HostCall.{HostCall}
 use Rattle.scope.specs.declared.machine.EcallAsk.TheVariants as asked
 use Rattle.scope.specs.declared.machine.EcallAsk.{EcallAsk}
@@ -78,44 +78,44 @@ printed_of v buffer = take (printable v.waiting (length buffer)) buffer
 
 -- what each call does
 unfoldable pub effect_of : Vcpu → HostCall → Effect
-effect_of v (hostCall.New hart tree) = done_of (new_of hart tree).csrs writes.Keep (new_of hart tree).waiting
-effect_of v hostCall.Setup = unless_asking v (done_of (setup_csrs v.csrs) writes.Keep v.waiting)
-effect_of v (hostCall.SetEntry at) = unless_asking v (done_of (entry_csrs v.csrs at) writes.Keep v.waiting)
-effect_of v (hostCall.GetGpr index) = leaves_of v.csrs v.waiting (gpr_reply v index)
-effect_of v (hostCall.SetGpr index value) = unless_asking v (write_effect v.csrs v.waiting index value)
+effect_of v (host_call.New hart tree) = done_of (new_of hart tree).csrs writes.Keep (new_of hart tree).waiting
+effect_of v host_call.Setup = unless_asking v (done_of (setup_csrs v.csrs) writes.Keep v.waiting)
+effect_of v (host_call.SetEntry at) = unless_asking v (done_of (entry_csrs v.csrs at) writes.Keep v.waiting)
+effect_of v (host_call.GetGpr index) = leaves_of v.csrs v.waiting (gpr_reply v index)
+effect_of v (host_call.SetGpr index value) = unless_asking v (write_effect v.csrs v.waiting index value)
 -- a0 is the value
-effect_of v (hostCall.SetReturnValue value) = unless_asking v (done_of v.csrs (writes.One 10 value) v.waiting)
-effect_of v (hostCall.SetNestedPageTable levels mode root) =
+effect_of v (host_call.SetReturnValue value) = unless_asking v (done_of v.csrs (writes.One 10 value) v.waiting)
+effect_of v (host_call.SetNestedPageTable levels mode root) =
     unless_asking v (paging_effect v.csrs v.waiting levels mode root)
-effect_of v (hostCall.SetPending vector level) = unless_asking v (pending_effect v.csrs v.waiting vector level)
+effect_of v (host_call.SetPending vector level) = unless_asking v (pending_effect v.csrs v.waiting vector level)
 -- latching ORs a number into hvip
-effect_of v (hostCall.LatchHvip bits) =
+effect_of v (host_call.LatchHvip bits) =
     unless_asking v (done_of (pended v.csrs (bit_or v.csrs.hs.hvip bits)) writes.Keep v.waiting)
 -- IPI completion; sepc stays
-effect_of v (hostCall.CompleteIpi abi completion) =
+effect_of v (host_call.CompleteIpi abi completion) =
     unless_asking v (done_of v.csrs (ipi_writes abi (completion_number completion)) v.waiting)
-effect_of v (hostCall.Start t) = start_effect v.x v.csrs v.waiting t
-effect_of v (hostCall.Answer a) = answer_effect v.x v.csrs v.waiting a
-effect_of v (hostCall.CompleteLoad n) = completed_of v.csrs v.waiting n
+effect_of v (host_call.Start t) = start_effect v.x v.csrs v.waiting t
+effect_of v (host_call.Answer a) = answer_effect v.x v.csrs v.waiting a
+effect_of v (host_call.CompleteLoad n) = completed_of v.csrs v.waiting n
 -- like a register read it changes nothing
-effect_of v (hostCall.ToPrint length) = leaves_of v.csrs v.waiting (reply.Value (printable v.waiting length))
+effect_of v (host_call.ToPrint length) = leaves_of v.csrs v.waiting (reply.Value (printable v.waiting length))
 
 -- the record that a call works on: a new one, or the one that is there
 unfoldable pub base_of : Vcpu → HostCall → Vcpu
-base_of v (hostCall.New hart tree) = new_of hart tree
-base_of v hostCall.Setup = v
-base_of v (hostCall.SetEntry at) = v
-base_of v (hostCall.GetGpr index) = v
-base_of v (hostCall.SetGpr index value) = v
-base_of v (hostCall.SetReturnValue value) = v
-base_of v (hostCall.SetNestedPageTable levels mode root) = v
-base_of v (hostCall.SetPending vector level) = v
-base_of v (hostCall.LatchHvip bits) = v
-base_of v (hostCall.CompleteIpi abi completion) = v
-base_of v (hostCall.Start t) = v
-base_of v (hostCall.Answer a) = v
-base_of v (hostCall.CompleteLoad n) = v
-base_of v (hostCall.ToPrint length) = v
+base_of v (host_call.New hart tree) = new_of hart tree
+base_of v host_call.Setup = v
+base_of v (host_call.SetEntry at) = v
+base_of v (host_call.GetGpr index) = v
+base_of v (host_call.SetGpr index value) = v
+base_of v (host_call.SetReturnValue value) = v
+base_of v (host_call.SetNestedPageTable levels mode root) = v
+base_of v (host_call.SetPending vector level) = v
+base_of v (host_call.LatchHvip bits) = v
+base_of v (host_call.CompleteIpi abi completion) = v
+base_of v (host_call.Start t) = v
+base_of v (host_call.Answer a) = v
+base_of v (host_call.CompleteLoad n) = v
+base_of v (host_call.ToPrint length) = v
 
 -- the whole outcome of each call: the later record, the reply, and the array beside it
 unfoldable pub called_of : Vcpu → HostCall → Outcome

@@ -1,7 +1,7 @@
 -- A row of posts, each a vector and a level, in one call. 02, W4.
 use Rattle.std.specs.Prelude.{ℕ, ◌+◌, List, [], ◌∷◌, eqb}
 use Rattle.isa_types.specs.Pick.{pick}
-use Rattle.scope.specs.declared.hosts.HostCall.TheVariants as hostCall
+use Rattle.scope.specs.declared.hosts.HostCall.TheVariants as host_call
 use Rattle.scope.specs.declared.hosts.HostCall.{HostCall}
 use Rattle.scope.specs.declared.hosts.Post.{Post}
 use Rattle.scope.specs.declared.machine.Record.{Record}
@@ -16,7 +16,7 @@ use Rattle.scope.specs.Words.{laid_with, tested, unpack_of}
 
 -- one post is 01's call for one interrupt; level 0 clears, any other sets
 unfoldable pub post_call : Post → HostCall
-post_call p = hostCall.SetPending p.vector (tested p.level)
+post_call p = host_call.SetPending p.vector (tested p.level)
 
 -- so many were applied, and the refusal of this number stopped the row; 0 is none
 unfoldable pub row_of : Vcpu → ℕ → ℕ → RowOutcome

@@ -7,7 +7,7 @@ use Rattle.isa_types.specs.declared.Width.{Width}
 use Rattle.isa_types.specs.Pick.{pick}
 use Rattle.scope.specs.declared.decided.IpiCompletion.TheVariants as completion
 use Rattle.scope.specs.declared.decided.IpiCompletion.{IpiCompletion}
-use Rattle.scope.specs.declared.hosts.HostCall.TheVariants as hostCall
+use Rattle.scope.specs.declared.hosts.HostCall.TheVariants as host_call
 use Rattle.scope.specs.declared.hosts.HostCall.{HostCall}
 use Rattle.scope.specs.declared.machine.Csrs.{Csrs}
 use Rattle.scope.specs.declared.machine.EcallAsk.TheVariants as asked
@@ -145,20 +145,20 @@ trap_left w p n = pick (refuses p) w (sets w 0 (take (waiting_count n) (waiting_
 
 -- the waiting words that a call leaves of w; a host's own call leaves them as they were, whatever they hold
 unfoldable pub waiting_left : HostCall → List ℕ → Reply → Waiting → List ℕ
-waiting_left (hostCall.New hart tree) w p n = waiting_words n
-waiting_left hostCall.Setup w p n = w
-waiting_left (hostCall.SetEntry at) w p n = w
-waiting_left (hostCall.GetGpr index) w p n = w
-waiting_left (hostCall.SetGpr index value) w p n = w
-waiting_left (hostCall.SetReturnValue value) w p n = w
-waiting_left (hostCall.SetNestedPageTable levels mode root) w p n = w
-waiting_left (hostCall.SetPending vector level) w p n = w
-waiting_left (hostCall.LatchHvip bits) w p n = w
-waiting_left (hostCall.CompleteIpi abi completion) w p n = w
-waiting_left (hostCall.Start t) w p n = trap_left w p n
-waiting_left (hostCall.Answer a) w p n = trap_left w p n
-waiting_left (hostCall.CompleteLoad number) w p n = trap_left w p n
-waiting_left (hostCall.ToPrint length) w p n = w
+waiting_left (host_call.New hart tree) w p n = waiting_words n
+waiting_left host_call.Setup w p n = w
+waiting_left (host_call.SetEntry at) w p n = w
+waiting_left (host_call.GetGpr index) w p n = w
+waiting_left (host_call.SetGpr index value) w p n = w
+waiting_left (host_call.SetReturnValue value) w p n = w
+waiting_left (host_call.SetNestedPageTable levels mode root) w p n = w
+waiting_left (host_call.SetPending vector level) w p n = w
+waiting_left (host_call.LatchHvip bits) w p n = w
+waiting_left (host_call.CompleteIpi abi completion) w p n = w
+waiting_left (host_call.Start t) w p n = trap_left w p n
+waiting_left (host_call.Answer a) w p n = trap_left w p n
+waiting_left (host_call.CompleteLoad number) w p n = trap_left w p n
+waiting_left (host_call.ToPrint length) w p n = w
 
 -- the words of a record, but these four for what waits
 unfoldable pub laid_with : Vcpu → List ℕ → Record
@@ -173,22 +173,22 @@ left_of r c = left_by r c (called_of (unpack_of r) c)
 
 -- what is no call: the read of a register that isn't there, which is refusal 1
 abbrev pub no_call : HostCall
-no_call = hostCall.GetGpr 32
+no_call = host_call.GetGpr 32
 
 -- the call by its kind, from its numbers in order
 unfoldable pub call_by : ℕ → ℕ → ℕ → ℕ → ℕ → ℕ → HostCall
 call_by kind a b d e f =
-    pick (eqb kind 1) hostCall.Setup
-    (pick (eqb kind 2) (hostCall.SetEntry (record { 0 = a }))
-    (pick (eqb kind 3) (hostCall.GetGpr a)
-    (pick (eqb kind 4) (hostCall.SetGpr a b)
-    (pick (eqb kind 5) (hostCall.SetReturnValue a)
-    (pick (eqb kind 6) (hostCall.SetNestedPageTable a b d)
-    (pick (eqb kind 7) (hostCall.SetPending a (tested b))
-    (pick (eqb kind 8) (hostCall.LatchHvip a)
-    (pick (eqb kind 9) (hostCall.CompleteIpi (abi_of a) (completion_of b))
-    (pick (eqb kind 10) (hostCall.Start (record { scause = a; stval = b; htval = d; htinst = e; room = f }))
-    (pick (eqb kind 11) (hostCall.Answer (answer_for a b d))
-    (pick (eqb kind 12) (hostCall.CompleteLoad a)
-    (pick (eqb kind 13) (hostCall.ToPrint a)
-    (pick (eqb kind 14) (hostCall.New a b) no_call)))))))))))))
+    pick (eqb kind 1) host_call.Setup
+    (pick (eqb kind 2) (host_call.SetEntry (record { 0 = a }))
+    (pick (eqb kind 3) (host_call.GetGpr a)
+    (pick (eqb kind 4) (host_call.SetGpr a b)
+    (pick (eqb kind 5) (host_call.SetReturnValue a)
+    (pick (eqb kind 6) (host_call.SetNestedPageTable a b d)
+    (pick (eqb kind 7) (host_call.SetPending a (tested b))
+    (pick (eqb kind 8) (host_call.LatchHvip a)
+    (pick (eqb kind 9) (host_call.CompleteIpi (abi_of a) (completion_of b))
+    (pick (eqb kind 10) (host_call.Start (record { scause = a; stval = b; htval = d; htinst = e; room = f }))
+    (pick (eqb kind 11) (host_call.Answer (answer_for a b d))
+    (pick (eqb kind 12) (host_call.CompleteLoad a)
+    (pick (eqb kind 13) (host_call.ToPrint a)
+    (pick (eqb kind 14) (host_call.New a b) no_call)))))))))))))

@@ -17,7 +17,7 @@ use Rattle.isa_types.specs.declared.Width.TheVariants as width
 use Rattle.isa_consts.specs.Sbi.{eid_pmu}
 use Rattle.isa_registers.specs.Values.{delegated_exceptions, delegated_interrupts}
 use Rattle.scope.specs.declared.hosts.HostCall.{HostCall}
-use Rattle.scope.specs.declared.hosts.HostCall.TheVariants as hostCall
+use Rattle.scope.specs.declared.hosts.HostCall.TheVariants as host_call
 use Rattle.scope.specs.declared.machine.EcallAsk.TheVariants as asked
 use Rattle.scope.specs.declared.machine.Vcpu.{Vcpu}
 use Rattle.scope.specs.declared.machine.Waiting.{Waiting}
@@ -62,20 +62,20 @@ stays w = left w (reply.Exit exit.Nothing)
 
 -- the register that a call reads
 unfoldable register_read : HostCall → List ℕ
-register_read hostCall.Setup = []
-register_read (hostCall.SetEntry a) = []
-register_read (hostCall.GetGpr i) = i ∷ []
-register_read (hostCall.SetGpr i n) = []
-register_read (hostCall.SetReturnValue n) = []
-register_read (hostCall.SetNestedPageTable l m r) = []
-register_read (hostCall.SetPending n l) = []
-register_read (hostCall.LatchHvip n) = []
-register_read (hostCall.CompleteIpi k c) = []
-register_read (hostCall.Start t) = []
-register_read (hostCall.Answer a) = []
-register_read (hostCall.CompleteLoad n) = []
-register_read (hostCall.ToPrint n) = []
-register_read (hostCall.New a b) = []
+register_read host_call.Setup = []
+register_read (host_call.SetEntry a) = []
+register_read (host_call.GetGpr i) = i ∷ []
+register_read (host_call.SetGpr i n) = []
+register_read (host_call.SetReturnValue n) = []
+register_read (host_call.SetNestedPageTable l m r) = []
+register_read (host_call.SetPending n l) = []
+register_read (host_call.LatchHvip n) = []
+register_read (host_call.CompleteIpi k c) = []
+register_read (host_call.Start t) = []
+register_read (host_call.Answer a) = []
+register_read (host_call.CompleteLoad n) = []
+register_read (host_call.ToPrint n) = []
+register_read (host_call.New a b) = []
 
 -- how a line was read: its number, where it stands and the bytes that are left
 unfoldable got_numbers : Got → List ℕ
@@ -186,9 +186,9 @@ further =
     -- a refusal leaves them as they were, an error does not; a host's own call leaves them as they were
     ∷ row (left waiting.Idle (reply.Error error.WrongAnswer)) (21 ∷ 22 ∷ 23 ∷ 24 ∷ [])
     ∷ row (left waiting.Idle (reply.Error error.Unsupported)) (0 ∷ 22 ∷ 23 ∷ 24 ∷ [])
-    ∷ row (waiting_left hostCall.Setup marked reply.Done waiting.Idle) (21 ∷ 22 ∷ 23 ∷ 24 ∷ [])
-    ∷ row (waiting_left (hostCall.CompleteLoad 0) marked reply.Done waiting.Idle) (0 ∷ 22 ∷ 23 ∷ 24 ∷ [])
-    ∷ row (waiting_left (hostCall.New 1 2) marked reply.Done waiting.Idle) (0 ∷ 0 ∷ 0 ∷ 0 ∷ [])
+    ∷ row (waiting_left host_call.Setup marked reply.Done waiting.Idle) (21 ∷ 22 ∷ 23 ∷ 24 ∷ [])
+    ∷ row (waiting_left (host_call.CompleteLoad 0) marked reply.Done waiting.Idle) (0 ∷ 22 ∷ 23 ∷ 24 ∷ [])
+    ∷ row (waiting_left (host_call.New 1 2) marked reply.Done waiting.Idle) (0 ∷ 0 ∷ 0 ∷ 0 ∷ [])
     -- docs/DECISIONS.md: a call of no known kind reads a register that isn't there
     ∷ row (register_read (call_by 0 1 2 3 4 5)) (32 ∷ [])
     ∷ row (register_read (call_by 15 1 2 3 4 5)) (32 ∷ [])

@@ -2,9 +2,9 @@ use mathlib.Core.Path.{refl}
 use Rattle.scope.specs.Words.{call_by, waiting_left}
 use Rattle.in_place_record.specs.Steps.{host_leaves}
 use Rattle.in_place_record.proofs.Cleared.{settled}
-use Rattle.scope.specs.declared.hosts.HostCall.TheVariants as hostCall
+use Rattle.scope.specs.declared.hosts.HostCall.TheVariants as host_call
 use Rattle.in_place_entry_interrupts.proofs.vcpu_set_pending.Goals as goal
 
 pub returns : goal.returns
 unfolding call_by host_leaves waiting_left
-returns c = settled (hostCall.SetPending _ _) (λ o. refl) (rw c.test.ensures at c.set_pending.ensures)
+returns c = settled (host_call.SetPending _ _) (λ o. refl) (rw c.test.ensures at c.set_pending.ensures)
