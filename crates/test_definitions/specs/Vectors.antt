@@ -17,7 +17,7 @@ use Rattle.isa_decoder.specs.Decode.{decode_of}
 use Rattle.isa_decoder.specs.Length.{fetched_of, htinst_of}
 use Rattle.isa_extension.specs.Extend.{cut_of, extend_of}
 use Rattle.std.specs.Prelude.{ℕ, ◌+◌, ◌*◌, ◌%◌, ◌^◌, Bool, true, false, List, [], ◌∷◌, eqb, T}
-use Rattle.test_definitions.specs.Same.{both}
+use Rattle.test_definitions.specs.Same.{both, equal}
 
 -- the digits of docs/VECTORS.md
 abbrev sign_of : Bool → ℕ
