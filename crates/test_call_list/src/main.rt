@@ -20,7 +20,7 @@ fn main(rt: HostRuntime) {
 }
 
 fn named<R: Env + Files + Print + Eprint>(rt: &R, argument: usize) {
-    let mut space = [0u8; 4096];
+    let mut space = [0u8; 16];
     let name = name_of(rt, argument, &mut space);
     match File::open(rt, name) {
         Ok(file) => run(rt, file),
@@ -30,22 +30,12 @@ fn named<R: Env + Files + Print + Eprint>(rt: &R, argument: usize) {
     }
 }
 
-// The name that an argument gives, if there is one that fits, and of that 16 bytes. Else no name, and no file has none.
+// The name that an argument gives, if there is one that fits. Else no name, and no file has none.
 fn name_of<'a, R: Env>(rt: &R, argument: usize, space: &'a mut [u8]) -> &'a str {
     match rt.arg(argument, space) {
-        Ok(n) => str::from_utf8(&space[..shown(n)]).unwrap_or(""),
+        Ok(n) => str::from_utf8(&space[..n]).unwrap_or(""),
         Err(_) => "",
     }
-}
-
-// A name is its first 16 bytes.
-fn shown(n: usize) -> usize
-    ensures { (result ≤ n) × (result ≤ 16) }
-{
-    if n < 16 {
-        return n;
-    }
-    16
 }
 
 // Runs the list from a record of zeros, and writes its lines and how many of them are wrong.
