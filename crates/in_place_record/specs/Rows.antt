@@ -1,4 +1,4 @@
--- What each class of trap does to the 58 words and to the words of the reply, row by row. Laws.antt shows that through
+-- What each class of trap does to the 58 words and to the words of the reply, row by row. proofs/Laws.antt shows that through
 -- the view these are the effects of the same decisions.
 use Rattle.std.specs.Prelude.{ℕ, ◌+◌, false, List, ◌≡◌, get_or, set, eqb, ltb}
 use Rattle.isa_types.specs.Pick.{pick, wrapped}

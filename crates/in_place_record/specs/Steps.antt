@@ -45,7 +45,7 @@ unfoldable pub beside_of : Exit → List ℕ → List ℕ
 beside_of e args = pick (eqb (exit_number e) 6) args []
 
 -- the values that the reply carries, from word 0 on; a hypercall's arguments from word 2 on; every other word stays. Over zeros
--- it is outOf: Cleared.antt
+-- it is out_of: proofs/Cleared.antt
 unfoldable pub out_over : List ℕ → Reply → List ℕ → List ℕ
 out_over out (reply.Exit e) args = sets (sets out 0 (take (exit_count e) (exit_values e))) 2 (beside_of e args)
 out_over out (reply.Ask a) args = sets out 0 (take (ask_count a) (ask_values a))

@@ -22,7 +22,7 @@ view_of r = unpack_of (record_of r)
 
 -- the promise of a call c made in place on the words `entry`: the words r that it leaves show the outcome's record, its last
 -- four are those that the call leaves of what waited, the word that it returns is the reply's, and the eight of out are the
--- reply's numbers and zeros. So all 58 words are told: Told.antt
+-- reply's numbers and zeros. So all 58 words are told: proofs/Told.antt
 pub record Made (entry : List ℕ) (c : HostCall) (r out : List ℕ) (word : ℕ) : Type 0 where
   pub shows : view_of r ≡ (called_of (view_of entry) c).vcpu
   pub waits : drop 54 r ≡ waiting_left c (drop 54 entry) (called_of (view_of entry) c).reply (called_of (view_of entry) c).vcpu.waiting
