@@ -4,12 +4,15 @@
 ghost use Rattle.std.specs.Prelude.{◌≡◌};
 ghost use Rattle.scope.specs.Ecalls.{asks_of, clear_ipi_of, hypercall_of, moves_of, returns_of, set_timer_of, stays_of, gives_of};
 ghost use Rattle.scope.specs.Decided.{call_effect, answered_effect};
+ghost use Rattle.scope.specs.Record.{moved};
+ghost use Rattle.scope.specs.Refusals.{finished_of};
 
 use scope::{
     Answered, Args, Ask, Csrs, EcallAsk, Effect, Event, Exit, Reply, SbiCall, Waiting, Writes,
 };
 
 // The effect of a call on the record.
+#[tactic(auto, unfolding(scope::specs::Decided::call_effect, scope::specs::Ecalls::forward_effect))]
 pub fn effect(c: Csrs, eid: u64, fid: u64, a: Args, call: SbiCall) -> Effect
     ensures { result ≡ call_effect c eid fid a call }
 {
@@ -52,6 +55,7 @@ pub fn effect(c: Csrs, eid: u64, fid: u64, a: Args, call: SbiCall) -> Effect
 }
 
 // The effect of the answer to an ecall's ask.
+#[tactic(auto, unfolding(scope::specs::Decided::answered_effect))]
 pub fn answered(c: Csrs, d: Answered) -> Effect
     ensures { result ≡ answered_effect c d }
 {
@@ -68,42 +72,38 @@ pub fn answered(c: Csrs, d: Answered) -> Effect
 }
 
 // "Return e, v" of document 01.
+#[tactic(auto, unfolding(scope::specs::Ecalls::returns_of))]
 fn returns(c: Csrs, error: u64, value: u64) -> Effect
     ensures { result ≡ returns_of c error value }
 {
-    decide_effects::finished(
-        decide_record::advance(c, 4),
-        Event::Quiet,
-        Writes::Pair(error, value),
-        Exit::Nothing,
-    )
+    onward(c, Event::Quiet, Writes::Pair(error, value), Exit::Nothing)
 }
 
 // sepc moves on, no register is written.
+#[tactic(auto, unfolding(scope::specs::Ecalls::moves_of))]
 fn moves(c: Csrs, exit: Exit) -> Effect
     ensures { result ≡ moves_of c exit }
 {
-    decide_effects::finished(
-        decide_record::advance(c, 4),
-        Event::Quiet,
-        Writes::Keep,
-        exit,
-    )
+    onward(c, Event::Quiet, Writes::Keep, exit)
 }
 
 // a0 is the number.
+#[tactic(auto, unfolding(scope::specs::Ecalls::gives_of))]
 fn gives(c: Csrs, n: u64) -> Effect
     ensures { result ≡ gives_of c n }
 {
-    decide_effects::finished(
-        decide_record::advance(c, 4),
-        Event::Quiet,
-        Writes::One(10, n),
-        Exit::Nothing,
-    )
+    onward(c, Event::Quiet, Writes::One(10, n), Exit::Nothing)
+}
+
+// The trap is finished and sepc moves on.
+fn onward(c: Csrs, event: Event, writes: Writes, exit: Exit) -> Effect
+    ensures { result ≡ finished_of (moved c 4) event writes exit }
+{
+    decide_effects::finished(decide_record::advance(c, 4), event, writes, exit)
 }
 
 // sepc stays.
+#[tactic(auto, unfolding(scope::specs::Ecalls::stays_of))]
 fn stays(c: Csrs, exit: Exit) -> Effect
     ensures { result ≡ stays_of c exit }
 {
@@ -111,6 +111,7 @@ fn stays(c: Csrs, exit: Exit) -> Effect
 }
 
 // An ask, with what its answer needs.
+#[tactic(auto, unfolding(scope::specs::Ecalls::asks_of))]
 fn asks(c: Csrs, waiting: EcallAsk, ask: Ask) -> Effect
     ensures { result ≡ asks_of c waiting ask }
 {
@@ -118,35 +119,28 @@ fn asks(c: Csrs, waiting: EcallAsk, ask: Ask) -> Effect
 }
 
 // Both set-timer calls, which differ in the registers that they write.
+#[tactic(auto, unfolding(scope::specs::Ecalls::set_timer_of))]
 fn set_timer(c: Csrs, deadline: u64, writes: Writes) -> Effect
     ensures { result ≡ set_timer_of c deadline writes }
 {
     let armed = decide_record::with_timer(c, deadline);
     let hvip = isa_registers::with_bits(c.hs.hvip, isa_consts::VSTIP, false);
     let cleared = decide_record::with_hvip(armed, hvip);
-    decide_effects::finished(
-        decide_record::advance(cleared, 4),
-        Event::SetTimer,
-        writes,
-        Exit::Nothing,
-    )
+    onward(cleared, Event::SetTimer, writes, Exit::Nothing)
 }
 
 // Legacy 3.
+#[tactic(auto, unfolding(scope::specs::Ecalls::clear_ipi_of, scope::specs::Ecalls::gives_of))]
 fn clear_ipi(c: Csrs) -> Effect
     ensures { result ≡ clear_ipi_of c }
 {
     let hvip = isa_registers::with_bits(c.hs.hvip, isa_consts::VSSIP, false);
     let cleared = decide_record::with_hvip(c, hvip);
-    decide_effects::finished(
-        decide_record::advance(cleared, 4),
-        Event::Quiet,
-        Writes::One(10, 0),
-        Exit::Nothing,
-    )
+    gives(cleared, 0)
 }
 
 // EID_HVC: the arguments stand beside the exit.
+#[tactic(auto, unfolding(scope::specs::Ecalls::hypercall_of))]
 fn hypercall(c: Csrs, fid: u64, a: Args) -> Effect
     ensures { result ≡ hypercall_of c fid a }
 {

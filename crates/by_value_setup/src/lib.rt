@@ -9,6 +9,7 @@ use isa_types::GuestPhysAddr;
 use scope::{Csrs, GuestCsrs, HsCsrs, Outcome, Vcpu, VsCsrs, Waiting, Writes};
 
 // A record of zeros but for what a guest finds at its start: a0 is its hart, a1 where the device tree lies.
+#[tactic(auto, unfolding(scope::specs::Calls::new_of))]
 pub fn new(hart_id: u64, dtb_addr: u64) -> Vcpu
     ensures { result ≡ new_of hart_id dtb_addr }
 {
@@ -45,31 +46,28 @@ pub fn new(hart_id: u64, dtb_addr: u64) -> Vcpu
 }
 
 // The state that a guest starts with.
+#[tactic(auto, unfolding(scope::specs::Calls::called_of, scope::specs::Calls::base_of, scope::specs::Calls::effect_of))]
 pub fn setup(v: Vcpu) -> Outcome
     ensures { result ≡ called_of v host_call.Setup }
 {
-    let c = v.csrs;
-    let w = v.waiting;
-    let e = decide_effects::done(decide_host::setup_csrs(c), Writes::Keep, w);
+    let e = decide_effects::done(decide_host::setup_csrs(v.csrs), Writes::Keep, v.waiting);
     by_value_apply::unless_asking(v, e)
 }
 
 // Where the guest starts.
+#[tactic(auto, unfolding(scope::specs::Calls::called_of, scope::specs::Calls::base_of, scope::specs::Calls::effect_of))]
 pub fn set_entry(v: Vcpu, entry: GuestPhysAddr) -> Outcome
     ensures { result ≡ called_of v (host_call.SetEntry entry) }
 {
-    let c = v.csrs;
-    let w = v.waiting;
-    let e = decide_effects::done(decide_host::entry_csrs(c, entry), Writes::Keep, w);
+    let e = decide_effects::done(decide_host::entry_csrs(v.csrs, entry), Writes::Keep, v.waiting);
     by_value_apply::unless_asking(v, e)
 }
 
 // Sets the guest-stage page table: 3 levels with mode 8, or 4 with mode 9, and a root at a multiple of 16 KiB.
+#[tactic(auto, unfolding(scope::specs::Calls::called_of, scope::specs::Calls::base_of, scope::specs::Calls::effect_of))]
 pub fn set_nested_page_table(v: Vcpu, levels: u64, mode: u64, root: u64) -> Outcome
     ensures { result ≡ called_of v (host_call.SetNestedPageTable levels mode root) }
 {
-    let c = v.csrs;
-    let w = v.waiting;
-    let e = decide_host::paging_effect(c, w, levels, mode, root);
+    let e = decide_host::paging_effect(v.csrs, v.waiting, levels, mode, root);
     by_value_apply::unless_asking(v, e)
 }

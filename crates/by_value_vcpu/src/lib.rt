@@ -9,30 +9,25 @@ ghost use Rattle.scope.specs.Calls.{called_of};
 use scope::{Answer, Outcome, Trap, Vcpu};
 
 // Starts a trap.
+#[tactic(auto, unfolding(scope::specs::Calls::called_of, scope::specs::Calls::base_of, scope::specs::Calls::effect_of))]
 pub fn start(v: Vcpu, t: Trap) -> Outcome
     ensures { result ≡ called_of v (host_call.Start t) }
 {
-    let x = v.x;
-    let c = v.csrs;
-    let w = v.waiting;
-    by_value_apply::apply(v, by_value_start::start(x, c, w, t))
+    by_value_apply::apply(v, by_value_start::start(v, t))
 }
 
 // Answers the ask that waits.
+#[tactic(auto, unfolding(scope::specs::Calls::called_of, scope::specs::Calls::base_of, scope::specs::Calls::effect_of))]
 pub fn answer(v: Vcpu, a: Answer) -> Outcome
     ensures { result ≡ called_of v (host_call.Answer a) }
 {
-    let x = v.x;
-    let c = v.csrs;
-    let w = v.waiting;
-    by_value_apply::apply(v, by_value_answer::answer(x, c, w, a))
+    by_value_apply::apply(v, by_value_answer::answer(v, a))
 }
 
 // Completes the load that waits.
+#[tactic(auto, unfolding(scope::specs::Calls::called_of, scope::specs::Calls::base_of, scope::specs::Calls::effect_of))]
 pub fn complete_load(v: Vcpu, n: u64) -> Outcome
     ensures { result ≡ called_of v (host_call.CompleteLoad n) }
 {
-    let c = v.csrs;
-    let w = v.waiting;
-    by_value_apply::apply(v, by_value_classes::complete(c, w, n))
+    by_value_apply::apply(v, by_value_classes::complete(v.csrs, v.waiting, n))
 }
