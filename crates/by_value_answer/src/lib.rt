@@ -2,6 +2,8 @@
 #![tactic(auto)]
 
 ghost use Rattle.std.specs.Prelude.{◌≡◌};
+ghost use Rattle.scope.specs.declared.traps.Error.TheVariants as error;
+ghost use Rattle.scope.specs.Refusals.{refused_of};
 ghost use Rattle.scope.specs.Answers.{answer_effect, fetch_effect, numbers_effect, word_effect};
 
 use scope::{Answer, Effect, Error, Fetch, Vcpu, Waiting};
@@ -13,7 +15,7 @@ pub fn answer(v: Vcpu, a: Answer) -> Effect
     ensures { result ≡ answer_effect v.x v.csrs v.waiting a }
 {
     if decide_record::ask_of(v.waiting) != a.number() {
-        return decide_effects::refused(v.csrs, v.waiting, Error::WrongAnswer);
+        return unfit(v);
     }
     match a {
         Answer::Fetched(f) => fetched(v, f),
@@ -24,7 +26,7 @@ pub fn answer(v: Vcpu, a: Answer) -> Effect
         | Answer::Forwarded { error, value } => numbers(v, error, value),
         Answer::Emitted => numbers(v, 0, 0),
         Answer::Char { number } => numbers(v, number, 0),
-        Answer::Other => decide_effects::refused(v.csrs, v.waiting, Error::WrongAnswer),
+        Answer::Other => unfit(v),
     }
 }
 
@@ -34,7 +36,7 @@ fn numbers(v: Vcpu, word: u64, more: u64) -> Effect
     ensures { result ≡ numbers_effect v.csrs v.waiting word more }
 {
     let Waiting::Ecall(a) = v.waiting else {
-        return decide_effects::refused(v.csrs, v.waiting, Error::WrongAnswer);
+        return unfit(v);
     };
     by_value_ecall::answered(v.csrs, decide_answers::decide(a, word, more))
 }
@@ -65,6 +67,13 @@ fn resumed(v: Vcpu, word: u32) -> Effect
         Waiting::FetchFault { at, access } => {
             by_value_start::mmio(v, at, access, isa_decoder::from_fetched(word))
         }
-        _ => decide_effects::refused(v.csrs, v.waiting, Error::WrongAnswer),
+        _ => unfit(v),
     }
+}
+
+// An answer that fits no ask that waits is refused.
+fn unfit(v: Vcpu) -> Effect
+    ensures { result ≡ refused_of v.csrs v.waiting error.WrongAnswer }
+{
+    decide_effects::refused(v.csrs, v.waiting, Error::WrongAnswer)
 }

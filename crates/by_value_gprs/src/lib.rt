@@ -1,5 +1,5 @@
 // The guest's general registers, read and written by the host.
-#![tactic(auto)]
+#![tactic(auto, unfolding(scope::specs::Calls::called_of, scope::specs::Calls::base_of, scope::specs::Calls::effect_of))]
 
 ghost use Rattle.std.specs.Prelude.{◌≡◌};
 ghost use Rattle.scope.specs.declared.hosts.HostCall.TheVariants as host_call;
@@ -20,7 +20,6 @@ pub fn get_gpr(v: Vcpu, index: usize) -> Result<u64, Error>
 }
 
 // Writes a general register; x0 stays.
-#[tactic(auto, unfolding(scope::specs::Calls::called_of, scope::specs::Calls::base_of, scope::specs::Calls::effect_of))]
 pub fn set_gpr(v: Vcpu, index: usize, value: u64) -> Outcome
     ensures { result ≡ called_of v (host_call.SetGpr index value) }
 {
@@ -29,7 +28,6 @@ pub fn set_gpr(v: Vcpu, index: usize, value: u64) -> Outcome
 }
 
 // Writes a0.
-#[tactic(auto, unfolding(scope::specs::Calls::called_of, scope::specs::Calls::base_of, scope::specs::Calls::effect_of))]
 pub fn set_return_value(v: Vcpu, value: u64) -> Outcome
     ensures { result ≡ called_of v (host_call.SetReturnValue value) }
 {

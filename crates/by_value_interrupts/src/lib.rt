@@ -1,5 +1,5 @@
 // The guest's interrupts, raised and latched by the host, and the results of its IPI requests.
-#![tactic(auto)]
+#![tactic(auto, unfolding(scope::specs::Calls::called_of, scope::specs::Calls::base_of, scope::specs::Calls::effect_of))]
 
 ghost use Rattle.std.specs.Prelude.{true, ◌≡◌};
 ghost use Rattle.scope.specs.declared.hosts.HostCall.TheVariants as host_call;
@@ -9,7 +9,6 @@ use scope::{IpiAbi, IpiCompletion, Outcome, Vcpu, Writes};
 use words_numbers::Numbered;
 
 // Sets or clears a pending interrupt of the guest, by the host's vector.
-#[tactic(auto, unfolding(scope::specs::Calls::called_of, scope::specs::Calls::base_of, scope::specs::Calls::effect_of))]
 pub fn set_virtual_interrupt_pending(v: Vcpu, vector: u64, pending: bool) -> Outcome
     ensures { result ≡ called_of v (host_call.SetPending vector pending) }
 {
@@ -32,7 +31,6 @@ pub fn set_vseip_level(v: Vcpu, asserted: bool) -> Outcome
 }
 
 // Latches pending bits that the hardware raised.
-#[tactic(auto, unfolding(scope::specs::Calls::called_of, scope::specs::Calls::base_of, scope::specs::Calls::effect_of))]
 pub fn latch_hvip(v: Vcpu, bits: u64) -> Outcome
     ensures { result ≡ called_of v (host_call.LatchHvip bits) }
 {
@@ -42,7 +40,6 @@ pub fn latch_hvip(v: Vcpu, bits: u64) -> Outcome
 }
 
 // Gives the guest the result of an IPI request.
-#[tactic(auto, unfolding(scope::specs::Calls::called_of, scope::specs::Calls::base_of, scope::specs::Calls::effect_of))]
 pub fn complete_ipi(v: Vcpu, abi: IpiAbi, completion: IpiCompletion) -> Outcome
     ensures { result ≡ called_of v (host_call.CompleteIpi abi completion) }
 {

@@ -1,5 +1,5 @@
 // What the host sets up before a guest runs: the record, its CSRs, where it starts, its page table.
-#![tactic(auto)]
+#![tactic(auto, unfolding(scope::specs::Calls::called_of, scope::specs::Calls::base_of, scope::specs::Calls::effect_of))]
 
 ghost use Rattle.std.specs.Prelude.{◌≡◌};
 ghost use Rattle.scope.specs.declared.hosts.HostCall.TheVariants as host_call;
@@ -46,7 +46,6 @@ pub fn new(hart_id: u64, dtb_addr: u64) -> Vcpu
 }
 
 // The state that a guest starts with.
-#[tactic(auto, unfolding(scope::specs::Calls::called_of, scope::specs::Calls::base_of, scope::specs::Calls::effect_of))]
 pub fn setup(v: Vcpu) -> Outcome
     ensures { result ≡ called_of v host_call.Setup }
 {
@@ -55,16 +54,15 @@ pub fn setup(v: Vcpu) -> Outcome
 }
 
 // Where the guest starts.
-#[tactic(auto, unfolding(scope::specs::Calls::called_of, scope::specs::Calls::base_of, scope::specs::Calls::effect_of))]
 pub fn set_entry(v: Vcpu, entry: GuestPhysAddr) -> Outcome
     ensures { result ≡ called_of v (host_call.SetEntry entry) }
 {
-    let e = decide_effects::done(decide_host::entry_csrs(v.csrs, entry), Writes::Keep, v.waiting);
+    let csrs = decide_host::entry_csrs(v.csrs, entry);
+    let e = decide_effects::done(csrs, Writes::Keep, v.waiting);
     by_value_apply::unless_asking(v, e)
 }
 
 // Sets the guest-stage page table: 3 levels with mode 8, or 4 with mode 9, and a root at a multiple of 16 KiB.
-#[tactic(auto, unfolding(scope::specs::Calls::called_of, scope::specs::Calls::base_of, scope::specs::Calls::effect_of))]
 pub fn set_nested_page_table(v: Vcpu, levels: u64, mode: u64, root: u64) -> Outcome
     ensures { result ≡ called_of v (host_call.SetNestedPageTable levels mode root) }
 {

@@ -1,6 +1,6 @@
 // The vCPU exit handler: a trap's start, its answers and its load's completion, by value. Each call gives the whole
 // outcome, and its promise names it: the later record, the reply, and a hypercall's arguments.
-#![tactic(auto)]
+#![tactic(auto, unfolding(scope::specs::Calls::called_of, scope::specs::Calls::base_of, scope::specs::Calls::effect_of))]
 
 ghost use Rattle.std.specs.Prelude.{◌≡◌};
 ghost use Rattle.scope.specs.declared.hosts.HostCall.TheVariants as host_call;
@@ -9,7 +9,6 @@ ghost use Rattle.scope.specs.Calls.{called_of};
 use scope::{Answer, Outcome, Trap, Vcpu};
 
 // Starts a trap.
-#[tactic(auto, unfolding(scope::specs::Calls::called_of, scope::specs::Calls::base_of, scope::specs::Calls::effect_of))]
 pub fn start(v: Vcpu, t: Trap) -> Outcome
     ensures { result ≡ called_of v (host_call.Start t) }
 {
@@ -17,7 +16,6 @@ pub fn start(v: Vcpu, t: Trap) -> Outcome
 }
 
 // Answers the ask that waits.
-#[tactic(auto, unfolding(scope::specs::Calls::called_of, scope::specs::Calls::base_of, scope::specs::Calls::effect_of))]
 pub fn answer(v: Vcpu, a: Answer) -> Outcome
     ensures { result ≡ called_of v (host_call.Answer a) }
 {
@@ -25,7 +23,6 @@ pub fn answer(v: Vcpu, a: Answer) -> Outcome
 }
 
 // Completes the load that waits.
-#[tactic(auto, unfolding(scope::specs::Calls::called_of, scope::specs::Calls::base_of, scope::specs::Calls::effect_of))]
 pub fn complete_load(v: Vcpu, n: u64) -> Outcome
     ensures { result ≡ called_of v (host_call.CompleteLoad n) }
 {
