@@ -1,5 +1,5 @@
 // A guest's SBI call: what is to be done, decided from the call's numbers alone.
-#![tactic(auto, unfolding(scope::specs::Decided::call_effect, scope::specs::Ecalls::ecall_effect, scope::specs::Ecalls::forward_effect))]
+#![tactic(auto, unfolding(scope::specs::Decided::call_effect, scope::specs::Ecalls::ecall_effect, scope::specs::Ecalls::forward_effect, scope::specs::Ecalls::lesser_of))]
 
 ghost use Rattle.std.specs.Prelude.{◌≡◌};
 ghost use Rattle.scope.specs.declared.machine.Csrs.{Csrs};
