@@ -7,17 +7,16 @@ ghost use Rattle.scope.specs.Decided.{call_effect, answered_effect};
 ghost use Rattle.scope.specs.Record.{moved};
 ghost use Rattle.scope.specs.Refusals.{finished_of};
 
-use scope::{
-    Answered, Args, Ask, Csrs, EcallAsk, Effect, Event, Exit, Reply, SbiCall, Waiting, Writes,
-};
+use decide_record::Ecall;
+use scope::{Answered, Ask, Csrs, EcallAsk, Effect, Event, Exit, Reply, SbiCall, Waiting, Writes};
 
 // The effect of a call on the record.
 #[tactic(auto, unfolding(scope::specs::Decided::call_effect, scope::specs::Ecalls::forward_effect))]
-pub fn effect(c: Csrs, eid: u64, fid: u64, a: Args, call: SbiCall) -> Effect
-    ensures { result ≡ call_effect c eid fid a call }
+pub fn effect(c: Csrs, e: Ecall, call: SbiCall) -> Effect
+    ensures { result ≡ call_effect c e.eid e.fid e.args call }
 {
     match call {
-        SbiCall::Returns(e, v) => returns(c, e, v),
+        SbiCall::Returns(error, value) => returns(c, error, value),
         SbiCall::Moves => moves(c, Exit::Nothing),
         SbiCall::LegacyTimer(d) => set_timer(c, d, Writes::One(10, 0)),
         SbiCall::SetTimer(d) => set_timer(c, d, Writes::Pair(0, 0)),
@@ -37,7 +36,7 @@ pub fn effect(c: Csrs, eid: u64, fid: u64, a: Args, call: SbiCall) -> Effect
         SbiCall::CpuDown => stays(c, Exit::CpuDown { state: 0 }),
         SbiCall::Halt => stays(c, Exit::Halt),
         SbiCall::SystemDown => stays(c, Exit::SystemDown),
-        SbiCall::Hypercall => hypercall(c, fid, a),
+        SbiCall::Hypercall => hypercall(c, e),
         SbiCall::CopyIn(at, count) => {
             asks(c, EcallAsk::CopyIn { count }, Ask::CopyIn { at, count })
         }
@@ -48,7 +47,11 @@ pub fn effect(c: Csrs, eid: u64, fid: u64, a: Args, call: SbiCall) -> Effect
         ),
         SbiCall::PutByte(n) => asks(c, EcallAsk::PutByte, Ask::Emit { number: n }),
         SbiCall::Forward(event) => {
-            let ask = Ask::Forward { eid, fid, args: a };
+            let ask = Ask::Forward {
+                eid: e.eid,
+                fid: e.fid,
+                args: e.args,
+            };
             decide_effects::asking(c, event, Waiting::Ecall(EcallAsk::Forward), ask)
         }
     }
@@ -141,15 +144,15 @@ fn clear_ipi(c: Csrs) -> Effect
 
 // EID_HVC: the arguments stand beside the exit.
 #[tactic(auto, unfolding(scope::specs::Ecalls::hypercall_of))]
-fn hypercall(c: Csrs, fid: u64, a: Args) -> Effect
-    ensures { result ≡ hypercall_of c fid a }
+fn hypercall(c: Csrs, e: Ecall) -> Effect
+    ensures { result ≡ hypercall_of c e.fid e.args }
 {
     Effect {
         csrs: decide_record::advance(c, 4),
         event: Event::Quiet,
         writes: Writes::Keep,
         waiting: Waiting::Idle,
-        reply: Reply::Exit(Exit::Hypercall { nr: fid }),
-        args: a,
+        reply: Reply::Exit(Exit::Hypercall { nr: e.fid }),
+        args: e.args,
     }
 }

@@ -7,6 +7,7 @@ ghost use Rattle.scope.specs.GuestPageFault.{page_fault_of, mmio_of};
 ghost use Rattle.scope.specs.Ecalls.{ecall_effect};
 ghost use Rattle.scope.specs.VirtualInstruction.{virtual_effect};
 
+use decide_record::Ecall;
 use isa_decoder::Trapped;
 use isa_types::GuestPhysAddr;
 use scope::{Access, Class, Effect, Error, Event, Exit, Trap, Vcpu, Writes};
@@ -38,15 +39,13 @@ pub fn start(v: Vcpu, t: Trap) -> Effect
     }
 }
 
-// An SBI call: a7 and a6 are its extension and function, a0 to a5 its arguments.
+// An SBI call.
 #[tactic(auto, unfolding(scope::specs::Ecalls::ecall_effect))]
 fn ecall(v: Vcpu, room: u64) -> Effect
     ensures { result ≡ ecall_effect v.csrs (get_or v.x 17 0) (get_or v.x 16 0) (arguments_of v.x) room }
 {
-    let eid = v.x[17];
-    let fid = v.x[16];
-    let a = decide_record::arguments(&v.x);
-    by_value_ecall::effect(v.csrs, eid, fid, a, decide_ecall::decide(eid, fid, a, room))
+    let e = Ecall::of(&v.x);
+    by_value_ecall::effect(v.csrs, e, decide_ecall::decide(e, room))
 }
 
 // A virtual instruction, with the content of its rs1.
