@@ -3,35 +3,38 @@
 
 ghost use Rattle.in_place_record.specs.Rows.{Leaves, answered_left, csr_left, fault_left, missed_left};
 
+use in_place_record::{ReplyWord, WaitingKind};
 use isa_types::GuestPhysAddr;
 use scope::{Access, Answered, Fault, Missed, Stimecmp};
 
 // Does a virtual instruction.
+#[tactic(auto, unfolding(in_place_record::specs::Rows::csr_left))]
 pub fn do_csr(r: &mut [u64; 58], out: &mut [u64; 8], d: Stimecmp) -> u64
     ensures { Leaves (csr_left r.old out.old d) r.new out.new result }
 {
     match d {
         Stimecmp::Illegal => {
             in_place_write::bump(r, 2);
-            r[in_place_record::KIND] = 0;
-            0x103
+            r[in_place_record::KIND] = WaitingKind::Idle as u64;
+            ReplyWord::Unsupported as u64
         }
         Stimecmp::Fetch => {
             in_place_read::ask_fetch(r, out);
-            r[in_place_record::KIND] = 2;
-            0x21
+            r[in_place_record::KIND] = WaitingKind::FetchCsr as u64;
+            ReplyWord::Fetch as u64
         }
         Stimecmp::Write { rd, timer } => {
             let old = r[in_place_record::VSTIMECMP];
             r[in_place_record::VSTIMECMP] = timer;
             in_place_write::step(r, 4);
             in_place_record::put(r, rd, old);
-            0
+            ReplyWord::Nothing as u64
         }
     }
 }
 
 // Does a guest page fault.
+#[tactic(auto, unfolding(in_place_record::specs::Rows::fault_left))]
 pub fn do_fault(
     r: &mut [u64; 58],
     out: &mut [u64; 8],
@@ -44,24 +47,24 @@ pub fn do_fault(
     match d {
         Fault::Fetch => {
             in_place_read::ask_fetch(r, out);
-            r[in_place_record::KIND] = 3;
+            r[in_place_record::KIND] = WaitingKind::FetchFault as u64;
             r[in_place_record::FIRST] = at.0;
             r[in_place_record::SECOND] = words_numbers::access_number(access);
-            0x21
+            ReplyWord::Fetch as u64
         }
         Fault::Walk => {
-            r[in_place_record::KIND] = 0;
-            0x103
+            r[in_place_record::KIND] = WaitingKind::Idle as u64;
+            ReplyWord::Unsupported as u64
         }
         Fault::Unfit => {
-            r[in_place_record::KIND] = 0;
-            0x105
+            r[in_place_record::KIND] = WaitingKind::Idle as u64;
+            ReplyWord::DecodeFailed as u64
         }
         Fault::Nested => {
             out[0] = at.0;
             out[1] = words_numbers::access_number(access);
-            r[in_place_record::KIND] = 0;
-            8
+            r[in_place_record::KIND] = WaitingKind::Idle as u64;
+            ReplyWord::NestedPageFault as u64
         }
         Fault::Load {
             width,
@@ -72,12 +75,12 @@ pub fn do_fault(
             let bytes = words_numbers::width_bytes(width);
             out[0] = at.0;
             out[1] = bytes;
-            r[in_place_record::KIND] = 1;
+            r[in_place_record::KIND] = WaitingKind::Load as u64;
             r[in_place_record::FIRST] = rd as u64;
             r[in_place_record::SECOND] = bytes;
             r[in_place_record::THIRD] = words_record::flag(signed);
             in_place_record::advance(r, length);
-            9
+            ReplyWord::MmioRead as u64
         }
         Fault::Store {
             width,
@@ -88,12 +91,13 @@ pub fn do_fault(
             out[1] = words_numbers::width_bytes(width);
             out[2] = data;
             in_place_write::step(r, length);
-            10
+            ReplyWord::MmioWrite as u64
         }
     }
 }
 
 // Does a failed fetch.
+#[tactic(auto, unfolding(in_place_record::specs::Rows::missed_left))]
 pub fn do_missed(r: &mut [u64; 58], out: &mut [u64; 8], d: Missed) -> u64
     ensures { Leaves (missed_left r.old out.old d) r.new out.new result }
 {
@@ -101,37 +105,38 @@ pub fn do_missed(r: &mut [u64; 58], out: &mut [u64; 8], d: Missed) -> u64
         Missed::Inject { cause, addr } => {
             let c = in_place_read::csrs(r);
             in_place_write::inject(r, decide_fetch::inject(c, cause, addr));
-            0
+            ReplyWord::Nothing as u64
         }
         Missed::Nested(addr) => {
             out[0] = addr.0;
             out[1] = 4;
-            r[in_place_record::KIND] = 0;
-            8
+            r[in_place_record::KIND] = WaitingKind::Idle as u64;
+            ReplyWord::NestedPageFault as u64
         }
         Missed::Unhandled => {
-            r[in_place_record::KIND] = 0;
-            0x106
+            r[in_place_record::KIND] = WaitingKind::Idle as u64;
+            ReplyWord::GuestMemoryFault as u64
         }
     }
 }
 
 // Does the answer to an ecall's ask.
+#[tactic(auto, unfolding(in_place_record::specs::Rows::answered_left))]
 pub fn do_answered(r: &mut [u64; 58], out: &mut [u64; 8], d: Answered) -> u64
     ensures { Leaves (answered_left r.old out.old d) r.new out.new result }
 {
     match d {
         Answered::Moves => {
             in_place_write::step(r, 4);
-            0
+            ReplyWord::Nothing as u64
         }
         Answered::Gives(n) => {
             in_place_record::give(r, n);
-            0
+            ReplyWord::Nothing as u64
         }
         Answered::Returns(e, v) => {
             in_place_write::pair(r, e, v);
-            0
+            ReplyWord::Nothing as u64
         }
         Answered::SendIpi(request) => {
             let abi = request.abi;
@@ -139,20 +144,20 @@ pub fn do_answered(r: &mut [u64; 58], out: &mut [u64; 8], d: Answered) -> u64
             out[1] = request.base;
             out[2] = words_numbers::abi_number(abi);
             in_place_write::step(r, 4);
-            2
+            ReplyWord::SendIpi as u64
         }
         Answered::Print(n) => {
             out[0] = n;
-            r[in_place_record::KIND] = 6;
+            r[in_place_record::KIND] = WaitingKind::Print as u64;
             r[in_place_record::FIRST] = n;
-            0x24
+            ReplyWord::Print as u64
         }
         Answered::CopyOut(at, n) => {
             out[0] = at.0;
             out[1] = n;
-            r[in_place_record::KIND] = 8;
+            r[in_place_record::KIND] = WaitingKind::CopyOut as u64;
             r[in_place_record::FIRST] = n;
-            0x26
+            ReplyWord::CopyOut as u64
         }
     }
 }

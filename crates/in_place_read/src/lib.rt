@@ -32,6 +32,7 @@ pub fn read(r: &[u64; 58], i: usize) -> u64
 }
 
 // a0 to a5.
+#[tactic(auto, unfolding(in_place_record::specs::Rows::args_words))]
 pub fn args(r: &[u64; 58]) -> Args
     ensures { result ≡ args_words r.now }
 {
@@ -46,6 +47,7 @@ pub fn args(r: &[u64; 58]) -> Args
 }
 
 // a0 to a5 into the reply.
+#[tactic(auto, unfolding(in_place_record::specs::Rows::six_words))]
 pub fn six(r: &[u64; 58], out: &mut [u64; 8])
     ensures { out.new ≡ six_words r.now out.old }
 {
@@ -58,6 +60,7 @@ pub fn six(r: &[u64; 58], out: &mut [u64; 8])
 }
 
 // Ask 1: at sepc, with the guest's rights.
+#[tactic(auto, unfolding(in_place_record::specs::Rows::fetch_out))]
 pub fn ask_fetch(r: &[u64; 58], out: &mut [u64; 8])
     ensures { out.new ≡ fetch_out r.now out.old }
 {

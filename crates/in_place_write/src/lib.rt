@@ -5,27 +5,31 @@ ghost use Rattle.std.specs.Prelude.{◌≡◌};
 ghost use Rattle.scope.specs.Record.{event_number};
 ghost use Rattle.in_place_record.specs.Rows.{bump_words, inject_words, pair_words, step_words, timer_words};
 
+use in_place_record::WaitingKind;
 use scope::{Csrs, Event};
 
 // Nothing waits, and sepc moves on.
+#[tactic(auto, unfolding(in_place_record::specs::Rows::step_words))]
 pub fn step(r: &mut [u64; 58], by: u64)
     ensures { r.new ≡ step_words r.old by }
 {
-    r[in_place_record::KIND] = 0;
+    r[in_place_record::KIND] = WaitingKind::Idle as u64;
     in_place_record::advance(r, by);
 }
 
 // a0 and a1 are these, and the call is finished.
+#[tactic(auto, unfolding(in_place_record::specs::Rows::pair_words))]
 pub fn pair(r: &mut [u64; 58], e: u64, v: u64)
     ensures { r.new ≡ pair_words r.old e v }
 {
-    r[in_place_record::KIND] = 0;
+    r[in_place_record::KIND] = WaitingKind::Idle as u64;
     r[in_place_record::A0] = e;
     r[in_place_record::A1] = v;
     in_place_record::advance(r, 4);
 }
 
 // The timer's pending bit is cleared, the timer set, and counted.
+#[tactic(auto, unfolding(in_place_record::specs::Rows::timer_words))]
 pub fn timer(r: &mut [u64; 58], deadline: u64)
     ensures { r.new ≡ timer_words r.old deadline }
 {
@@ -39,6 +43,7 @@ pub fn timer(r: &mut [u64; 58], deadline: u64)
 }
 
 // One more in the count of an event's number; 0 is no event.
+#[tactic(auto, unfolding(in_place_record::specs::Rows::bump_words))]
 pub fn bump(r: &mut [u64; 58], number: usize)
     ensures { r.new ≡ bump_words r.old number }
 {
@@ -51,6 +56,7 @@ pub fn bump(r: &mut [u64; 58], number: usize)
     }
 }
 
+#[tactic(auto, unfolding(scope::specs::Record::event_number))]
 pub fn event_number(e: Event) -> usize
     ensures { result ≡ event_number e }
 {
@@ -69,10 +75,11 @@ pub fn event_number(e: Event) -> usize
 }
 
 // The CSRs that an injected exception changes.
+#[tactic(auto, unfolding(in_place_record::specs::Rows::inject_words))]
 pub fn inject(r: &mut [u64; 58], c: Csrs)
     ensures { r.new ≡ inject_words r.old c }
 {
-    r[in_place_record::KIND] = 0;
+    r[in_place_record::KIND] = WaitingKind::Idle as u64;
     r[in_place_record::VSSTATUS] = c.vs.vsstatus;
     r[in_place_record::VSEPC] = c.vs.vsepc;
     r[in_place_record::VSCAUSE] = c.vs.vscause;
