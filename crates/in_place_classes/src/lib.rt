@@ -1,9 +1,14 @@
 // A virtual instruction, a guest page fault, a failed fetch and an answer, each done on the lent words once it is decided.
 #![tactic(auto)]
 
+ghost use Rattle.scope.specs.GuestPageFault.{mmio_of};
+ghost use Rattle.scope.specs.Record.{applied};
+ghost use Rattle.in_place_record.specs.Steps.{Laid, trap_leaves};
+ghost use Rattle.in_place_record.specs.View.{view_of};
 ghost use Rattle.in_place_record.specs.Rows.{Leaves, answered_left, csr_left, fault_left, missed_left};
 
 use in_place_record::{ReplyWord, WaitingKind};
+use isa_decoder::Trapped;
 use isa_types::GuestPhysAddr;
 use scope::{Access, Answered, Fault, Missed, Stimecmp};
 
@@ -94,6 +99,29 @@ pub fn do_fault(
             ReplyWord::MmioWrite as u64
         }
     }
+}
+
+// Does a load or store of a device, once its instruction is known: a trap's, or the word of a fetch. It is always put in its callers'
+// places, so that the instruction passes in registers.
+#[inline(always)]
+pub fn do_mmio(
+    r: &mut [u64; 58],
+    out: &mut [u64; 8],
+    at: GuestPhysAddr,
+    access: Access,
+    i: Trapped,
+) -> u64
+    ensures { Laid (trap_leaves r.old) out.old (applied (view_of r.old) (mmio_of (view_of r.old).x (view_of r.old).csrs at access i)) r.new out.new result }
+{
+    in_place_record::sized(r);
+    let source = in_place_read::read(r, isa_decoder::store_source(i));
+    do_fault(
+        r,
+        out,
+        at,
+        access,
+        decide_page_fault::decide(access, i, source),
+    )
 }
 
 // Does a failed fetch.
