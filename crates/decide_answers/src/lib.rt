@@ -1,5 +1,5 @@
 // The host's answers to an ecall's asks, 2 to 9.
-#![tactic(auto)]
+#![tactic(auto, unfolding(scope::specs::Decided::answered_effect, scope::specs::Ecalls::console_read_effect, scope::specs::Ecalls::copied_effect, scope::specs::Ecalls::copied_out_effect, scope::specs::Ecalls::ecall_answer, scope::specs::Ecalls::mask_effect))]
 
 ghost use Rattle.std.specs.Prelude.{◌≡◌};
 ghost use Rattle.scope.specs.Ecalls.{console_read_effect, copied_effect, copied_out_effect, ecall_answer, mask_effect};
@@ -7,7 +7,7 @@ ghost use Rattle.scope.specs.declared.machine.Csrs.{Csrs};
 ghost use Rattle.scope.specs.Decided.{answered_effect};
 
 use isa_types::GuestPhysAddr;
-use scope::{Answered, EcallAsk, LegacyRequest};
+use scope::{Answered, EcallAsk, IpiRequest};
 
 // What an answer's two numbers do to the ecall that waits.
 pub fn decide(a: EcallAsk, word: u64, more: u64) -> Answered
@@ -16,7 +16,7 @@ pub fn decide(a: EcallAsk, word: u64, more: u64) -> Answered
     match a {
         EcallAsk::CopyMask => mask(decide_ipi::legacy_request(word, more)),
         EcallAsk::CopyIn { count } => copied(count, word),
-        EcallAsk::Print { count: _ } => Answered::Returns(word, more),
+        EcallAsk::Print { .. } => Answered::Returns(word, more),
         EcallAsk::ReadConsole { count, at } => read(count, at, word, more),
         EcallAsk::CopyOut { count } => copied_out(count, word),
         EcallAsk::PutChar => Answered::Moves,
@@ -27,12 +27,12 @@ pub fn decide(a: EcallAsk, word: u64, more: u64) -> Answered
 }
 
 // Legacy 4, ask 2.
-fn mask(q: LegacyRequest) -> Answered
+fn mask(q: Option<IpiRequest>) -> Answered
     ensures { (c : Csrs) → answered_effect c result ≡ mask_effect c q }
 {
     match q {
-        LegacyRequest::Request(request) => Answered::SendIpi(request),
-        LegacyRequest::ShortRead => Answered::Returns(isa_consts::RET_ERR_FAILED, 0),
+        Some(request) => Answered::SendIpi(request),
+        None => Answered::Returns(isa_consts::RET_ERR_FAILED, 0),
     }
 }
 
@@ -50,14 +50,8 @@ fn copied(count: u64, got: u64) -> Answered
 fn read(count: u64, at: GuestPhysAddr, error: u64, value: u64) -> Answered
     ensures { (c : Csrs) → answered_effect c result ≡ console_read_effect c count at error value }
 {
-    if error == 0 {
-        if value == 0 {
-            return Answered::Returns(error, value);
-        }
-        if value <= count {
-            return Answered::CopyOut(at, value);
-        }
-        return Answered::Returns(error, value);
+    if error == 0 && value != 0 && value <= count {
+        return Answered::CopyOut(at, value);
     }
     Answered::Returns(error, value)
 }

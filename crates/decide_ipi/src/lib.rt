@@ -1,10 +1,10 @@
 // Inter-processor interrupts: the requests that a guest makes through SBI, and the results that it gets back.
-#![tactic(auto)]
+#![tactic(auto, unfolding(scope::specs::Ecalls::completion_number, scope::specs::Ecalls::legacy_request, scope::specs::Ecalls::standard_request))]
 
 ghost use Rattle.std.specs.Prelude.{◌≡◌};
 ghost use Rattle.scope.specs.Ecalls.{completion_number, legacy_request, standard_request};
 
-use scope::{IpiAbi, IpiCompletion, IpiRequest, LegacyRequest};
+use scope::{IpiAbi, IpiCompletion, IpiRequest};
 
 // The request of extension sPI: mask and base as given.
 pub fn standard_request(mask: u64, base: u64) -> IpiRequest
@@ -17,18 +17,18 @@ pub fn standard_request(mask: u64, base: u64) -> IpiRequest
     }
 }
 
-// The request of the legacy call, from how many bytes the host could copy and their number: base 0.
-pub fn legacy_request(count: u64, bytes: u64) -> LegacyRequest
+// The request of the legacy call, from how many bytes the host could copy and their number: base 0. A short read is none.
+pub fn legacy_request(count: u64, bytes: u64) -> Option<IpiRequest>
     ensures { result ≡ legacy_request count bytes }
 {
     if count == isa_consts::HART_MASK_BYTES {
-        return LegacyRequest::Request(IpiRequest {
+        return Some(IpiRequest {
             mask: bytes,
             base: 0,
             abi: IpiAbi::Legacy,
         });
     }
-    LegacyRequest::ShortRead
+    None
 }
 
 // The SBI error number that a completion gives the guest.

@@ -1,17 +1,17 @@
 -- Every row of 01's ecalls, and every answer, is what one of the decisions does: a law about decisions holds of the rows.
-use Rattle.std.specs.Prelude.{ℕ, Bool, List, ◌≡◌, leb}
+use Rattle.std.specs.Prelude.{ℕ, Bool, List, ◌≡◌, leb, None, Option, Some}
 use Rattle.std.proofs.Math.Bool.{true, false}
 use Rattle.std.proofs.Math.Path.{refl}
 use Rattle.std.proofs.Common.{ap, sym, ◌∙◌}
 use Rattle.std.proofs.Math.Dec.{eqb}
 use Rattle.scope.specs.declared.decided.Answered.{Answered}
+use Rattle.scope.specs.declared.traps.IpiRequest.{IpiRequest}
 use Rattle.scope.specs.declared.traps.Args.{Args}
 use Rattle.scope.specs.declared.machine.Csrs.{Csrs}
 use Rattle.scope.specs.declared.machine.EcallAsk.{EcallAsk}
 use Rattle.scope.specs.declared.machine.Effect.{Effect}
 use Rattle.scope.specs.declared.machine.Event.{Event}
 use Rattle.isa_types.specs.declared.GuestPhysAddr.{GuestPhysAddr}
-use Rattle.scope.specs.declared.decided.LegacyRequest.{LegacyRequest}
 use Rattle.scope.specs.declared.decided.SbiCall.{SbiCall}
 use Rattle.scope.specs.declared.decided.Answered.TheVariants as answered
 use Rattle.scope.specs.Decided.{answered_effect, call_effect}
@@ -21,7 +21,6 @@ use Rattle.scope.specs.Ecalls.{console_effect, console_read_effect, copied_effec
 use Rattle.isa_consts.specs.Csr.{console_room}
 use Rattle.isa_consts.specs.Sbi.{eid_dbcn, eid_hsm, eid_hvc, eid_rfnc, eid_spi, eid_srst, eid_time, invalid_param, legacy_clear_ipi, legacy_fence_i, legacy_getchar, legacy_putchar, legacy_send_ipi, legacy_set_timer, legacy_sfence_vma, legacy_sfence_vma_asid, legacy_shutdown, not_supported, failed, success}
 use Rattle.scope.specs.declared.machine.Event.TheVariants as event
-use Rattle.scope.specs.declared.decided.LegacyRequest.TheVariants as legacy
 use Rattle.isa_types.specs.Pick.{pick}
 use Rattle.scope.specs.Answers.{answer_effect, fetch_effect, fitting_effect, numbers_effect, values_effect, word_effect}
 use Rattle.scope.specs.GuestPageFault.{mmio_of}
@@ -123,10 +122,10 @@ module _ (P : Effect → Type 0) where
 
   -- an answer to an ecall
   module _ (c : Csrs) (done : (d : Answered) → P (answered_effect c d)) where
-    mask : (q : LegacyRequest) → P (mask_effect c q)
+    mask : (q : Option IpiRequest) → P (mask_effect c q)
     unfolding mask_effect answered_effect
-    mask (legacy.Request r) = done (answered.SendIpi r)
-    mask legacy.ShortRead = done (answered.Returns failed 0)
+    mask (Some r) = done (answered.SendIpi r)
+    mask None = done (answered.Returns failed 0)
 
     pub answer_row : (a : EcallAsk) (word more : ℕ) → P (ecall_answer c a word more)
     unfolding ecall_answer copied_effect console_read_effect copied_out_effect answered_effect

@@ -1,12 +1,13 @@
 -- The event that a call counts is the kind of its trap.
 use Prim.Native.Nat.{ℕ, ◌<◌, ◌≤◌, ◌%◌, ◌^◌}
 use Rattle.std.proofs.Common.{arith, ap, ◌∙◌, eqb-true, le-ltb}
-use Rattle.std.specs.Prelude.{Bool, List, ◌≡◌, get_or, eqb, ltb, leb}
+use Rattle.std.specs.Prelude.{Bool, List, ◌≡◌, get_or, eqb, ltb, leb, None, Option, Some}
 use Rattle.std.proofs.Math.Bool.{true, false}
 use Rattle.std.proofs.Math.Path.{refl, sym}
 use Rattle.std.proofs.lemmas.Bool.{eqb-false}
 use Rattle.isa_types.specs.Pick.{pick, or, and}
 use Rattle.scope.specs.OneTrap.{answer_number}
+use Rattle.scope.specs.declared.traps.IpiRequest.{IpiRequest}
 use Rattle.scope.specs.declared.traps.Access.{Access}
 use Rattle.scope.specs.declared.traps.Answer.{Answer}
 use Rattle.scope.specs.declared.traps.Answer.TheVariants as answers
@@ -42,13 +43,11 @@ use Rattle.demand3.specs.Kinds.{fence_kind, ecall_kind, csr_funct3, on_stimecmp,
 use Rattle.scope.specs.declared.decided.Class.{Class}
 use Rattle.scope.specs.declared.machine.EcallAsk.{EcallAsk}
 use Rattle.scope.specs.declared.hosts.HostCall.{HostCall}
-use Rattle.scope.specs.declared.decided.LegacyRequest.{LegacyRequest}
 use Rattle.scope.specs.Answers.{answer_effect, fetch_effect, fitting_effect, numbers_effect, values_effect, word_effect}
 use Rattle.scope.specs.declared.machine.EcallAsk.TheVariants as asked
 use Rattle.scope.specs.declared.decided.Class.TheVariants as class
 use Rattle.scope.specs.Calls.{effect_of}
 use Rattle.scope.specs.declared.hosts.HostCall.TheVariants as host_call
-use Rattle.scope.specs.declared.decided.LegacyRequest.TheVariants as legacy
 
 -- both ways of a test give the same number
 both : {A : Type 0} (t : Bool) {p q : A} (g : A → ℕ) {n : ℕ} → g p ≡ n → g q ≡ n → g (pick t p q) ≡ n
@@ -183,10 +182,10 @@ module _ (c : Csrs) where
   missed_event (missed.Nested addr) = refl
   missed_event missed.Unhandled = refl
 
-  mask_event : (q : LegacyRequest) → counts (mask_effect c q) ≡ 0
+  mask_event : (q : Option IpiRequest) → counts (mask_effect c q) ≡ 0
   unfolding mask_effect moves_of returns_of finished_of event_number
-  mask_event (legacy.Request r) = refl
-  mask_event legacy.ShortRead = refl
+  mask_event (Some r) = refl
+  mask_event None = refl
 
   asked_event : (a : EcallAsk) (word more : ℕ) → counts (ecall_answer c a word more) ≡ 0
   unfolding ecall_answer copied_effect console_read_effect copied_out_effect returns_of moves_of gives_of asks_of finished_of asking_of event_number

@@ -13,7 +13,6 @@ use Rattle.scope.specs.declared.machine.Vcpu.{Vcpu}
 use Rattle.scope.specs.declared.machine.Waiting.TheVariants as waiting
 use Rattle.scope.specs.declared.machine.Waiting.{Waiting}
 use Rattle.scope.specs.declared.machine.Writes.TheVariants as writes
-use Rattle.scope.specs.declared.traps.Answer.{Answer}
 use Rattle.scope.specs.declared.traps.Error.TheVariants as error
 use Rattle.scope.specs.declared.traps.Reply.TheVariants as reply
 use Rattle.scope.specs.declared.traps.Reply.{Reply}

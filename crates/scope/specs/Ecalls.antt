@@ -1,6 +1,6 @@
 -- Ecalls: each SBI call by its numbers, with its effect, and what the answers to its asks do. 01, Ecalls.
 -- eid is a7, fid a6. c is the CSRs, a the arguments a0 to a5.
-use Rattle.std.specs.Prelude.{ℕ, ◌%◌, false, Bool, true, eqb, leb}
+use Rattle.std.specs.Prelude.{ℕ, ◌%◌, false, Bool, true, eqb, leb, None, Option, Some}
 use Rattle.isa_types.specs.declared.GuestPhysAddr.{GuestPhysAddr}
 use Rattle.isa_consts.specs.Csr.{vssip, vstip, console_room}
 use Rattle.isa_consts.specs.Sbi.{hart_mask_bytes, success, failed, invalid_param, not_supported, legacy_set_timer, legacy_putchar, legacy_getchar, legacy_clear_ipi, legacy_send_ipi, legacy_fence_i, legacy_sfence_vma, legacy_sfence_vma_asid, legacy_shutdown, eid_time, eid_spi, eid_hsm, eid_hvc, eid_srst, eid_dbcn, eid_rfnc}
@@ -8,8 +8,6 @@ use Rattle.isa_registers.specs.Bits.{with_bits}
 use Rattle.isa_types.specs.Pick.{pick}
 use Rattle.scope.specs.declared.decided.IpiCompletion.TheVariants as completion
 use Rattle.scope.specs.declared.decided.IpiCompletion.{IpiCompletion}
-use Rattle.scope.specs.declared.decided.LegacyRequest.TheVariants as legacy
-use Rattle.scope.specs.declared.decided.LegacyRequest.{LegacyRequest}
 use Rattle.scope.specs.declared.machine.Csrs.{Csrs}
 use Rattle.scope.specs.declared.machine.EcallAsk.TheVariants as asked
 use Rattle.scope.specs.declared.machine.EcallAsk.{EcallAsk}
@@ -164,17 +162,15 @@ ecall_effect c eid fid a room =
     (pick (eqb eid eid_rfnc) (rfnc_effect c eid fid a)
     (forward_effect c event.Quiet eid fid a))))))))))))))))
 
--- legacy 4, ask 2: a count of 8 is a mask with base 0, any other count a short read
-unfoldable pub legacy_request : ℕ → ℕ → LegacyRequest
+-- legacy 4, ask 2: a count of 8 is a mask with base 0; any other count is a short read, and there is no request
+unfoldable pub legacy_request : ℕ → ℕ → Option IpiRequest
 legacy_request count bytes =
-    pick (eqb count hart_mask_bytes)
-    (legacy.Request (record { mask = bytes; base = 0; abi = abi.Legacy }))
-    legacy.ShortRead
+    pick (eqb count hart_mask_bytes) (Some (record { mask = bytes; base = 0; abi = abi.Legacy })) None
 
 -- SendIpi(mask, base 0, legacy); a short read returns FAILED, 0
-unfoldable pub mask_effect : Csrs → LegacyRequest → Effect
-mask_effect c (legacy.Request r) = moves_of c (exit.SendIpi r)
-mask_effect c legacy.ShortRead = returns_of c failed 0
+unfoldable pub mask_effect : Csrs → Option IpiRequest → Effect
+mask_effect c (Some r) = moves_of c (exit.SendIpi r)
+mask_effect c None = returns_of c failed 0
 
 -- DBCN fid 0, ask 3: count n leads to ask 4; else FAILED, 0
 unfoldable pub copied_effect : Csrs → ℕ → ℕ → Effect

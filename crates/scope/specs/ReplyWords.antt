@@ -2,7 +2,6 @@
 -- it. Not of 01: docs/DECISIONS.md.
 use Rattle.std.specs.Prelude.{ℕ, ◌+◌, List, [], ◌∷◌, eqb, get_or}
 use Rattle.isa_types.specs.Pick.{pick}
-use Rattle.scope.specs.declared.traps.Exit.{Exit}
 use Rattle.scope.specs.declared.traps.Reply.TheVariants as reply
 use Rattle.scope.specs.declared.traps.Reply.{Reply}
 use Rattle.scope.specs.OneTrap.{ask_number, ask_values, exit_number, exit_values}

@@ -110,10 +110,3 @@ pub enum IpiCompletion {
     // The request was sound and delivery failed.
     Failed,
 }
-
-// A legacy call's mask lies in guest memory, and reading it can fall short.
-#[derive(Clone, Copy)]
-pub enum LegacyRequest {
-    Request(IpiRequest),
-    ShortRead,
-}

@@ -7,7 +7,7 @@ pub mod machine;
 pub mod traps;
 
 pub use decided::{
-    Answered, Class, Fault, IpiCompletion, LegacyRequest, Missed, SbiCall, Stimecmp,
+    Answered, Class, Fault, IpiCompletion, Missed, SbiCall, Stimecmp,
 };
 pub use hosts::{HostCall, Post, Posted};
 pub use machine::{

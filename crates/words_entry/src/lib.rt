@@ -6,26 +6,24 @@ ghost use Rattle.std.specs.Prelude.{◌≡◌};
 ghost use Rattle.words_entry.specs.Words.{Exported, exported_of};
 
 use scope::Record;
-use words_call::{After, CallWords, ReplyWords};
+use words_call::{CallWords, ReplyWords};
 
 // Makes a call on the host's record where it lies.
 #[unsafe(no_mangle)]
 pub extern "C" fn vcpu_call(v: &mut Record, c: CallWords) -> ReplyWords
     ensures { Exported v.old c v.new result }
 {
-    let o = step(*v, c);
-    *v = o.rec;
-    o.reply
+    let (rec, reply) = step(*v, c);
+    *v = rec;
+    reply
 }
 
 // The same by value.
-pub fn step(r: Record, c: CallWords) -> After
+#[tactic(auto, unfolding(crate::specs::Words::exported_of, scope::specs::Words::left_of))]
+pub fn step(r: Record, c: CallWords) -> (Record, ReplyWords)
     ensures { result ≡ exported_of r c }
 {
     let h = words_call::call_of(c);
     let o = by_value_entry::call(words_record::unpack(r), h);
-    After {
-        rec: words_call::left(r, h, o),
-        reply: words_call::told(o),
-    }
+    (words_call::left(r, h, o), words_call::told(o))
 }

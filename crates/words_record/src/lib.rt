@@ -1,49 +1,58 @@
 // The vCPU record in words, and the numbers of what a call is given, as the host's compiler sees them.
 #![tactic(auto)]
 
-ghost use Rattle.std.specs.Prelude.{◌≡◌, [], ◌∷◌, set, take};
+ghost use Rattle.std.specs.Prelude.{◌≡◌, ◌≤◌, take};
 ghost use Rattle.scope.specs.OneTrap.{flag_of, fetch_of};
 ghost use Rattle.std.proofs.lemmas.List.Edits.{sets};
-ghost use Rattle.scope.specs.Words.{abi_of, asked_word_count, waiting_count, access_of, completion_of, csrs_of, csrs_words, laid_with, tested, unpack_of, waiting_by, waiting_of, waiting_words, width_of, asked_words};
+ghost use Rattle.scope.specs.Words.{abi_of, asked_word_count, waiting_count, completion_of, csrs_of, csrs_words, laid_with, tested, unpack_of, waiting_by, waiting_of, waiting_words, asked_words};
 
 use isa_types::{GuestPhysAddr, GuestVirtAddr, Width};
 use scope::{
     Access, Csrs, EcallAsk, Fetch, GuestCsrs, HsCsrs, IpiAbi, IpiCompletion, Record, Vcpu, VsCsrs,
     Waiting,
 };
+use words_numbers::{FromNumber, Numbered};
 
-// The record that words stand for.
+// The record that words stand for. No From: a record and its parts are scope's, which holds no code.
+#[tactic(auto, unfolding(scope::specs::Words::unpack_of))]
 pub fn unpack(r: Record) -> Vcpu
     ensures { result ≡ unpack_of r }
 {
-    let x = r.x;
-    let counts = r.counts;
-    let c = r.csrs;
-    let w = r.waiting;
+    let Record {
+        x,
+        csrs,
+        counts,
+        waiting,
+    } = r;
     Vcpu {
         x,
-        csrs: csrs_of(c),
+        csrs: csrs_of(csrs),
         counts,
-        waiting: waiting_of(w),
+        waiting: waiting_of(waiting),
     }
 }
 
 // The words of a record, but these four for what waits.
+#[tactic(auto, unfolding(scope::specs::Words::laid_with))]
 pub fn lay(v: Vcpu, waiting: [u64; 4]) -> Record
     ensures { result ≡ laid_with v waiting }
 {
-    let x = v.x;
-    let counts = v.counts;
-    let c = v.csrs;
+    let Vcpu {
+        x,
+        csrs,
+        counts,
+        ..
+    } = v;
     Record {
         x,
-        csrs: csrs_words(c),
+        csrs: csrs_words(csrs),
         counts,
         waiting,
     }
 }
 
 // The CSRs that words stand for.
+#[tactic(auto, unfolding(scope::specs::Words::csrs_of))]
 pub fn csrs_of(c: [u64; 13]) -> Csrs
     ensures { result ≡ csrs_of c }
 {
@@ -70,6 +79,7 @@ pub fn csrs_of(c: [u64; 13]) -> Csrs
 }
 
 // The words of the CSRs.
+#[tactic(auto, unfolding(scope::specs::Words::csrs_words))]
 pub fn csrs_words(c: Csrs) -> [u64; 13]
     ensures { result ≡ csrs_words c }
 {
@@ -91,26 +101,28 @@ pub fn csrs_words(c: Csrs) -> [u64; 13]
 }
 
 // What waits, of words. An unknown kind is read as nothing waiting.
+#[tactic(auto, unfolding(scope::specs::Words::waiting_of))]
 pub fn waiting_of(w: [u64; 4]) -> Waiting
     ensures { result ≡ waiting_of w }
 {
     waiting_by(w[0], w[1], w[2], w[3])
 }
 
-// By its kind, so that the match is on a parameter.
+// The same of the four words each, as the entries in place read them.
+#[tactic(auto, unfolding(scope::specs::Words::waiting_by, scope::specs::Words::kind_word, scope::specs::Words::waiting_words, scope::specs::Words::asked_words))]
 pub fn waiting_by(kind: u64, a: u64, b: u64, c: u64) -> Waiting
     ensures { result ≡ waiting_by kind a b c }
 {
     match kind {
         1 => Waiting::Load {
             rd: a as usize,
-            width: width_of(b),
-            signed: test(c),
+            width: Width::from_number(b),
+            signed: bool::from_number(c),
         },
         2 => Waiting::FetchCsr,
         3 => Waiting::FetchFault {
             at: GuestPhysAddr(a),
-            access: access_of(b),
+            access: Access::from_number(b),
         },
         4 => Waiting::Ecall(EcallAsk::CopyMask),
         5 => Waiting::Ecall(EcallAsk::CopyIn { count: a }),
@@ -129,24 +141,21 @@ pub fn waiting_by(kind: u64, a: u64, b: u64, c: u64) -> Waiting
 }
 
 // The words of what waits.
+#[tactic(auto, unfolding(scope::specs::Words::waiting_words))]
 pub fn waiting_words(w: Waiting) -> [u64; 4]
     ensures { result ≡ waiting_words w }
 {
     match w {
         Waiting::Idle => [0, 0, 0, 0],
-        Waiting::Load { rd, width, signed } => [
-            1,
-            rd as u64,
-            words_numbers::width_bytes(width),
-            flag(signed),
-        ],
+        Waiting::Load { rd, width, signed } => [1, rd as u64, width.number(), signed.number()],
         Waiting::FetchCsr => [2, 0, 0, 0],
-        Waiting::FetchFault { at, access } => [3, at.0, words_numbers::access_number(access), 0],
+        Waiting::FetchFault { at, access } => [3, at.0, access.number(), 0],
         Waiting::Ecall(a) => asked_words(a),
     }
 }
 
 // The words of an ecall's ask.
+#[tactic(auto, unfolding(scope::specs::Words::asked_words))]
 fn asked_words(a: EcallAsk) -> [u64; 4]
     ensures { result ≡ asked_words a }
 {
@@ -167,78 +176,46 @@ fn asked_words(a: EcallAsk) -> [u64; 4]
 pub fn waiting_over(old: [u64; 4], w: Waiting) -> [u64; 4]
     ensures { result ≡ sets old 0 (take (waiting_count w) (waiting_words w)) }
 {
+    let n = waiting_count(w);
+    let words = waiting_words(w);
+    let mut left = old;
+    left[..n].copy_from_slice(&words[..n]);
+    left
+}
+
+// How many of the four words it has a use for: its kind, and the numbers that it carries.
+#[tactic(auto, unfolding(scope::specs::Words::waiting_count))]
+fn waiting_count(w: Waiting) -> usize
+    ensures count { result ≡ waiting_count w }
+    ensures within { result ≤ 4 }
+{
     match w {
-        Waiting::Idle => one(old, 0),
-        Waiting::Load { rd, width, signed } => {
-            let n = three(old, 1, rd as u64, words_numbers::width_bytes(width));
-            fourth(n, flag(signed))
-        }
-        Waiting::FetchCsr => one(old, 2),
-        Waiting::FetchFault { at, access } => {
-            three(old, 3, at.0, words_numbers::access_number(access))
-        }
-        Waiting::Ecall(a) => asked_over(old, a),
+        Waiting::Idle | Waiting::FetchCsr => 1,
+        Waiting::FetchFault { .. } => 3,
+        Waiting::Load { .. } => 4,
+        Waiting::Ecall(a) => asked_count(a),
     }
 }
 
-fn asked_over(old: [u64; 4], a: EcallAsk) -> [u64; 4]
-    ensures { result ≡ sets old 0 (take (asked_word_count a) (asked_words a)) }
+#[tactic(auto, unfolding(scope::specs::Words::asked_word_count))]
+fn asked_count(a: EcallAsk) -> usize
+    ensures count { result ≡ asked_word_count a }
+    ensures within { result ≤ 4 }
 {
     match a {
-        EcallAsk::CopyMask => one(old, 4),
-        EcallAsk::CopyIn { count } => two(old, 5, count),
-        EcallAsk::Print { count } => two(old, 6, count),
-        EcallAsk::ReadConsole { count, at } => three(old, 7, count, at.0),
-        EcallAsk::CopyOut { count } => two(old, 8, count),
-        EcallAsk::PutChar => one(old, 9),
-        EcallAsk::PutByte => one(old, 10),
-        EcallAsk::GetChar => one(old, 11),
-        EcallAsk::Forward => one(old, 12),
+        EcallAsk::CopyIn { .. } | EcallAsk::Print { .. } | EcallAsk::CopyOut { .. } => 2,
+        EcallAsk::ReadConsole { .. } => 3,
+        _ => 1,
     }
-}
-
-// The first one, two or three of four words, or the last, are these.
-fn one(old: [u64; 4], kind: u64) -> [u64; 4]
-    ensures { result ≡ sets old 0 (kind ∷ []) }
-{
-    let mut w = old;
-    w[0] = kind;
-    w
-}
-
-fn two(old: [u64; 4], kind: u64, a: u64) -> [u64; 4]
-    ensures { result ≡ sets old 0 (kind ∷ a ∷ []) }
-{
-    let mut w = old;
-    w[0] = kind;
-    w[1] = a;
-    w
-}
-
-fn three(old: [u64; 4], kind: u64, a: u64, b: u64) -> [u64; 4]
-    ensures { result ≡ sets old 0 (kind ∷ a ∷ b ∷ []) }
-{
-    let mut w = old;
-    w[0] = kind;
-    w[1] = a;
-    w[2] = b;
-    w
-}
-
-fn fourth(old: [u64; 4], c: u64) -> [u64; 4]
-    ensures { result ≡ set old 3 c }
-{
-    let mut w = old;
-    w[3] = c;
-    w
 }
 
 // A fetch's result: the word, or the fault of this number; an unknown number is read as an unhandled fault.
+#[tactic(auto, unfolding(scope::specs::OneTrap::fetch_of, scope::specs::OneTrap::fetch_number))]
 pub fn fetch_of(word: u64, fault: u64) -> Fetch
     ensures { result ≡ fetch_of word fault }
 {
     match fault {
-        0 => Fetch::Word((word % 4294967296) as u32),
+        0 => Fetch::Word((word % 0x1_0000_0000) as u32),
         1 => Fetch::Page(GuestVirtAddr(word)),
         2 => Fetch::Access(GuestVirtAddr(word)),
         3 => Fetch::Misaligned(GuestVirtAddr(word)),
@@ -247,65 +224,27 @@ pub fn fetch_of(word: u64, fault: u64) -> Fetch
     }
 }
 
-// The width of this many bytes; any other number is read as 8. Its place among the four counts those that it is wider than, and no jump
-// hangs on which load waits.
-pub fn width_of(n: u64) -> Width
-    ensures { result ≡ width_of n }
-{
-    let byte = isa_types::select(n == 1, 0, 1);
-    let half = isa_types::select(n == 2, 0, byte);
-    let word = isa_types::select(n == 4, 0, half);
-    isa_decoder::width(byte + half + word)
-}
-
-// The access of this flag; any other number is read as execute.
-pub fn access_of(n: u64) -> Access
-    ensures { result ≡ access_of n }
-{
-    match n {
-        1 => Access::Read,
-        2 => Access::Write,
-        _ => Access::Execute,
-    }
-}
-
-// The calling convention of this number; any other than 0 is read as v0.2.
+// The methods by name, until their callers call them.
 pub fn abi_of(n: u64) -> IpiAbi
     ensures { result ≡ abi_of n }
 {
-    match n {
-        0 => IpiAbi::Legacy,
-        _ => IpiAbi::SbiV02,
-    }
+    IpiAbi::from_number(n)
 }
 
-// What the host made of an IPI request, by SBI's number; any other than 0 and -3 is read as a failure.
 pub fn completion_of(n: u64) -> IpiCompletion
     ensures { result ≡ completion_of n }
 {
-    match n {
-        0 => IpiCompletion::Success,
-        0xFFFF_FFFF_FFFF_FFFD => IpiCompletion::InvalidParameter,
-        _ => IpiCompletion::Failed,
-    }
+    IpiCompletion::from_number(n)
 }
 
-// A word as a test: 0 is no.
 pub fn test(n: u64) -> bool
     ensures { result ≡ tested n }
 {
-    if n == 0 {
-        return false;
-    }
-    true
+    bool::from_number(n)
 }
 
-// A test as a word.
 pub fn flag(b: bool) -> u64
     ensures { result ≡ flag_of b }
 {
-    if b {
-        return 1;
-    }
-    0
+    b.number()
 }

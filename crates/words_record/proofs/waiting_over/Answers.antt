@@ -1,22 +1,17 @@
-use Rattle.scope.specs.Words.{waiting_count, waiting_words}
+-- Words copied over the first of others are those words set one after another.
+use Rattle.std.proofs.Common.{◌≡◌, ◌≤◌, ℕ, List, ◌++◌, length, take, drop, sym, ap, ◌∙◌, arith, rules}
+use Rattle.std.proofs.lemmas.List.Edits.{sets, sets-eq}
+use lib.Seq.{length-take-le}
 use Rattle.words_record.proofs.waiting_over.Goals as goal
 
-pub returns-in-Idle : goal.returns-in-Idle
-unfolding waiting_count waiting_words
-returns-in-Idle c = simp (c.one.ensures, c.in-Idle.is)
+over : (old words : List ℕ) (n : ℕ) → n ≤ length old → n ≤ length words → take n words ++ drop n old ≡ sets old 0 (take n words)
+over old words n h k =
+    let e : length (take n words) ≡ n = length-take-le n words k in
+    sym (sets-eq (take n words) old 0 (omega arith) ∙ ap (λ m. take n words ++ drop m old) (omega arith))
 
-pub returns-in-Load : goal.returns-in-Load
-unfolding waiting_count waiting_words
-returns-in-Load c = simp (c.fourth.ensures, c.flag.ensures, c.three-n.ensures, c.width_bytes.ensures, c.in-Load.is)
-
-pub returns-in-FetchCsr : goal.returns-in-FetchCsr
-unfolding waiting_count waiting_words
-returns-in-FetchCsr c = simp (c.one-in-FetchCsr.ensures, c.in-FetchCsr.is)
-
-pub returns-in-FetchFault : goal.returns-in-FetchFault
-unfolding waiting_count waiting_words
-returns-in-FetchFault c = simp (c.three.ensures, c.access_number.ensures, c.in-FetchFault.is)
-
-pub returns-in-Ecall : goal.returns-in-Ecall
-unfolding waiting_count waiting_words
-returns-in-Ecall c = simp (c.asked_over.ensures, c.in-Ecall.is)
+pub returns : goal.returns
+returns c =
+    let e : length c.waiting_words-words.result ≡ 4 = search rules in
+    let f : length c.args.old ≡ 4 = search rules in
+    let g = over c.args.old c.waiting_words-words.result c.waiting_count-n.result (omega arith) (omega arith) in
+    cc

@@ -4,7 +4,6 @@ use Rattle.std.proofs.Common.{arith}
 use Rattle.isa_decoder.specs.Straight.{width_at}
 use Rattle.isa_types.specs.Pick.{pick}
 use Rattle.isa_types.specs.declared.Width.TheVariants as width
-use Rattle.isa_types.specs.declared.Width.{Width}
 use Rattle.scope.specs.OneTrap.{width_bytes}
 use Rattle.scope.specs.Words.{width_of}
 
