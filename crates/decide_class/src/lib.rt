@@ -1,9 +1,7 @@
 // What a trap is handled as, by scause. 01, Classes.
-#![tactic(auto)]
+#![tactic(auto, unfolding(scope::specs::Classes::class_of))]
 
 ghost use Rattle.std.specs.Prelude.{◌≡◌};
-ghost use Rattle.isa_types.specs.Pick.{pick};
-ghost use Rattle.scope.specs.declared.decided.Class.TheVariants as class;
 ghost use Rattle.scope.specs.Classes.{class_of};
 
 use scope::{Access, Class};
@@ -20,16 +18,7 @@ pub fn class_of(scause: u64) -> Class
         isa_consts::S_SOFT => Class::Interrupt,
         isa_consts::S_TIMER => Class::Interrupt,
         isa_consts::S_EXT => Class::Interrupt,
-        _ => other(isa_consts::is_known_cause(scause)),
+        _ if isa_consts::is_known_cause(scause) => Class::NotHandled,
+        _ => Class::Unknown,
     }
-}
-
-// A code that is not handled: known or not.
-fn other(known: bool) -> Class
-    ensures { result ≡ pick known class.NotHandled class.Unknown }
-{
-    if known {
-        return Class::NotHandled;
-    }
-    Class::Unknown
 }

@@ -1,5 +1,5 @@
 // A guest's SBI call: what is to be done, decided from the call's numbers alone.
-#![tactic(auto)]
+#![tactic(auto, unfolding(scope::specs::Decided::call_effect, scope::specs::Ecalls::ecall_effect, scope::specs::Ecalls::forward_effect, scope::specs::Ecalls::lesser_of))]
 
 ghost use Rattle.std.specs.Prelude.{◌≡◌};
 ghost use Rattle.scope.specs.declared.machine.Csrs.{Csrs};
@@ -29,11 +29,7 @@ pub fn decide(eid: u64, fid: u64, a: Args, room: u64) -> SbiCall
         isa_consts::EID_HSM => decide_ecall_extensions::hsm(fid, a),
         isa_consts::EID_HVC => SbiCall::Hypercall,
         isa_consts::EID_SRST => decide_ecall_extensions::srst(fid, a),
-        isa_consts::EID_DBCN => decide_ecall_console::dbcn(
-            fid,
-            a,
-            decide_ecall_console::lesser(room, isa_consts::CONSOLE_ROOM),
-        ),
+        isa_consts::EID_DBCN => decide_ecall_console::dbcn(fid, a, room.min(isa_consts::CONSOLE_ROOM)),
         isa_consts::EID_RFNC => decide_ecall_extensions::rfnc(fid),
         _ => SbiCall::Forward(Event::Quiet),
     }

@@ -1,11 +1,11 @@
 // SBI, 'Debug Console Extension': what a call does, by its function, its arguments and the room in the console buffer.
-#![tactic(auto)]
+#![tactic(auto, unfolding(scope::specs::Decided::call_effect, scope::specs::Ecalls::console_effect, scope::specs::Ecalls::dbcn_effect, scope::specs::Ecalls::lesser_of, scope::specs::Ecalls::span_effect))]
 
 ghost use Rattle.std.specs.Prelude.{◌≡◌, ℕ};
 ghost use Rattle.scope.specs.declared.machine.Csrs.{Csrs};
 ghost use Rattle.scope.specs.declared.traps.Args.{Args};
 ghost use Rattle.scope.specs.Decided.{call_effect};
-ghost use Rattle.scope.specs.Ecalls.{console_effect, dbcn_effect, lesser_of, span_effect};
+ghost use Rattle.scope.specs.Ecalls.{console_effect, dbcn_effect, span_effect};
 
 use isa_types::GuestPhysAddr;
 use scope::{Args, SbiCall};
@@ -13,16 +13,12 @@ use scope::{Args, SbiCall};
 pub fn dbcn(fid: u64, a: Args, room: u64) -> SbiCall
     ensures { (c : Csrs) (eid : ℕ) → call_effect c eid fid a result ≡ dbcn_effect c fid a room }
 {
-    if fid == isa_consts::FID_CONSOLE_WRITE {
-        return console(true, a, room);
+    match fid {
+        isa_consts::FID_CONSOLE_WRITE => console(true, a, room),
+        isa_consts::FID_CONSOLE_READ => console(false, a, room),
+        isa_consts::FID_CONSOLE_WRITE_BYTE => SbiCall::PutByte(a.a0 % 256),
+        _ => decide_ecall_extensions::not_supported(),
     }
-    if fid == isa_consts::FID_CONSOLE_READ {
-        return console(false, a, room);
-    }
-    if fid == isa_consts::FID_CONSOLE_WRITE_BYTE {
-        return SbiCall::PutByte(a.a0 % 256);
-    }
-    decide_ecall_extensions::not_supported()
 }
 
 // The checks that console write and read share.
@@ -33,7 +29,7 @@ fn console(write: bool, a: Args, room: u64) -> SbiCall
         return SbiCall::Returns(isa_consts::RET_SUCCESS, 0);
     }
     if a.a2 == 0 {
-        return span(write, GuestPhysAddr(a.a1), lesser(a.a0, room));
+        return span(write, GuestPhysAddr(a.a1), a.a0.min(room));
     }
     SbiCall::Returns(isa_consts::RET_ERR_INVALID_PARAM, 0)
 }
@@ -48,13 +44,4 @@ fn span(write: bool, at: GuestPhysAddr, count: u64) -> SbiCall
         return SbiCall::CopyIn(at, count);
     }
     SbiCall::ReadConsole(at, count)
-}
-
-pub fn lesser(a: u64, b: u64) -> u64
-    ensures { result ≡ lesser_of a b }
-{
-    if a <= b {
-        return a;
-    }
-    b
 }

@@ -1,5 +1,5 @@
 // The SBI extensions whose calls are decided by their function and arguments alone: TIME, sPI, HSM, SRST, RFNC.
-#![tactic(auto)]
+#![tactic(auto, unfolding(scope::specs::Decided::call_effect, scope::specs::Ecalls::forward_effect, scope::specs::Ecalls::hsm_effect, scope::specs::Ecalls::not_supported_effect, scope::specs::Ecalls::rfnc_effect, scope::specs::Ecalls::spi_effect, scope::specs::Ecalls::srst_effect, scope::specs::Ecalls::time_effect))]
 
 ghost use Rattle.std.specs.Prelude.{◌≡◌, ℕ};
 ghost use Rattle.scope.specs.declared.machine.Csrs.{Csrs};
@@ -31,26 +31,19 @@ pub fn spi(fid: u64, a: Args) -> SbiCall
 pub fn hsm(fid: u64, a: Args) -> SbiCall
     ensures { (c : Csrs) (eid : ℕ) → call_effect c eid fid a result ≡ hsm_effect c fid a }
 {
-    if fid == isa_consts::FID_HART_START {
-        return SbiCall::CpuUp(a.a0, GuestPhysAddr(a.a1), a.a2);
+    match fid {
+        isa_consts::FID_HART_START => SbiCall::CpuUp(a.a0, GuestPhysAddr(a.a1), a.a2),
+        isa_consts::FID_HART_STOP => SbiCall::CpuDown,
+        isa_consts::FID_HART_SUSPEND => SbiCall::Halt,
+        _ => not_supported(),
     }
-    if fid == isa_consts::FID_HART_STOP {
-        return SbiCall::CpuDown;
-    }
-    if fid == isa_consts::FID_HART_SUSPEND {
-        return SbiCall::Halt;
-    }
-    not_supported()
 }
 
 pub fn srst(fid: u64, a: Args) -> SbiCall
     ensures { (c : Csrs) (eid : ℕ) → call_effect c eid fid a result ≡ srst_effect c fid a }
 {
-    if fid == isa_consts::FID_SYSTEM_RESET {
-        if a.a0 == isa_consts::RESET_TYPE_SHUTDOWN {
-            return SbiCall::SystemDown;
-        }
-        return not_supported();
+    if fid == isa_consts::FID_SYSTEM_RESET && a.a0 == isa_consts::RESET_TYPE_SHUTDOWN {
+        return SbiCall::SystemDown;
     }
     not_supported()
 }

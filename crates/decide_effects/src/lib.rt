@@ -1,5 +1,5 @@
 // How a call ends: an effect for each kind of end, built in one place. scope/specs/Refusals.antt defines them.
-#![tactic(auto)]
+#![tactic(auto, unfolding(scope::specs::Record::no_args, scope::specs::Refusals::asking_of, scope::specs::Refusals::done_of, scope::specs::Refusals::failed_of, scope::specs::Refusals::finished_of, scope::specs::Refusals::leaves_of, scope::specs::Refusals::refused_of))]
 
 ghost use Rattle.std.specs.Prelude.{◌≡◌, eqb};
 ghost use Rattle.scope.specs.Refusals.{asking_of, done_of, failed_of, finished_of, refused_of};

@@ -1,5 +1,5 @@
 // What a failed fetch of the guest's instruction does, and injection into the guest.
-#![tactic(auto)]
+#![tactic(auto, unfolding(scope::specs::VirtualInstruction::injected_of, scope::specs::VirtualInstruction::missed_of, scope::specs::VirtualInstruction::trap_status_of))]
 
 ghost use Rattle.std.specs.Prelude.{◌≡◌};
 ghost use Rattle.scope.specs.VirtualInstruction.{injected_of, missed_of, trap_status_of};
@@ -12,7 +12,6 @@ pub fn decide(f: Fetch) -> Missed
     ensures { result ≡ missed_of f }
 {
     match f {
-        Fetch::Word(_) => Missed::Unhandled,
         Fetch::Page(addr) => Missed::Inject {
             cause: isa_consts::INST_PAGE_FAULT,
             addr,
@@ -26,7 +25,7 @@ pub fn decide(f: Fetch) -> Missed
             addr,
         },
         Fetch::GuestPage(addr) => Missed::Nested(addr),
-        Fetch::Unhandled => Missed::Unhandled,
+        Fetch::Word(_) | Fetch::Unhandled => Missed::Unhandled,
     }
 }
 

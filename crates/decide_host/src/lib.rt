@@ -1,5 +1,5 @@
 // What the host's own calls do to a record: setup, entry, registers, page table, interrupts, IPI results.
-#![tactic(auto)]
+#![tactic(auto, unfolding(scope::specs::Host::entry_csrs, scope::specs::Host::ipi_writes, scope::specs::Host::paging_by, scope::specs::Host::paging_effect, scope::specs::Host::pending_effect, scope::specs::Host::setup_csrs, scope::specs::Host::table_csrs, scope::specs::Host::write_effect))]
 
 ghost use Rattle.std.specs.Prelude.{◌≡◌, eqb};
 ghost use Rattle.scope.specs.Host.{entry_csrs, ipi_writes, hvip_bit_of, paging_by, paging_effect, pending_effect, setup_csrs, table_csrs, write_effect};
@@ -69,14 +69,27 @@ pub fn paging_effect(c: Csrs, w: Waiting, levels: u64, mode: u64, root: u64) -> 
 pub fn pending_effect(c: Csrs, w: Waiting, vector: u64, on: bool) -> Effect
     ensures { result ≡ pending_effect c w vector on }
 {
-    pending_by(c, w, line_of(vector), on)
+    let line = line_of(vector);
+    if line == 0 {
+        return decide_effects::refused(c, w, Error::InvalidInput);
+    }
+    let hvip = isa_registers::with_bits(c.hs.hvip, line, on);
+    decide_effects::done(decide_record::with_hvip(c, hvip), Writes::Keep, w)
 }
 
-// The bit of hvip that a vector stands for, or 0.
-fn line_of(vector: u64) -> u64
+// The bit of hvip that a vector stands for, or 0. In a row of posts the next vector is not foretold, so the three are chosen from and
+// not branched on.
+pub fn line_of(vector: u64) -> u64
     ensures { result ≡ hvip_bit_of vector }
 {
-    line_by(vector, isa_consts::is_supervisor_external(vector))
+    let soft = isa_types::select(vector == isa_consts::S_SOFT, isa_consts::VSSIP, 0);
+    let timer = isa_types::select(vector == isa_consts::S_TIMER, isa_consts::VSTIP, 0);
+    let external = isa_types::select(
+        isa_consts::is_supervisor_external(vector),
+        isa_consts::VSEIP,
+        0,
+    );
+    soft | timer | external
 }
 
 // The registers that an IPI result goes to.
@@ -92,11 +105,8 @@ pub fn ipi_writes(abi: IpiAbi, error: u64) -> Writes
 fn paging_by(c: Csrs, w: Waiting, wanted: u64, mode: u64, root: u64) -> Effect
     ensures { result ≡ paging_by c w wanted mode root }
 {
-    if mode == wanted {
-        if root % 0x4000 == 0 {
-            return decide_effects::done(table_csrs(c, mode, root), Writes::Keep, w);
-        }
-        return decide_effects::refused(c, w, Error::InvalidInput);
+    if mode == wanted && root % 0x4000 == 0 {
+        return decide_effects::done(table_csrs(c, mode, root), Writes::Keep, w);
     }
     decide_effects::refused(c, w, Error::InvalidInput)
 }
@@ -110,27 +120,3 @@ fn table_csrs(c: Csrs, mode: u64, root: u64) -> Csrs
     n
 }
 
-fn pending_by(c: Csrs, w: Waiting, line: u64, on: bool) -> Effect
-    ensures { result ≡ pick (eqb line 0) (refused_of c w error.InvalidInput) (done_of (pended c (with_bits c.hs.hvip line on)) writes.Keep w) }
-{
-    if line == 0 {
-        return decide_effects::refused(c, w, Error::InvalidInput);
-    }
-    let hvip = isa_registers::with_bits(c.hs.hvip, line, on);
-    decide_effects::done(decide_record::with_hvip(c, hvip), Writes::Keep, w)
-}
-
-fn line_by(vector: u64, external: bool) -> u64
-    ensures { result ≡ pick (eqb vector supervisor_soft) vssip (pick (eqb vector supervisor_timer) vstip (pick external vseip 0)) }
-{
-    if vector == isa_consts::S_SOFT {
-        return isa_consts::VSSIP;
-    }
-    if vector == isa_consts::S_TIMER {
-        return isa_consts::VSTIP;
-    }
-    if external {
-        return isa_consts::VSEIP;
-    }
-    0
-}

@@ -1,5 +1,5 @@
 // A guest page fault: a load or store of a device, or a page that the host has to map.
-#![tactic(auto)]
+#![tactic(auto, unfolding(scope::specs::GuestPageFault::fault_of, scope::specs::GuestPageFault::load_under, scope::specs::GuestPageFault::store_under))]
 
 ghost use Rattle.std.specs.Prelude.{◌≡◌};
 ghost use Rattle.scope.specs.GuestPageFault.{fault_of, load_under, store_under};
@@ -18,7 +18,7 @@ pub fn decide(access: Access, t: Trapped, source: u64) -> Fault
         Trapped::Unfit => Fault::Unfit,
         Trapped::Instruction { op, length } => match op {
             Decoded::Load { width, signed, rd } => load(access, width, signed, rd, length),
-            Decoded::Store { width, rs2: _ } => store(access, width, source, length),
+            Decoded::Store { width, .. } => store(access, width, source, length),
             Decoded::Neither => Fault::Nested,
         },
     }
@@ -35,8 +35,7 @@ fn load(access: Access, width: Width, signed: bool, rd: usize, length: u64) -> F
             rd,
             length,
         },
-        Access::Write => Fault::Nested,
-        Access::Execute => Fault::Nested,
+        Access::Write | Access::Execute => Fault::Nested,
     }
 }
 
@@ -45,12 +44,11 @@ fn store(access: Access, width: Width, source: u64, length: u64) -> Fault
     ensures { result ≡ store_under access width source length }
 {
     match access {
-        Access::Read => Fault::Nested,
         Access::Write => Fault::Store {
             width,
             data: isa_extension::cut(width, source),
             length,
         },
-        Access::Execute => Fault::Nested,
+        Access::Read | Access::Execute => Fault::Nested,
     }
 }

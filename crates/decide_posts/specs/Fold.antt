@@ -1,11 +1,13 @@
 -- A row of posts as a fold over hvip: 01, Which shape goes where. That this is the row one by one is in RowLaws.antt.
-use Rattle.std.specs.Prelude.{ℕ, ◌+◌, Bool, List, [], ◌∷◌, eqb}
+use Rattle.std.specs.Prelude.{ℕ, ◌+◌, Bool, List, [], ◌∷◌, None, Option, Some, eqb, is_some}
 use Rattle.isa_registers.specs.Bits.{with_bits}
 use Rattle.isa_types.specs.Pick.{pick}
 use Rattle.scope.specs.declared.hosts.Post.{Post}
+use Rattle.scope.specs.declared.hosts.Posted.{Posted}
 use Rattle.scope.specs.declared.machine.RowOutcome.{RowOutcome}
 use Rattle.scope.specs.declared.machine.Vcpu.{Vcpu}
 use Rattle.scope.specs.declared.traps.Error.TheVariants as error
+use Rattle.scope.specs.declared.traps.Error.{Error}
 use Rattle.scope.specs.Host.{hvip_bit_of}
 use Rattle.scope.specs.Posts.{row_of}
 use Rattle.scope.specs.PostsLaws.{with_hvip}
@@ -17,7 +19,7 @@ use Rattle.decide_posts.specs.declared.Row.{Row}
 -- before the first post; ask is the number of the ask that waits, or 0
 unfoldable pub begun_by : ℕ → ℕ → Row
 begun_by hvip ask =
-    record { hvip = hvip; applied = 0; refusal = pick (eqb ask 0) 0 (error_number error.BadState) }
+    record { hvip = hvip; applied = 0; refusal = pick (eqb ask 0) None (Some error.BadState) }
 
 unfoldable pub begun_of : Vcpu → Row
 begun_of v = begun_by v.csrs.hs.hvip (waiting_ask v.waiting)
@@ -25,22 +27,27 @@ begun_of v = begun_by v.csrs.hs.hvip (waiting_ask v.waiting)
 -- one post, by its bit of hvip
 unfoldable pub applied_by : Row → ℕ → Bool → Row
 applied_by s line on =
-    pick (eqb line 0) (record { hvip = s.hvip; applied = s.applied; refusal = error_number error.InvalidInput })
-    (record { hvip = with_bits s.hvip line on; applied = s.applied + 1; refusal = 0 })
+    pick (eqb line 0) (record { hvip = s.hvip; applied = s.applied; refusal = Some error.InvalidInput })
+    (record { hvip = with_bits s.hvip line on; applied = s.applied + 1; refusal = None })
 
 -- one post; a row that was stopped stays
 unfoldable pub post_taken : Row → Post → Row
-post_taken s p = pick (eqb s.refusal 0) (applied_by s (hvip_bit_of p.vector) (tested p.level)) s
+post_taken s p = pick (is_some s.refusal) s (applied_by s (hvip_bit_of p.vector) (tested p.level))
 
 -- the row, in order
 unfoldable pub fold_of : Row → List Post → Row
 fold_of s [] = s
 fold_of s (p ∷ ps) = fold_of (post_taken s p) ps
 
--- the index after this one of n; the end where the row was stopped
-unfoldable pub next_of : Row → ℕ → ℕ → ℕ
-next_of s i n = pick (eqb s.refusal 0) (i + 1) n
+-- a refusal's number; 0 is none
+unfoldable pub refusal_number : Option Error → ℕ
+refusal_number None = 0
+refusal_number (Some e) = error_number e
+
+-- what the row gives
+unfoldable pub given_of : Row → Posted
+given_of s = record { applied = s.applied; refusal = refusal_number s.refusal }
 
 -- the record with hvip as the row leaves it, and what the row gives
 unfoldable pub ended_of : Vcpu → Row → RowOutcome
-ended_of v s = row_of (with_hvip v s.hvip) s.applied s.refusal
+ended_of v s = row_of (with_hvip v s.hvip) s.applied (refusal_number s.refusal)

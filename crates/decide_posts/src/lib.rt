@@ -1,79 +1,60 @@
 // A row of posts, folded over hvip up to the first that is refused. 01, Which shape goes where; 02, W4.
-#![tactic(auto)]
+#![tactic(auto, unfolding(crate::specs::Fold::applied_by, crate::specs::Fold::begun_by, crate::specs::Fold::given_of, crate::specs::Fold::refusal_number))]
 
-ghost use Rattle.std.specs.Prelude.{◌≡◌, ◌<◌, ◌-◌, ◌^◌, length, eqb};
-ghost use Rattle.isa_types.specs.Pick.{pick};
-ghost use Rattle.scope.specs.Host.{hvip_bit_of};
-ghost use Rattle.decide_posts.specs.Fold.{applied_by, begun_by, fold_of, next_of, post_taken};
+ghost use Rattle.std.specs.Prelude.{◌≡◌, ◌<◌, ◌-◌, ◌^◌, length};
+ghost use Rattle.decide_posts.specs.Fold.{applied_by, begun_by, fold_of, given_of};
 
-use scope::Post;
+use scope::{Error, Post, Posted};
 
-// How far a row has come: hvip, how many posts were applied, and the number of the refusal that stopped it, or 0.
+// How far a row has come: hvip, how many posts were applied, and the refusal that stopped it.
 #[derive(Clone, Copy)]
 pub struct Row {
     pub hvip: u64,
     pub applied: u64,
-    pub refusal: u64,
+    pub refusal: Option<Error>,
+}
+
+impl Row {
+    // What the row gives: a refusal by its number, and 0 for none.
+    pub fn given(self) -> Posted
+        ensures { result ≡ given_of self }
+    {
+        let refusal = match self.refusal {
+            None => 0,
+            Some(e) => words_numbers::error_number(e),
+        };
+        Posted {
+            applied: self.applied,
+            refusal,
+        }
+    }
 }
 
 // Before the first post: while an ask waits the row is refused as a whole.
 pub fn begin(hvip: u64, ask: u64) -> Row
     ensures { result ≡ begun_by hvip ask }
 {
-    if ask == 0 {
-        return Row {
-            hvip,
-            applied: 0,
-            refusal: 0,
-        };
-    }
+    let refusal = if ask == 0 { None } else { Some(Error::BadState) };
     Row {
         hvip,
         applied: 0,
-        refusal: 2,
+        refusal,
     }
 }
 
-// The row, in order. The index stands here, and all else in the two functions that it calls.
+// The row, in order, up to the post that stops it.
 pub fn fold(s: Row, posts: &[Post]) -> Row
     requires { s.applied ≡ 0 }
     ensures { result ≡ fold_of s posts.now }
 {
-    let mut now = s;
-    let mut i: usize = 0;
-    while i < posts.len() {
-        now = step(now, posts[i]);
-        i = next_index(now, i, posts.len());
+    let mut row = s;
+    for p in posts {
+        if row.refusal.is_some() {
+            break;
+        }
+        row = apply(row, decide_host::line_of(p.vector), p.level != 0);
     }
-    now
-}
-
-// One post. A row that was stopped stays as it is.
-fn step(s: Row, p: Post) -> Row
-    requires { s.applied < 2 ^ 64 - 1 }
-    ensures { result ≡ post_taken s p }
-{
-    let stopped = s.refusal;
-    if stopped == 0 {
-        let on = words_record::test(p.level);
-        return apply(s, line_of(p.vector), on);
-    }
-    s
-}
-
-// The bit of hvip that a vector stands for, or 0, as decide_host::line_of has it. In a row the next vector is not foretold, so here
-// the three are chosen from and not branched on.
-fn line_of(vector: u64) -> u64
-    ensures { result ≡ hvip_bit_of vector }
-{
-    let soft = isa_types::select(vector == isa_consts::S_SOFT, isa_consts::VSSIP, 0);
-    let timer = isa_types::select(vector == isa_consts::S_TIMER, isa_consts::VSTIP, 0);
-    let external = isa_types::select(
-        isa_consts::is_supervisor_external(vector),
-        isa_consts::VSEIP,
-        0,
-    );
-    soft | timer | external
+    row
 }
 
 // The bit of hvip set or cleared; a vector that stands for no bit stops the row.
@@ -85,24 +66,12 @@ fn apply(s: Row, line: u64, on: bool) -> Row
         return Row {
             hvip: s.hvip,
             applied: s.applied,
-            refusal: 1,
+            refusal: Some(Error::InvalidInput),
         };
     }
-    let hvip = isa_registers::with_bits(s.hvip, line, on);
     Row {
-        hvip,
+        hvip: isa_registers::with_bits(s.hvip, line, on),
         applied: s.applied + 1,
-        refusal: 0,
+        refusal: None,
     }
-}
-
-// The next index, or the row's end where the row was stopped.
-fn next_index(s: Row, i: usize, n: usize) -> usize
-    requires { i < n }
-    ensures { result ≡ next_of s i n }
-{
-    if s.refusal == 0 {
-        return i + 1;
-    }
-    n
 }

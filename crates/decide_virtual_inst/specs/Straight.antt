@@ -6,7 +6,6 @@ use Rattle.std.specs.Int.Bits.{bit_and, bit_or, bit_xor, or_zero_r, xor_self, xo
 use Rattle.isa_registers.specs.Bits.{with_bits}
 use Rattle.isa_types.specs.Pick.{pick}
 use Rattle.scope.specs.declared.decided.Stimecmp.TheVariants as csr
-use Rattle.scope.specs.declared.decided.Stimecmp.{Stimecmp}
 use Rattle.scope.specs.VirtualInstruction.{clear_bits, set_bits, stimecmp_by}
 
 -- rs1 for 1 to 3, else the field

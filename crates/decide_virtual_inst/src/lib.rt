@@ -1,5 +1,5 @@
 // A virtual-instruction trap: the guest's CSR instruction on stimecmp, in its six forms.
-#![tactic(auto)]
+#![tactic(auto, unfolding(crate::specs::Straight::timer_of, scope::specs::VirtualInstruction::stimecmp_stval, scope::specs::VirtualInstruction::stimecmp_word))]
 
 ghost use Rattle.std.specs.Prelude.{◌≡◌, eqb};
 ghost use Rattle.scope.specs.VirtualInstruction.{stimecmp_word, stimecmp_stval, stimecmp_by};
@@ -16,45 +16,26 @@ pub fn decide_stval(stval: u64, old: u64, rs1: u64) -> Stimecmp
     ensures { result ≡ stimecmp_stval stval old rs1 }
 {
     let word = stval % 0x1_0000_0000;
-    stval_by(isa_fields::opcode(word), word, old, rs1)
+    if isa_fields::opcode(word) == isa_consts::SYSTEM_OPCODE {
+        return decide(word, old, rs1);
+    }
+    Stimecmp::Fetch
 }
 
 // What a word that stval or a fetch gave does.
 pub fn decide(word: u64, old: u64, rs1: u64) -> Stimecmp
     ensures { result ≡ stimecmp_word word old rs1 }
 {
-    decide_by(
-        isa_fields::opcode(word),
-        isa_fields::csr(word),
-        word,
-        old,
-        rs1,
-    )
-}
-
-fn stval_by(opcode: u64, word: u64, old: u64, rs1: u64) -> Stimecmp
-    ensures { result ≡ pick (eqb opcode system_opcode) (stimecmp_word word old rs1) csr.Fetch }
-{
-    if opcode == isa_consts::SYSTEM_OPCODE {
-        return decide(word, old, rs1);
-    }
-    Stimecmp::Fetch
-}
-
-fn decide_by(opcode: u64, number: u64, word: u64, old: u64, rs1: u64) -> Stimecmp
-    ensures { result ≡ pick (eqb opcode system_opcode) (pick (eqb number stimecmp) (stimecmp_by (funct3_field word) (rd_field word) (rs1_field word) old rs1) csr.Illegal) csr.Illegal }
-{
-    if opcode == isa_consts::SYSTEM_OPCODE {
-        if number == isa_consts::CSR_STIMECMP {
-            return stimecmp(
-                isa_fields::funct3(word),
-                isa_fields::rd(word),
-                isa_fields::rs1(word) as u64,
-                old,
-                rs1,
-            );
-        }
-        return Stimecmp::Illegal;
+    if isa_fields::opcode(word) == isa_consts::SYSTEM_OPCODE
+        && isa_fields::csr(word) == isa_consts::CSR_STIMECMP
+    {
+        return stimecmp(
+            isa_fields::funct3(word),
+            isa_fields::rd(word),
+            isa_fields::rs1(word) as u64,
+            old,
+            rs1,
+        );
     }
     Stimecmp::Illegal
 }

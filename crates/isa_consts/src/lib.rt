@@ -1,6 +1,6 @@
 // The numbers of the RISC-V privileged architecture and of SBI that the handler goes by, one place for each.
 // specs/ has the numbers that definitions go by; every function that uses a constant here is proved against those.
-#![tactic(auto)]
+#![tactic(auto, unfolding(crate::specs::Traps::known_cause, crate::specs::Traps::known_exception, crate::specs::Traps::known_interrupt, crate::specs::Traps::supervisor_external))]
 
 ghost use Rattle.std.specs.Prelude.{◌≡◌};
 ghost use Rattle.isa_consts.specs.Traps.{known_cause, known_exception, known_interrupt, supervisor_external};
@@ -151,24 +151,19 @@ pub fn is_known_cause(scause: u64) -> bool
 fn is_known_exception(code: u64) -> bool
     ensures { result ≡ known_exception code }
 {
-    if code <= 9 {
-        return true;
-    }
-    match code {
-        11 => true,
-        INST_PAGE_FAULT => true,
-        LOAD_PAGE_FAULT => true,
-        STORE_PAGE_FAULT => true,
-        INST_GUEST_PAGE_FAULT => true,
-        _ => false,
-    }
+    matches!(
+        code,
+        0..=9
+            | 11
+            | INST_PAGE_FAULT
+            | LOAD_PAGE_FAULT
+            | STORE_PAGE_FAULT
+            | INST_GUEST_PAGE_FAULT
+    )
 }
 
 fn is_known_interrupt(code: u64) -> bool
     ensures { result ≡ known_interrupt code }
 {
-    if code <= LAST_INTERRUPT {
-        return true;
-    }
-    false
+    code <= LAST_INTERRUPT
 }

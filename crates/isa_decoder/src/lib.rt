@@ -1,12 +1,12 @@
 // The instruction behind a guest page fault: its length, and whether it is a load or a store.
 // The handler knows this crate by its promises alone.
-#![tactic(auto)]
+#![tactic(auto, unfolding(crate::specs::Compressed::compressed_by, crate::specs::Compressed::compressed_of, crate::specs::Compressed::sp_load_of, crate::specs::Decode::decode_by, crate::specs::Decode::decode_of, crate::specs::Length::fetched_of, crate::specs::Length::htinst_of, crate::specs::Length::op_source, crate::specs::Length::store_source, crate::specs::Length::transformed_of, crate::specs::Straight::width_at))]
 
 ghost use Rattle.std.specs.Prelude.{◌≡◌};
-ghost use Rattle.isa_decoder.specs.Compressed.{compressed_by, compressed_of, quadrant0_of, quadrant2_of, sp_load_of};
-ghost use Rattle.isa_decoder.specs.Decode.{decode_by, decode_of, load_of, store_of};
+ghost use Rattle.isa_decoder.specs.Compressed.{compressed_of, quadrant0_of, quadrant2_of, sp_load_of};
+ghost use Rattle.isa_decoder.specs.Decode.{decode_of, load_of, store_of};
 ghost use Rattle.isa_decoder.specs.Straight.{width_at};
-ghost use Rattle.isa_decoder.specs.Length.{fetched_of, htinst_of, op_source, store_source, transformed_of};
+ghost use Rattle.isa_decoder.specs.Length.{fetched_of, htinst_of, store_source, transformed_of};
 
 use isa_types::Width;
 
@@ -51,10 +51,7 @@ pub fn from_htinst(htinst: u64) -> Trapped
 fn transformed(word: u64) -> Trapped
     ensures { result ≡ transformed_of word }
 {
-    if word == 0x3000 {
-        return Trapped::Pseudo;
-    }
-    if word == 0x3020 {
+    if word == 0x3000 || word == 0x3020 {
         return Trapped::Pseudo;
     }
     if word % 2 == 0 {
@@ -91,42 +88,26 @@ pub fn from_fetched(word: u32) -> Trapped
 pub fn decode(word: u64) -> Decoded
     ensures { result ≡ decode_of word }
 {
-    decode_by(isa_fields::opcode(word), word)
-}
-
-fn decode_by(opcode: u64, word: u64) -> Decoded
-    ensures { result ≡ decode_by opcode word }
-{
-    if opcode == 0x03 {
-        return load(isa_fields::funct3(word), isa_fields::rd(word));
+    match isa_fields::opcode(word) {
+        0x03 => load(isa_fields::funct3(word), isa_fields::rd(word)),
+        0x23 => store(isa_fields::funct3(word), isa_fields::rs2(word)),
+        _ => Decoded::Neither,
     }
-    if opcode == 0x23 {
-        return store(isa_fields::funct3(word), isa_fields::rs2(word));
-    }
-    Decoded::Neither
 }
 
 // The load or store that a 16-bit word is.
 pub fn compressed(word: u64) -> Decoded
     ensures { result ≡ compressed_of word }
 {
-    compressed_by(isa_fields::quadrant(word), word)
-}
-
-fn compressed_by(quadrant: u64, word: u64) -> Decoded
-    ensures { result ≡ compressed_by quadrant word }
-{
-    if quadrant == 0 {
-        return quadrant0(isa_fields::c_funct3(word), isa_fields::prime(word));
-    }
-    if quadrant == 2 {
-        return quadrant2(
+    match isa_fields::quadrant(word) {
+        0 => quadrant0(isa_fields::c_funct3(word), isa_fields::prime(word)),
+        2 => quadrant2(
             isa_fields::c_funct3(word),
             isa_fields::rd(word),
             isa_fields::c_rs2(word),
-        );
+        ),
+        _ => Decoded::Neither,
     }
-    Decoded::Neither
 }
 
 // C.LW, C.LD, C.SW, C.SD: bits 2 and 1 of funct3 are 01 in a load and 11 in a store, and its low two bits the width's place, as in a
@@ -184,24 +165,11 @@ pub fn store_source(t: Trapped) -> usize
     ensures { result ≡ store_source t }
 {
     match t {
-        Trapped::Absent => 0,
-        Trapped::Pseudo => 0,
-        Trapped::Unfit => 0,
-        Trapped::Instruction { op, length: _ } => op_source(op),
-    }
-}
-
-fn op_source(op: Decoded) -> usize
-    ensures { result ≡ op_source op }
-{
-    match op {
-        Decoded::Load {
-            width: _,
-            signed: _,
-            rd: _,
-        } => 0,
-        Decoded::Store { width: _, rs2 } => rs2,
-        Decoded::Neither => 0,
+        Trapped::Instruction {
+            op: Decoded::Store { rs2, .. },
+            ..
+        } => rs2,
+        _ => 0,
     }
 }
 

@@ -1,6 +1,6 @@
 // A number cut to a width and extended from it. No branch hangs on the width or the sign: a guest's loads come in any order, and a
 // jump that follows them is often foretold wrong.
-#![tactic(auto)]
+#![tactic(auto, unfolding(crate::specs::Extend::cut_of, crate::specs::Extend::width_bits))]
 
 ghost use Rattle.std.specs.Prelude.{◌≡◌, ◌-◌, ◌^◌};
 ghost use Rattle.isa_extension.specs.Extend.{cut_of, extend_of, width_bits};

@@ -1,5 +1,5 @@
 // The fields of an instruction word: of 32 bits, and of 16.
-#![tactic(auto)]
+#![tactic(auto, unfolding(crate::specs::Compressed::c_funct3_field, crate::specs::Compressed::c_rs2_field, crate::specs::Compressed::prime_field, crate::specs::Compressed::quadrant_field, crate::specs::Fields::csr_field, crate::specs::Fields::funct3_field, crate::specs::Fields::opcode_field, crate::specs::Fields::rd_field, crate::specs::Fields::rs1_field, crate::specs::Fields::rs2_field))]
 
 ghost use Rattle.std.specs.Prelude.{◌≡◌};
 ghost use Rattle.isa_fields.specs.Compressed.{c_funct3_field, c_rs2_field, prime_field, quadrant_field};

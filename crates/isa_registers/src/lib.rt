@@ -1,5 +1,5 @@
 // Values of hypervisor CSRs: the two delegation masks, hgatp, the address behind a guest page fault, single bits.
-#![tactic(auto)]
+#![tactic(auto, unfolding(crate::specs::Bits::sie_of, crate::specs::Bits::spvp_of, crate::specs::Bits::with_bits, crate::specs::Values::delegated_exceptions, crate::specs::Values::delegated_interrupts, crate::specs::Values::guest_page_fault_addr, crate::specs::Values::hgatp_of))]
 
 ghost use Rattle.std.specs.Prelude.{◌≡◌};
 ghost use Rattle.isa_registers.specs.Values.{delegated_exceptions, delegated_interrupts, guest_page_fault_addr, hgatp_of};

@@ -1,21 +1,20 @@
--- A turn takes post i; the rest is folded from what it leaves.
+-- A turn takes a post; the rest is folded from what it leaves. A row that was stopped stays.
 use Rattle.std.proofs.Common.{◌∙◌, sym}
-use Rattle.decide_posts.specs.FoldLaws.{applies_within, at_end, in_reach, nearer, turned}
+use Rattle.decide_posts.specs.FoldLaws.{at_end, going, stopped, turned, within}
 use Rattle.decide_posts.proofs.fold.Goals as goal
 
-pub loop-i-smaller : goal.loop-i-smaller
-loop-i-smaller c = rw c.next_index-i.ensures (nearer c.step-now.result c.loop-i-test.true)
-
-pub loop-i-preserved : goal.loop-i-preserved
-loop-i-preserved c =
-    rw c.next_index-i.ensures
+pub loop-p-preserved : goal.loop-p-preserved
+loop-p-preserved c =
+    rw (c.apply-row.ensures, c.line_of.ensures)
     (record {
-      within = in_reach c.step-now.result c.loop-i-test.true;
       folds =
-          sym (turned c.loop-i.now c.step-now.result c.args.posts.now c.loop-i.i c.loop-i-test.true c.step-now.ensures)
-          ∙ c.loop-i.invariant.folds;
-      applies = applies_within c.loop-i.now c.step-now.result _ c.loop-i-test.true c.step-now.ensures c.loop-i.invariant.applies;
+          sym (turned c.loop-p.row _ c.args.posts.now c.loop-p.p-index c.loop-p-test.true (going c.loop-p.row _ (sym c.if-is_some.ensures)))
+          ∙ c.loop-p.invariant.folds;
+      applies = within c.loop-p.row _ _ c.loop-p.invariant.applies;
     })
 
-pub returns : goal.returns
-returns c = sym (at_end c.loop-i.now c.args.posts.now c.loop-i.i c.loop-i-test.false) ∙ c.loop-i.invariant.folds
+pub returns-after-loop-p : goal.returns-after-loop-p
+returns-after-loop-p c = sym (at_end c.loop-p.row c.args.posts.now c.loop-p.p-index c.loop-p-test.false) ∙ c.loop-p.invariant.folds
+
+pub returns-then-is_some : goal.returns-then-is_some
+returns-then-is_some c = sym (stopped c.loop-p.row _ (sym c.if-is_some.ensures)) ∙ c.loop-p.invariant.folds
