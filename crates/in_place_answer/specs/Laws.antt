@@ -1,11 +1,8 @@
 -- The answers on words, each shown as the effect of the by-value step.
-use Rattle.std.specs.Prelude.{ℕ, ◌%◌, ◌^◌, ◌<◌, ◌≤◌, Bool, true, false, List, ◌≡◌, refl, drop, get_or, length, eqb}
+use Rattle.std.specs.Prelude.{ℕ, ◌<◌, ◌≤◌, Bool, true, false, List, ◌≡◌, refl, drop, get_or, length, eqb}
 use Rattle.std.proofs.Common.{ap, sym, subst, ◌∙◌, arith, eqb-true, ne_eqb}
-use Rattle.isa_types.specs.Pick.{pick}
-use Rattle.scope.specs.OneTrap.{answer_for, answer_number, answer_values, fetch_number, fetch_of}
+use Rattle.scope.specs.OneTrap.{answer_for, answer_number, answer_values, fetch_of}
 use Rattle.scope.specs.Refusals.{error_number, refused_of, leaves_of}
-use Rattle.scope.specs.declared.traps.Access.{Access}
-use Rattle.scope.specs.declared.traps.Answer.{Answer}
 use Rattle.scope.specs.declared.traps.Error.TheVariants as error
 use Rattle.scope.specs.declared.traps.Fetch.{Fetch}
 use Rattle.scope.specs.declared.traps.Fetch.TheVariants as fetch
@@ -19,7 +16,7 @@ use Rattle.scope.specs.declared.machine.Waiting.TheVariants as waiting
 use Rattle.scope.specs.Record.{bumped, counted, event_number, listed, stored, value_of, waiting_ask, applied, no_args, ecall_ask_number}
 use Rattle.scope.specs.VirtualInstruction.{missed_effect, missed_of, stimecmp_effect, stimecmp_word}
 use Rattle.scope.specs.Decided.{answered_effect}
-use Rattle.scope.specs.Answers.{answer_effect, fitting_effect, fetch_effect, numbers_effect, values_effect, word_effect}
+use Rattle.scope.specs.Answers.{answer_effect, fitting_effect, fetch_effect, numbers_effect, values_effect}
 use Rattle.scope.specs.Calls.{base_of, called_of, effect_of}
 use Rattle.scope.specs.declared.hosts.HostCall.TheVariants as host_call
 use Rattle.in_place_record.specs.Steps.{Laid, Settled, out_over, trap_leaves}
@@ -27,7 +24,7 @@ use Rattle.in_place_record.specs.View.{view_of}
 use Rattle.scope.specs.ReplyWords.{reply_word}
 use Rattle.scope.specs.Words.{trap_left}
 use Rattle.scope.specs.Refusals.{refusal, refuses}
-use Rattle.in_place_record.specs.Rows.{Leaves, answered_left, csr_left, missed_left, read_word}
+use Rattle.in_place_record.specs.Rows.{Leaves, answered_left, csr_left, missed_left}
 use Rattle.in_place_record.specs.Laws.{On}
 use Rattle.in_place_record.proofs.Laws.{answered_made, missed_made}
 use Rattle.in_place_record.proofs.Shown.{made_by, same}
@@ -44,7 +41,7 @@ done_by d e =
 
 -- a CSR instruction that was fetched
 pub word_made : (r o : List ℕ) → length r ≡ 58 → (w : ℕ)
-    → On r o (stimecmp_effect (view_of r).csrs (stimecmp_word w (view_of r).csrs.vs.vstimecmp (value_of (view_of r).x (rs1_field w)))) (csr_left r o (stimecmp_word w (get_or r 40 0) (read_word r (rs1_field w))))
+    → On r o (stimecmp_effect (view_of r).csrs (stimecmp_word w (view_of r).csrs.vs.vstimecmp (value_of (view_of r).x (rs1_field w)))) (csr_left r o (stimecmp_word w (get_or r 40 0) (value_of r (rs1_field w))))
 word_made r o e w = csr_by r o e (λ old rs1. stimecmp_word w old rs1) (rs1_field w)
 
 -- a refusal leaves every word

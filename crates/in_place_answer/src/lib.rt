@@ -139,7 +139,7 @@ fn stimecmp_word(r: &mut [u64; 58], out: &mut [u64; 8], word: u64) -> u64
     ensures { Laid (trap_leaves r.old) out.old (applied (view_of r.old) (stimecmp_effect (view_of r.old).csrs (stimecmp_word word (view_of r.old).csrs.vs.vstimecmp (value_of (view_of r.old).x (rs1_field word))))) r.new out.new result }
 {
     in_place_record::sized(r);
-    let rs1 = in_place_read::read(r, isa_fields::rs1(word));
+    let rs1 = decide_record::register(r, isa_fields::rs1(word));
     let d = decide_virtual_inst::decide(word, r[in_place_record::VSTIMECMP], rs1);
     in_place_classes::do_csr(r, out, d)
 }

@@ -11,6 +11,7 @@ use in_place_record::{ReplyWord, WaitingKind};
 use isa_decoder::Trapped;
 use isa_types::GuestPhysAddr;
 use scope::{Access, Answered, Fault, Missed, Stimecmp};
+use words_numbers::Numbered;
 
 // Does a virtual instruction.
 #[tactic(auto, unfolding(in_place_record::specs::Rows::csr_left))]
@@ -54,7 +55,7 @@ pub fn do_fault(
             in_place_read::ask_fetch(r, out);
             r[in_place_record::KIND] = WaitingKind::FetchFault as u64;
             r[in_place_record::FIRST] = at.0;
-            r[in_place_record::SECOND] = words_numbers::access_number(access);
+            r[in_place_record::SECOND] = access.number();
             ReplyWord::Fetch as u64
         }
         Fault::Walk => {
@@ -67,7 +68,7 @@ pub fn do_fault(
         }
         Fault::Nested => {
             out[0] = at.0;
-            out[1] = words_numbers::access_number(access);
+            out[1] = access.number();
             r[in_place_record::KIND] = WaitingKind::Idle as u64;
             ReplyWord::NestedPageFault as u64
         }
@@ -77,13 +78,13 @@ pub fn do_fault(
             rd,
             length,
         } => {
-            let bytes = words_numbers::width_bytes(width);
+            let bytes = width.number();
             out[0] = at.0;
             out[1] = bytes;
             r[in_place_record::KIND] = WaitingKind::Load as u64;
             r[in_place_record::FIRST] = rd as u64;
             r[in_place_record::SECOND] = bytes;
-            r[in_place_record::THIRD] = words_record::flag(signed);
+            r[in_place_record::THIRD] = signed.number();
             in_place_record::advance(r, length);
             ReplyWord::MmioRead as u64
         }
@@ -93,7 +94,7 @@ pub fn do_fault(
             length,
         } => {
             out[0] = at.0;
-            out[1] = words_numbers::width_bytes(width);
+            out[1] = width.number();
             out[2] = data;
             in_place_write::step(r, length);
             ReplyWord::MmioWrite as u64
@@ -114,7 +115,7 @@ pub fn do_mmio(
     ensures { Laid (trap_leaves r.old) out.old (applied (view_of r.old) (mmio_of (view_of r.old).x (view_of r.old).csrs at access i)) r.new out.new result }
 {
     in_place_record::sized(r);
-    let source = in_place_read::read(r, isa_decoder::store_source(i));
+    let source = decide_record::register(r, isa_decoder::store_source(i));
     do_fault(
         r,
         out,
@@ -167,10 +168,9 @@ pub fn do_answered(r: &mut [u64; 58], out: &mut [u64; 8], d: Answered) -> u64
             ReplyWord::Nothing as u64
         }
         Answered::SendIpi(request) => {
-            let abi = request.abi;
             out[0] = request.mask;
             out[1] = request.base;
-            out[2] = words_numbers::abi_number(abi);
+            out[2] = request.abi.number();
             in_place_write::step(r, 4);
             ReplyWord::SendIpi as u64
         }

@@ -8,6 +8,7 @@ ghost use Rattle.scope.specs.declared.decided.SbiCall.TheVariants as call;
 use in_place_record::{ReplyWord, WaitingKind};
 use isa_types::GuestPhysAddr;
 use scope::{Event, SbiCall};
+use words_numbers::Numbered;
 
 // Does an SBI call.
 pub fn do_call(r: &mut [u64; 58], out: &mut [u64; 8], d: SbiCall) -> u64
@@ -57,13 +58,12 @@ pub fn do_call(r: &mut [u64; 58], out: &mut [u64; 8], d: SbiCall) -> u64
             ReplyWord::CopyMask as u64,
         ),
         SbiCall::SendIpi(request) => {
-            let abi = request.abi;
             passes(
                 r,
                 out,
                 request.mask,
                 request.base,
-                words_numbers::abi_number(abi),
+                request.abi.number(),
                 ReplyWord::SendIpi as u64,
             )
         }
@@ -163,7 +163,7 @@ fn forward(r: &mut [u64; 58], out: &mut [u64; 8], event: Event) -> u64
     out[0] = r[in_place_record::A7];
     out[1] = r[in_place_record::A6];
     in_place_read::six(r, out);
-    in_place_write::bump(r, in_place_write::event_number(event));
+    in_place_write::bump(r, event.number() as usize);
     r[in_place_record::KIND] = WaitingKind::Forward as u64;
     ReplyWord::Forward as u64
 }

@@ -9,6 +9,7 @@ ghost use Rattle.in_place_host.specs.Host.{host_words, write_words};
 
 use in_place_record::ReplyWord;
 use scope::{Ask, Effect, Error, Reply, Writes};
+use words_numbers::Numbered;
 
 // Writes an effect that counts nothing and leaves what waits.
 #[tactic(auto, unfolding(crate::specs::Host::host_words, scope::specs::Words::csrs_words))]
@@ -53,7 +54,7 @@ fn reply_word(p: Reply) -> u64
     ensures { result ≡ reply_word p }
 {
     match p {
-        Reply::Exit(e) => words_numbers::exit_number(e),
+        Reply::Exit(e) => e.number(),
         Reply::Ask(a) => ask_word(a),
         Reply::Done => ReplyWord::Done as u64,
         Reply::Value(_) => ReplyWord::Value as u64,

@@ -16,6 +16,7 @@ ghost use Rattle.in_place_record.specs.View.{view_of};
 use in_place_record::ReplyWord;
 use isa_types::GuestPhysAddr;
 use scope::{Csrs, Effect, IpiAbi, IpiCompletion, Waiting, Writes};
+use words_numbers::Numbered;
 
 // The state that a guest starts with.
 pub fn setup(r: &mut [u64; 58]) -> u64
@@ -61,7 +62,7 @@ pub fn get_gpr(r: &[u64; 58], out: &mut [u64; 8], index: usize) -> u64
     ensures { Laid (host_leaves r.now) out.old (called_of (view_of r.now) (host_call.GetGpr index)) r.now out.new result }
 {
     if index < 32 {
-        out[0] = in_place_read::read(r, index);
+        out[0] = decide_record::register(r, index);
         return ReplyWord::Value as u64;
     }
     ReplyWord::InvalidInput as u64
@@ -108,11 +109,7 @@ pub fn complete_ipi(r: &mut [u64; 58], abi: IpiAbi, completion: IpiCompletion) -
 {
     unless_asking(
         r,
-        |c, w| decide_effects::done(
-            c,
-            decide_host::ipi_writes(abi, decide_ipi::completion_number(completion)),
-            w,
-        ),
+        |c, w| decide_effects::done(c, decide_host::ipi_writes(abi, completion.number()), w),
     )
 }
 

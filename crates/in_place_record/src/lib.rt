@@ -152,11 +152,11 @@ fn count(s: &[u64]) -> usize
 }
 
 // sepc moves on.
-#[tactic(auto, unfolding(crate::specs::Rows::moved_words))]
+#[tactic(auto, unfolding(crate::specs::Rows::moved_words, isa_types::specs::Pick::wrapped))]
 pub fn advance(r: &mut [u64; 58], by: u64)
     ensures { r.new ≡ moved_words r.old by }
 {
-    r[SEPC] = decide_record::plus(r[SEPC], by);
+    r[SEPC] = r[SEPC].wrapping_add(by);
 }
 
 // a0 is this, and the call is finished.

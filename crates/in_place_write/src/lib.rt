@@ -2,11 +2,10 @@
 #![tactic(auto)]
 
 ghost use Rattle.std.specs.Prelude.{◌≡◌};
-ghost use Rattle.scope.specs.Record.{event_number};
 ghost use Rattle.in_place_record.specs.Rows.{bump_words, inject_words, pair_words, step_words, timer_words};
 
 use in_place_record::WaitingKind;
-use scope::{Csrs, Event};
+use scope::Csrs;
 
 // Nothing waits, and sepc moves on.
 #[tactic(auto, unfolding(in_place_record::specs::Rows::step_words))]
@@ -43,7 +42,7 @@ pub fn timer(r: &mut [u64; 58], deadline: u64)
 }
 
 // One more in the count of an event's number; 0 is no event.
-#[tactic(auto, unfolding(in_place_record::specs::Rows::bump_words))]
+#[tactic(auto, unfolding(in_place_record::specs::Rows::bump_words, isa_types::specs::Pick::wrapped))]
 pub fn bump(r: &mut [u64; 58], number: usize)
     ensures { r.new ≡ bump_words r.old number }
 {
@@ -52,25 +51,7 @@ pub fn bump(r: &mut [u64; 58], number: usize)
     }
     if number < 10 {
         let at = number + 44;
-        r[at] = decide_record::plus(r[at], 1);
-    }
-}
-
-#[tactic(auto, unfolding(scope::specs::Record::event_number))]
-pub fn event_number(e: Event) -> usize
-    ensures { result ≡ event_number e }
-{
-    match e {
-        Event::Quiet => 0,
-        Event::SetTimer => 1,
-        Event::IllegalInsn => 2,
-        Event::FenceI => 3,
-        Event::SfenceVma => 4,
-        Event::SfenceVmaAsid => 5,
-        Event::HfenceGvmaVmid => 6,
-        Event::HfenceGvma => 7,
-        Event::HfenceVvmaAsid => 8,
-        Event::HfenceVvma => 9,
+        r[at] = r[at].wrapping_add(1);
     }
 }
 
