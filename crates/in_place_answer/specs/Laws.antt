@@ -1,11 +1,8 @@
 -- The answers on words, each shown as the effect of the by-value step.
-use Rattle.std.specs.Prelude.{ℕ, ◌%◌, ◌^◌, ◌<◌, ◌≤◌, Bool, true, false, List, ◌≡◌, refl, drop, get_or, length, eqb}
+use Rattle.std.specs.Prelude.{ℕ, ◌<◌, ◌≤◌, Bool, true, false, List, ◌≡◌, refl, drop, get_or, length, eqb}
 use Rattle.std.proofs.Common.{ap, sym, subst, ◌∙◌, arith, eqb-true, ne_eqb}
-use Rattle.isa_types.specs.Pick.{pick}
-use Rattle.scope.specs.OneTrap.{answer_for, answer_number, answer_values, fetch_number, fetch_of}
+use Rattle.scope.specs.OneTrap.{answer_for, answer_number, answer_values, fetch_of}
 use Rattle.scope.specs.Refusals.{error_number, refused_of, leaves_of}
-use Rattle.scope.specs.declared.traps.Access.{Access}
-use Rattle.scope.specs.declared.traps.Answer.{Answer}
 use Rattle.scope.specs.declared.traps.Error.TheVariants as error
 use Rattle.scope.specs.declared.traps.Fetch.{Fetch}
 use Rattle.scope.specs.declared.traps.Fetch.TheVariants as fetch
@@ -19,7 +16,7 @@ use Rattle.scope.specs.declared.machine.Waiting.TheVariants as waiting
 use Rattle.scope.specs.Record.{bumped, counted, event_number, listed, stored, value_of, waiting_ask, applied, no_args, ecall_ask_number}
 use Rattle.scope.specs.VirtualInstruction.{missed_effect, missed_of, stimecmp_effect, stimecmp_word}
 use Rattle.scope.specs.Decided.{answered_effect}
-use Rattle.scope.specs.Answers.{answer_effect, fitting_effect, fetch_effect, numbers_effect, values_effect, word_effect}
+use Rattle.scope.specs.Answers.{answer_effect, fitting_effect, fetch_effect, numbers_effect, values_effect}
 use Rattle.scope.specs.Calls.{base_of, called_of, effect_of}
 use Rattle.scope.specs.declared.hosts.HostCall.TheVariants as host_call
 use Rattle.in_place_record.specs.Steps.{Laid, Settled, out_over, trap_leaves}
@@ -27,7 +24,7 @@ use Rattle.in_place_record.specs.View.{view_of}
 use Rattle.scope.specs.ReplyWords.{reply_word}
 use Rattle.scope.specs.Words.{trap_left}
 use Rattle.scope.specs.Refusals.{refusal, refuses}
-use Rattle.in_place_record.specs.Rows.{Leaves, answered_left, csr_left, missed_left, read_word}
+use Rattle.in_place_record.specs.Rows.{Leaves, answered_left, csr_left, missed_left}
 use Rattle.in_place_record.specs.Laws.{On}
 use Rattle.in_place_record.proofs.Laws.{answered_made, missed_made}
 use Rattle.in_place_record.proofs.Shown.{made_by, same}
@@ -44,29 +41,13 @@ done_by d e =
 
 -- a CSR instruction that was fetched
 pub word_made : (r o : List ℕ) → length r ≡ 58 → (w : ℕ)
-    → On r o (stimecmp_effect (view_of r).csrs (stimecmp_word w (view_of r).csrs.vs.vstimecmp (value_of (view_of r).x (rs1_field w)))) (csr_left r o (stimecmp_word w (get_or r 40 0) (read_word r (rs1_field w))))
+    → On r o (stimecmp_effect (view_of r).csrs (stimecmp_word w (view_of r).csrs.vs.vstimecmp (value_of (view_of r).x (rs1_field w)))) (csr_left r o (stimecmp_word w (get_or r 40 0) (value_of r (rs1_field w))))
 word_made r o e w = csr_by r o e (λ old rs1. stimecmp_word w old rs1) (rs1_field w)
 
 -- a refusal leaves every word
 pub refused_made : (r o : List ℕ) (w : Waiting) → w ≡ (view_of r).waiting → Laid (trap_leaves r) o (applied (view_of r) (refused_of (view_of r).csrs w error.WrongAnswer)) r o 0x107
 unfolding applied refused_of leaves_of no_args stored counted bumped event_number listed reply_word out_over error_number trap_leaves trap_left refuses refusal
 refused_made r o w e = record { shows = same refl refl refl (sym e); waits = refl; says = refl; gives = refl }
-
--- a fetch's answer that is no word
-
-missed_by : (x : List ℕ) (c : Csrs) (w : Waiting) (a : ℕ) (b₁ b₂ b₃ b₄ : Bool) →
-    let f : Fetch = pick b₁ (fetch.Page (record { 0 = a })) (pick b₂ (fetch.Access (record { 0 = a })) (pick b₃ (fetch.Misaligned (record { 0 = a })) (pick b₄ (fetch.GuestPage (record { 0 = a })) fetch.Unhandled))) in
-    missed_effect c (missed_of f) ≡ fetch_effect x c w f
-unfolding fetch_effect
-missed_by x c w a true b₂ b₃ b₄ = refl
-missed_by x c w a false true b₃ b₄ = refl
-missed_by x c w a false false true b₄ = refl
-missed_by x c w a false false false true = refl
-missed_by x c w a false false false false = refl
-
-pub missed_fetch : (x : List ℕ) (c : Csrs) (w : Waiting) (a b : ℕ) → eqb b 0 ≡ false → missed_effect c (missed_of (fetch_of a b)) ≡ fetch_effect x c w (fetch_of a b)
-unfolding fetch_of fetch_number
-missed_fetch x c w a b e = rw e (missed_by x c w a (eqb b 1) (eqb b 2) (eqb b 3) (eqb b 4))
 
 -- an answer of another ask's kind, or of no ask's
 
@@ -231,13 +212,19 @@ pub ecall_unfit : (r o : List ℕ) (e : EcallAsk) (number ask a b : ℕ) → wai
     → Laid (trap_leaves r) o (called_of (view_of r) (host_call.Answer (answer_for ask a b))) r o 0x107
 ecall_unfit r o e number ask a b w f n = unfit_made r o (waiting.Ecall e) number ask a b w (ecall_number e ∙ sym f) n
 
-pub missed_answer : (r o s p : List ℕ) (w : Waiting) (a b c : ℕ) → length r ≡ 58 → eqb b 0 ≡ false
-    → Leaves (missed_left r o (missed_of (fetch_of a b))) s p c → Laid (trap_leaves r) o (applied (view_of r) (fetch_effect (view_of r).x (view_of r).csrs w (fetch_of a b))) s p c
-missed_answer r o s p w a b c n e l =
-    subst (λ (q : Effect). Laid (trap_leaves r) o (applied (view_of r) q) s p c) (missed_fetch (view_of r).x (view_of r).csrs w a b e)
-    (made_by (missed_made r o n (missed_of (fetch_of a b))) l)
+-- a fetch's answer that is no word
 
-pub word_answer : (r o s p : List ℕ) (w : Waiting) (a b c : ℕ) → b ≡ 0
-    → Laid (trap_leaves r) o (applied (view_of r) (word_effect (view_of r).x (view_of r).csrs w (a % 2 ^ 32))) s p c → Laid (trap_leaves r) o (applied (view_of r) (fetch_effect (view_of r).x (view_of r).csrs w (fetch_of a b))) s p c
-unfolding fetch_effect fetch_of fetch_number
-word_answer r o s p w a b c e m = rw e m
+missed_is : (x : List ℕ) (c : Csrs) (w : Waiting) (f : Fetch) → ((n : ℕ) → f ≡ fetch.Word n → ⊥) → missed_effect c (missed_of f) ≡ fetch_effect x c w f
+unfolding fetch_effect
+missed_is x c w (fetch.Word n) h = absurd (h n refl)
+missed_is x c w (fetch.Page a) h = refl
+missed_is x c w (fetch.Access a) h = refl
+missed_is x c w (fetch.Misaligned a) h = refl
+missed_is x c w (fetch.GuestPage a) h = refl
+missed_is x c w fetch.Unhandled h = refl
+
+pub missed_answer : (r o s p : List ℕ) (w : Waiting) (f : Fetch) (c : ℕ) → length r ≡ 58 → ((n : ℕ) → f ≡ fetch.Word n → ⊥)
+    → Leaves (missed_left r o (missed_of f)) s p c → Laid (trap_leaves r) o (applied (view_of r) (fetch_effect (view_of r).x (view_of r).csrs w f)) s p c
+missed_answer r o s p w f c n h l =
+    subst (λ (q : Effect). Laid (trap_leaves r) o (applied (view_of r) q) s p c) (missed_is (view_of r).x (view_of r).csrs w f h)
+    (made_by (missed_made r o n (missed_of f)) l)

@@ -17,8 +17,9 @@ ghost use Rattle.in_place_record.specs.Steps.{Laid, Settled, trap_leaves};
 ghost use Rattle.in_place_record.specs.View.{view_of};
 ghost use Rattle.in_place_answer.specs.Words.{answer_words};
 
+use in_place_record::ReplyWord;
 use isa_types::GuestPhysAddr;
-use scope::{Access, EcallAsk, Waiting};
+use scope::{Access, EcallAsk, Fetch, Waiting};
 
 // An answer: the ask's number, and two numbers.
 #[derive(Clone, Copy)]
@@ -39,12 +40,28 @@ pub fn answer_words(a: &[u64; 3]) -> AnswerWords
     }
 }
 
-// Answers the ask that waits.
+// Answers the ask that waits: by what waits, and only then by the answer's number. Where no ask waits every answer is refused.
 pub fn answer(r: &mut [u64; 58], out: &mut [u64; 8], a: AnswerWords) -> u64
     ensures { Laid (trap_leaves r.old) out.old (called_of (view_of r.old) (host_call.Answer (answer_for a.ask a.word a.more))) r.new out.new result }
 {
-    let w = in_place_read::waiting(r);
-    waits(r, out, w, a.ask, a.word, a.more)
+    match in_place_read::waiting(r) {
+        Waiting::FetchCsr => {
+            if a.ask == 1 {
+                csr_fetched(r, out, a)
+            } else {
+                ReplyWord::WrongAnswer as u64
+            }
+        }
+        Waiting::FetchFault { at, access } => {
+            if a.ask == 1 {
+                mmio_fetched(r, out, at, access, a)
+            } else {
+                ReplyWord::WrongAnswer as u64
+            }
+        }
+        Waiting::Ecall(e) => ecall_waits(r, out, e, a),
+        Waiting::Idle | Waiting::Load { .. } => ReplyWord::WrongAnswer as u64,
+    }
 }
 
 // Completes the load that waits.
@@ -56,152 +73,65 @@ pub fn complete_load(r: &mut [u64; 58], n: u64) -> u64
     in_place_record::complete(r, w, n)
 }
 
-// By what waits, and only then by the answer's number. Where no ask waits every answer is refused.
-fn waits(r: &mut [u64; 58], out: &mut [u64; 8], w: Waiting, ask: u64, word: u64, more: u64) -> u64
-    ensures { w ≡ (view_of r.old).waiting → Laid (trap_leaves r.old) out.old (called_of (view_of r.old) (host_call.Answer (answer_for ask word more))) r.new out.new result }
-{
-    match w {
-        Waiting::Idle => 0x107,
-        Waiting::Load {
-            rd: _,
-            width: _,
-            signed: _,
-        } => 0x107,
-        Waiting::FetchCsr => fetch_waits(r, out, w, ask, word, more),
-        Waiting::FetchFault { at: _, access: _ } => fetch_waits(r, out, w, ask, word, more),
-        Waiting::Ecall(e) => ecall_waits(r, out, e, ask, word, more),
-    }
-}
-
-// A fetch waits: ask 1.
-fn fetch_waits(
-    r: &mut [u64; 58],
-    out: &mut [u64; 8],
-    w: Waiting,
-    ask: u64,
-    word: u64,
-    more: u64,
-) -> u64
-    ensures { w ≡ (view_of r.old).waiting → waiting_ask w ≡ 1 → Laid (trap_leaves r.old) out.old (called_of (view_of r.old) (host_call.Answer (answer_for ask word more))) r.new out.new result }
-{
-    if ask == 1 {
-        return fetched(r, out, w, word, more);
-    }
-    0x107
-}
-
 // An ecall's ask waits. Each has its number at its own place, so that what its answer does follows where the ask is found, and it is
 // not looked for again.
-fn ecall_waits(
-    r: &mut [u64; 58],
-    out: &mut [u64; 8],
-    e: EcallAsk,
-    ask: u64,
-    word: u64,
-    more: u64,
-) -> u64
-    ensures { waiting.Ecall e ≡ (view_of r.old).waiting → Laid (trap_leaves r.old) out.old (called_of (view_of r.old) (host_call.Answer (answer_for ask word more))) r.new out.new result }
+fn ecall_waits(r: &mut [u64; 58], out: &mut [u64; 8], e: EcallAsk, a: AnswerWords) -> u64
+    ensures { waiting.Ecall e ≡ (view_of r.old).waiting → Laid (trap_leaves r.old) out.old (called_of (view_of r.old) (host_call.Answer (answer_for a.ask a.word a.more))) r.new out.new result }
 {
     match e {
-        EcallAsk::CopyMask => answered(2, r, out, EcallAsk::CopyMask, ask, word, more),
-        EcallAsk::CopyIn { count } => {
-            answered(3, r, out, EcallAsk::CopyIn { count }, ask, word, more)
-        }
-        EcallAsk::Print { count } => {
-            answered(4, r, out, EcallAsk::Print { count }, ask, word, more)
-        }
+        EcallAsk::CopyMask => answered(2, r, out, EcallAsk::CopyMask, a),
+        EcallAsk::CopyIn { count } => answered(3, r, out, EcallAsk::CopyIn { count }, a),
+        EcallAsk::Print { count } => answered(4, r, out, EcallAsk::Print { count }, a),
         EcallAsk::ReadConsole { count, at } => {
-            answered(
-                5,
-                r,
-                out,
-                EcallAsk::ReadConsole { count, at },
-                ask,
-                word,
-                more,
-            )
+            answered(5, r, out, EcallAsk::ReadConsole { count, at }, a)
         }
-        EcallAsk::CopyOut { count } => {
-            answered(6, r, out, EcallAsk::CopyOut { count }, ask, word, more)
-        }
-        EcallAsk::PutChar => answered(7, r, out, EcallAsk::PutChar, ask, word, more),
-        EcallAsk::PutByte => answered(7, r, out, EcallAsk::PutByte, ask, word, more),
-        EcallAsk::GetChar => answered(8, r, out, EcallAsk::GetChar, ask, word, more),
-        EcallAsk::Forward => answered(9, r, out, EcallAsk::Forward, ask, word, more),
+        EcallAsk::CopyOut { count } => answered(6, r, out, EcallAsk::CopyOut { count }, a),
+        EcallAsk::PutChar => answered(7, r, out, EcallAsk::PutChar, a),
+        EcallAsk::PutByte => answered(7, r, out, EcallAsk::PutByte, a),
+        EcallAsk::GetChar => answered(8, r, out, EcallAsk::GetChar, a),
+        EcallAsk::Forward => answered(9, r, out, EcallAsk::Forward, a),
     }
 }
 
 // The answer's numbers go to the ask that waits, of this number.
-fn answered(
-    number: u64,
-    r: &mut [u64; 58],
-    out: &mut [u64; 8],
-    e: EcallAsk,
-    ask: u64,
-    word: u64,
-    more: u64,
-) -> u64
-    ensures { waiting.Ecall e ≡ (view_of r.old).waiting → number ≡ ecall_ask_number e → Laid (trap_leaves r.old) out.old (called_of (view_of r.old) (host_call.Answer (answer_for ask word more))) r.new out.new result }
+fn answered(number: u64, r: &mut [u64; 58], out: &mut [u64; 8], e: EcallAsk, a: AnswerWords) -> u64
+    ensures { waiting.Ecall e ≡ (view_of r.old).waiting → number ≡ ecall_ask_number e → Laid (trap_leaves r.old) out.old (called_of (view_of r.old) (host_call.Answer (answer_for a.ask a.word a.more))) r.new out.new result }
 {
     in_place_record::sized(r);
-    if ask == number {
-        return in_place_classes::do_answered(r, out, decide_answers::decide(e, word, more));
+    if a.ask == number {
+        return in_place_classes::do_answered(r, out, decide_answers::decide(e, a.word, a.more));
     }
-    0x107
+    ReplyWord::WrongAnswer as u64
 }
 
-// A fetch gave a word, or its fault is handled.
-fn fetched(r: &mut [u64; 58], out: &mut [u64; 8], w: Waiting, word: u64, more: u64) -> u64
-    ensures { w ≡ (view_of r.old).waiting → Laid (trap_leaves r.old) out.old (applied (view_of r.old) (fetch_effect (view_of r.old).x (view_of r.old).csrs w (fetch_of word more))) r.new out.new result }
+// The fetch of a CSR instruction gave its word, or its fault is handled.
+fn csr_fetched(r: &mut [u64; 58], out: &mut [u64; 8], a: AnswerWords) -> u64
+    ensures { Laid (trap_leaves r.old) out.old (applied (view_of r.old) (fetch_effect (view_of r.old).x (view_of r.old).csrs waiting.FetchCsr (fetch_of a.word a.more))) r.new out.new result }
 {
     in_place_record::sized(r);
-    if more == 0 {
-        return resumed(r, out, w, (word % 0x1_0000_0000) as u32);
-    }
-    in_place_classes::do_missed(
-        r,
-        out,
-        decide_fetch::decide(words_record::fetch_of(word, more)),
-    )
-}
-
-// The trap goes on with the word that was fetched.
-fn resumed(r: &mut [u64; 58], out: &mut [u64; 8], w: Waiting, word: u32) -> u64
-    ensures { w ≡ (view_of r.old).waiting → Laid (trap_leaves r.old) out.old (applied (view_of r.old) (word_effect (view_of r.old).x (view_of r.old).csrs w word)) r.new out.new result }
-{
-    match w {
-        Waiting::Idle => 0x107,
-        Waiting::Load {
-            rd: _,
-            width: _,
-            signed: _,
-        } => 0x107,
-        Waiting::FetchCsr => stimecmp_word(r, out, word as u64),
-        Waiting::FetchFault { at, access } => { mmio_word(r, out, at, access, word) }
-        Waiting::Ecall(_) => 0x107,
+    match words_record::fetch_of(a.word, a.more) {
+        Fetch::Word(word) => stimecmp_word(r, out, word as u64),
+        f => in_place_classes::do_missed(r, out, decide_fetch::decide(f)),
     }
 }
 
-// A load or store whose instruction was fetched.
-fn mmio_word(
+// The fetch of a load or store gave its word, or its fault is handled.
+fn mmio_fetched(
     r: &mut [u64; 58],
     out: &mut [u64; 8],
     at: GuestPhysAddr,
     access: Access,
-    word: u32,
+    a: AnswerWords,
 ) -> u64
-    ensures { Laid (trap_leaves r.old) out.old (applied (view_of r.old) (mmio_of (view_of r.old).x (view_of r.old).csrs at access (fetched_of word))) r.new out.new result }
+    ensures { Laid (trap_leaves r.old) out.old (applied (view_of r.old) (fetch_effect (view_of r.old).x (view_of r.old).csrs (waiting.FetchFault at access) (fetch_of a.word a.more))) r.new out.new result }
 {
     in_place_record::sized(r);
-    let i = isa_decoder::from_fetched(word);
-    let source = in_place_read::read(r, isa_decoder::store_source(i));
-    in_place_classes::do_fault(
-        r,
-        out,
-        at,
-        access,
-        decide_page_fault::decide(access, i, source),
-    )
+    match words_record::fetch_of(a.word, a.more) {
+        Fetch::Word(word) => {
+            in_place_classes::do_mmio(r, out, at, access, isa_decoder::from_fetched(word))
+        }
+        f => in_place_classes::do_missed(r, out, decide_fetch::decide(f)),
+    }
 }
 
 // A CSR instruction that was fetched.
@@ -209,7 +139,7 @@ fn stimecmp_word(r: &mut [u64; 58], out: &mut [u64; 8], word: u64) -> u64
     ensures { Laid (trap_leaves r.old) out.old (applied (view_of r.old) (stimecmp_effect (view_of r.old).csrs (stimecmp_word word (view_of r.old).csrs.vs.vstimecmp (value_of (view_of r.old).x (rs1_field word))))) r.new out.new result }
 {
     in_place_record::sized(r);
-    let rs1 = in_place_read::read(r, isa_fields::rs1(word));
+    let rs1 = decide_record::register(r, isa_fields::rs1(word));
     let d = decide_virtual_inst::decide(word, r[in_place_record::VSTIMECMP], rs1);
     in_place_classes::do_csr(r, out, d)
 }

@@ -1,37 +1,46 @@
 // A virtual instruction, a guest page fault, a failed fetch and an answer, each done on the lent words once it is decided.
 #![tactic(auto)]
 
+ghost use Rattle.scope.specs.GuestPageFault.{mmio_of};
+ghost use Rattle.scope.specs.Record.{applied};
+ghost use Rattle.in_place_record.specs.Steps.{Laid, trap_leaves};
+ghost use Rattle.in_place_record.specs.View.{view_of};
 ghost use Rattle.in_place_record.specs.Rows.{Leaves, answered_left, csr_left, fault_left, missed_left};
 
+use in_place_record::{ReplyWord, WaitingKind};
+use isa_decoder::Trapped;
 use isa_types::GuestPhysAddr;
 use scope::{Access, Answered, Fault, Missed, Stimecmp};
+use words_numbers::Numbered;
 
 // Does a virtual instruction.
+#[tactic(auto, unfolding(in_place_record::specs::Rows::csr_left))]
 pub fn do_csr(r: &mut [u64; 58], out: &mut [u64; 8], d: Stimecmp) -> u64
     ensures { Leaves (csr_left r.old out.old d) r.new out.new result }
 {
     match d {
         Stimecmp::Illegal => {
             in_place_write::bump(r, 2);
-            r[in_place_record::KIND] = 0;
-            0x103
+            r[in_place_record::KIND] = WaitingKind::Idle as u64;
+            ReplyWord::Unsupported as u64
         }
         Stimecmp::Fetch => {
             in_place_read::ask_fetch(r, out);
-            r[in_place_record::KIND] = 2;
-            0x21
+            r[in_place_record::KIND] = WaitingKind::FetchCsr as u64;
+            ReplyWord::Fetch as u64
         }
         Stimecmp::Write { rd, timer } => {
             let old = r[in_place_record::VSTIMECMP];
             r[in_place_record::VSTIMECMP] = timer;
             in_place_write::step(r, 4);
             in_place_record::put(r, rd, old);
-            0
+            ReplyWord::Nothing as u64
         }
     }
 }
 
 // Does a guest page fault.
+#[tactic(auto, unfolding(in_place_record::specs::Rows::fault_left))]
 pub fn do_fault(
     r: &mut [u64; 58],
     out: &mut [u64; 8],
@@ -44,24 +53,24 @@ pub fn do_fault(
     match d {
         Fault::Fetch => {
             in_place_read::ask_fetch(r, out);
-            r[in_place_record::KIND] = 3;
+            r[in_place_record::KIND] = WaitingKind::FetchFault as u64;
             r[in_place_record::FIRST] = at.0;
-            r[in_place_record::SECOND] = words_numbers::access_number(access);
-            0x21
+            r[in_place_record::SECOND] = access.number();
+            ReplyWord::Fetch as u64
         }
         Fault::Walk => {
-            r[in_place_record::KIND] = 0;
-            0x103
+            r[in_place_record::KIND] = WaitingKind::Idle as u64;
+            ReplyWord::Unsupported as u64
         }
         Fault::Unfit => {
-            r[in_place_record::KIND] = 0;
-            0x105
+            r[in_place_record::KIND] = WaitingKind::Idle as u64;
+            ReplyWord::DecodeFailed as u64
         }
         Fault::Nested => {
             out[0] = at.0;
-            out[1] = words_numbers::access_number(access);
-            r[in_place_record::KIND] = 0;
-            8
+            out[1] = access.number();
+            r[in_place_record::KIND] = WaitingKind::Idle as u64;
+            ReplyWord::NestedPageFault as u64
         }
         Fault::Load {
             width,
@@ -69,15 +78,15 @@ pub fn do_fault(
             rd,
             length,
         } => {
-            let bytes = words_numbers::width_bytes(width);
+            let bytes = width.number();
             out[0] = at.0;
             out[1] = bytes;
-            r[in_place_record::KIND] = 1;
+            r[in_place_record::KIND] = WaitingKind::Load as u64;
             r[in_place_record::FIRST] = rd as u64;
             r[in_place_record::SECOND] = bytes;
-            r[in_place_record::THIRD] = words_record::flag(signed);
+            r[in_place_record::THIRD] = signed.number();
             in_place_record::advance(r, length);
-            9
+            ReplyWord::MmioRead as u64
         }
         Fault::Store {
             width,
@@ -85,15 +94,39 @@ pub fn do_fault(
             length,
         } => {
             out[0] = at.0;
-            out[1] = words_numbers::width_bytes(width);
+            out[1] = width.number();
             out[2] = data;
             in_place_write::step(r, length);
-            10
+            ReplyWord::MmioWrite as u64
         }
     }
 }
 
+// Does a load or store of a device, once its instruction is known: a trap's, or the word of a fetch. It is always put in its callers'
+// places, so that the instruction passes in registers.
+#[inline(always)]
+pub fn do_mmio(
+    r: &mut [u64; 58],
+    out: &mut [u64; 8],
+    at: GuestPhysAddr,
+    access: Access,
+    i: Trapped,
+) -> u64
+    ensures { Laid (trap_leaves r.old) out.old (applied (view_of r.old) (mmio_of (view_of r.old).x (view_of r.old).csrs at access i)) r.new out.new result }
+{
+    in_place_record::sized(r);
+    let source = decide_record::register(r, isa_decoder::store_source(i));
+    do_fault(
+        r,
+        out,
+        at,
+        access,
+        decide_page_fault::decide(access, i, source),
+    )
+}
+
 // Does a failed fetch.
+#[tactic(auto, unfolding(in_place_record::specs::Rows::missed_left))]
 pub fn do_missed(r: &mut [u64; 58], out: &mut [u64; 8], d: Missed) -> u64
     ensures { Leaves (missed_left r.old out.old d) r.new out.new result }
 {
@@ -101,58 +134,58 @@ pub fn do_missed(r: &mut [u64; 58], out: &mut [u64; 8], d: Missed) -> u64
         Missed::Inject { cause, addr } => {
             let c = in_place_read::csrs(r);
             in_place_write::inject(r, decide_fetch::inject(c, cause, addr));
-            0
+            ReplyWord::Nothing as u64
         }
         Missed::Nested(addr) => {
             out[0] = addr.0;
             out[1] = 4;
-            r[in_place_record::KIND] = 0;
-            8
+            r[in_place_record::KIND] = WaitingKind::Idle as u64;
+            ReplyWord::NestedPageFault as u64
         }
         Missed::Unhandled => {
-            r[in_place_record::KIND] = 0;
-            0x106
+            r[in_place_record::KIND] = WaitingKind::Idle as u64;
+            ReplyWord::GuestMemoryFault as u64
         }
     }
 }
 
 // Does the answer to an ecall's ask.
+#[tactic(auto, unfolding(in_place_record::specs::Rows::answered_left))]
 pub fn do_answered(r: &mut [u64; 58], out: &mut [u64; 8], d: Answered) -> u64
     ensures { Leaves (answered_left r.old out.old d) r.new out.new result }
 {
     match d {
         Answered::Moves => {
             in_place_write::step(r, 4);
-            0
+            ReplyWord::Nothing as u64
         }
         Answered::Gives(n) => {
             in_place_record::give(r, n);
-            0
+            ReplyWord::Nothing as u64
         }
         Answered::Returns(e, v) => {
             in_place_write::pair(r, e, v);
-            0
+            ReplyWord::Nothing as u64
         }
         Answered::SendIpi(request) => {
-            let abi = request.abi;
             out[0] = request.mask;
             out[1] = request.base;
-            out[2] = words_numbers::abi_number(abi);
+            out[2] = request.abi.number();
             in_place_write::step(r, 4);
-            2
+            ReplyWord::SendIpi as u64
         }
         Answered::Print(n) => {
             out[0] = n;
-            r[in_place_record::KIND] = 6;
+            r[in_place_record::KIND] = WaitingKind::Print as u64;
             r[in_place_record::FIRST] = n;
-            0x24
+            ReplyWord::Print as u64
         }
         Answered::CopyOut(at, n) => {
             out[0] = at.0;
             out[1] = n;
-            r[in_place_record::KIND] = 8;
+            r[in_place_record::KIND] = WaitingKind::CopyOut as u64;
             r[in_place_record::FIRST] = n;
-            0x26
+            ReplyWord::CopyOut as u64
         }
     }
 }

@@ -1,12 +1,14 @@
 // An SBI call, done on the lent words once it is decided.
-#![tactic(auto)]
+#![tactic(auto, unfolding(in_place_record::specs::Rows::call_left))]
 
 ghost use Rattle.std.specs.Prelude.{◌≡◌, set};
 ghost use Rattle.in_place_record.specs.Rows.{Leaves, call_left, left, one, step_words, three};
 ghost use Rattle.scope.specs.declared.decided.SbiCall.TheVariants as call;
 
+use in_place_record::{ReplyWord, WaitingKind};
 use isa_types::GuestPhysAddr;
 use scope::{Event, SbiCall};
+use words_numbers::Numbered;
 
 // Does an SBI call.
 pub fn do_call(r: &mut [u64; 58], out: &mut [u64; 8], d: SbiCall) -> u64
@@ -15,21 +17,21 @@ pub fn do_call(r: &mut [u64; 58], out: &mut [u64; 8], d: SbiCall) -> u64
     match d {
         SbiCall::Returns(e, v) => {
             in_place_write::pair(r, e, v);
-            0
+            ReplyWord::Nothing as u64
         }
         SbiCall::Moves => {
             in_place_write::step(r, 4);
-            0
+            ReplyWord::Nothing as u64
         }
         SbiCall::LegacyTimer(a0) => {
             in_place_write::timer(r, a0);
             in_place_record::give(r, 0);
-            0
+            ReplyWord::Nothing as u64
         }
         SbiCall::SetTimer(deadline) => {
             in_place_write::timer(r, deadline);
             in_place_write::pair(r, 0, 0);
-            0
+            ReplyWord::Nothing as u64
         }
         SbiCall::ClearIpi => {
             r[in_place_record::HVIP] = isa_registers::with_bits(
@@ -38,32 +40,62 @@ pub fn do_call(r: &mut [u64; 58], out: &mut [u64; 8], d: SbiCall) -> u64
                 false,
             );
             in_place_record::give(r, 0);
-            0
+            ReplyWord::Nothing as u64
         }
-        SbiCall::PutChar(n) => tells(r, out, n, 9, 0x27),
-        SbiCall::GetChar => waits(r, 11, 0x28),
-        SbiCall::CopyMask(at) => tells(r, out, at.0, 4, 0x22),
+        SbiCall::PutChar(n) => tells(
+            r,
+            out,
+            n,
+            WaitingKind::PutChar as u64,
+            ReplyWord::Emit as u64,
+        ),
+        SbiCall::GetChar => waits(r, WaitingKind::GetChar as u64, ReplyWord::GetChar as u64),
+        SbiCall::CopyMask(at) => tells(
+            r,
+            out,
+            at.0,
+            WaitingKind::CopyMask as u64,
+            ReplyWord::CopyMask as u64,
+        ),
         SbiCall::SendIpi(request) => {
-            let abi = request.abi;
             passes(
                 r,
                 out,
                 request.mask,
                 request.base,
-                words_numbers::abi_number(abi),
-                2,
+                request.abi.number(),
+                ReplyWord::SendIpi as u64,
             )
         }
         SbiCall::CpuUp(target_cpu, entry_point, arg) => {
-            passes(r, out, target_cpu, entry_point.0, arg, 3)
+            passes(
+                r,
+                out,
+                target_cpu,
+                entry_point.0,
+                arg,
+                ReplyWord::CpuUp as u64,
+            )
         }
-        SbiCall::CpuDown => tells(r, out, 0, 0, 4),
-        SbiCall::Halt => waits(r, 0, 5),
-        SbiCall::SystemDown => waits(r, 0, 7),
+        SbiCall::CpuDown => tells(
+            r,
+            out,
+            0,
+            WaitingKind::Idle as u64,
+            ReplyWord::CpuDown as u64,
+        ),
+        SbiCall::Halt => waits(r, WaitingKind::Idle as u64, ReplyWord::Halt as u64),
+        SbiCall::SystemDown => waits(r, WaitingKind::Idle as u64, ReplyWord::SystemDown as u64),
         SbiCall::Hypercall => hypercall(r, out),
         SbiCall::CopyIn(at, n) => copy_in(r, out, at, n),
         SbiCall::ReadConsole(at, n) => read_console(r, out, at, n),
-        SbiCall::PutByte(n) => tells(r, out, n, 10, 0x27),
+        SbiCall::PutByte(n) => tells(
+            r,
+            out,
+            n,
+            WaitingKind::PutByte as u64,
+            ReplyWord::Emit as u64,
+        ),
         SbiCall::Forward(event) => forward(r, out, event),
     }
 }
@@ -102,7 +134,7 @@ fn hypercall(r: &mut [u64; 58], out: &mut [u64; 8]) -> u64
     out[0] = r[in_place_record::A6];
     in_place_read::six(r, out);
     in_place_write::step(r, 4);
-    6
+    ReplyWord::Hypercall as u64
 }
 
 fn copy_in(r: &mut [u64; 58], out: &mut [u64; 8], at: GuestPhysAddr, n: u64) -> u64
@@ -110,19 +142,19 @@ fn copy_in(r: &mut [u64; 58], out: &mut [u64; 8], at: GuestPhysAddr, n: u64) -> 
 {
     out[0] = at.0;
     out[1] = n;
-    r[in_place_record::KIND] = 5;
+    r[in_place_record::KIND] = WaitingKind::CopyIn as u64;
     r[in_place_record::FIRST] = n;
-    0x23
+    ReplyWord::CopyIn as u64
 }
 
 fn read_console(r: &mut [u64; 58], out: &mut [u64; 8], at: GuestPhysAddr, n: u64) -> u64
     ensures { Leaves (call_left r.old out.old (call.ReadConsole at n)) r.new out.new result }
 {
     out[0] = n;
-    r[in_place_record::KIND] = 7;
+    r[in_place_record::KIND] = WaitingKind::ReadConsole as u64;
     r[in_place_record::FIRST] = n;
     r[in_place_record::SECOND] = at.0;
-    0x25
+    ReplyWord::ReadConsole as u64
 }
 
 fn forward(r: &mut [u64; 58], out: &mut [u64; 8], event: Event) -> u64
@@ -131,7 +163,7 @@ fn forward(r: &mut [u64; 58], out: &mut [u64; 8], event: Event) -> u64
     out[0] = r[in_place_record::A7];
     out[1] = r[in_place_record::A6];
     in_place_read::six(r, out);
-    in_place_write::bump(r, in_place_write::event_number(event));
-    r[in_place_record::KIND] = 12;
-    0x29
+    in_place_write::bump(r, event.number() as usize);
+    r[in_place_record::KIND] = WaitingKind::Forward as u64;
+    ReplyWord::Forward as u64
 }

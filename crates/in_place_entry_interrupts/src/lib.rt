@@ -5,12 +5,15 @@
 ghost use Rattle.scope.specs.Words.{call_by};
 ghost use Rattle.in_place_record.specs.View.{Done};
 
+use words_numbers::FromNumber;
+use scope::{IpiAbi, IpiCompletion};
+
 // Sets or clears a pending interrupt of the guest; level 0 clears.
 #[unsafe(no_mangle)]
 pub extern "C" fn vcpu_set_pending(r: &mut [u64; 58], vector: u64, level: u64) -> u64
     ensures { Done r.old (call_by 7 vector level 0 0 0) r.new result }
 {
-    in_place_host_calls::set_pending(r, vector, words_record::test(level))
+    in_place_host_calls::set_pending(r, vector, bool::from_number(level))
 }
 
 // Latches pending bits that the hardware raised.
@@ -28,7 +31,7 @@ pub extern "C" fn vcpu_complete_ipi(r: &mut [u64; 58], convention: u64, completi
 {
     in_place_host_calls::complete_ipi(
         r,
-        words_record::abi_of(convention),
-        words_record::completion_of(completion),
+        IpiAbi::from_number(convention),
+        IpiCompletion::from_number(completion),
     )
 }

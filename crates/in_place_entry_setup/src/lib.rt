@@ -5,6 +5,7 @@
 ghost use Rattle.scope.specs.Words.{call_by};
 ghost use Rattle.in_place_record.specs.View.{Done};
 
+use in_place_record::ReplyWord;
 use isa_types::GuestPhysAddr;
 
 // A record of zeros but for what a guest finds at its start: a0 is its hart, a1 where the device tree lies.
@@ -13,7 +14,7 @@ pub extern "C" fn vcpu_new(r: &mut [u64; 58], hart_id: u64, dtb_addr: u64) -> u6
     ensures { Done r.old (call_by 14 hart_id dtb_addr 0 0 0) r.new result }
 {
     in_place_host_calls::new(r, hart_id, dtb_addr);
-    0x40
+    ReplyWord::Done as u64
 }
 
 // The state that a guest starts with.

@@ -7,9 +7,12 @@ ghost use Rattle.scope.specs.Refusals.{error_number};
 ghost use Rattle.scope.specs.ReplyWords.{reply_word};
 ghost use Rattle.in_place_host.specs.Host.{host_words, write_words};
 
+use in_place_record::ReplyWord;
 use scope::{Ask, Effect, Error, Reply, Writes};
+use words_numbers::Numbered;
 
 // Writes an effect that counts nothing and leaves what waits.
+#[tactic(auto, unfolding(crate::specs::Host::host_words, scope::specs::Words::csrs_words))]
 pub fn host(r: &mut [u64; 58], e: Effect) -> u64
     ensures { (r.new ≡ host_words r.old e) × (result ≡ reply_word e.reply) }
 {
@@ -32,6 +35,7 @@ pub fn host(r: &mut [u64; 58], e: Effect) -> u64
     reply_word(reply)
 }
 
+#[tactic(auto, unfolding(crate::specs::Host::write_words))]
 fn write(r: &mut [u64; 58], w: Writes)
     ensures { r.new ≡ write_words r.old w }
 {
@@ -45,51 +49,47 @@ fn write(r: &mut [u64; 58], w: Writes)
     }
 }
 
+#[tactic(auto, unfolding(scope::specs::ReplyWords::reply_word))]
 fn reply_word(p: Reply) -> u64
     ensures { result ≡ reply_word p }
 {
     match p {
-        Reply::Exit(e) => words_numbers::exit_number(e),
+        Reply::Exit(e) => e.number(),
         Reply::Ask(a) => ask_word(a),
-        Reply::Done => 0x40,
-        Reply::Value(_) => 0x41,
+        Reply::Done => ReplyWord::Done as u64,
+        Reply::Value(_) => ReplyWord::Value as u64,
         Reply::Error(e) => error_word(e),
     }
 }
 
+#[tactic(auto, unfolding(scope::specs::OneTrap::ask_number))]
 fn ask_word(a: Ask) -> u64
     ensures { result ≡ 32 + ask_number a }
 {
     match a {
-        Ask::Fetch {
-            at: _,
-            supervisor: _,
-        } => 0x21,
-        Ask::CopyMask { at: _ } => 0x22,
-        Ask::CopyIn { at: _, count: _ } => 0x23,
-        Ask::Print { count: _ } => 0x24,
-        Ask::ReadConsole { count: _ } => 0x25,
-        Ask::CopyOut { at: _, count: _ } => 0x26,
-        Ask::Emit { number: _ } => 0x27,
-        Ask::GetChar => 0x28,
-        Ask::Forward {
-            eid: _,
-            fid: _,
-            args: _,
-        } => 0x29,
+        Ask::Fetch { .. } => ReplyWord::Fetch as u64,
+        Ask::CopyMask { .. } => ReplyWord::CopyMask as u64,
+        Ask::CopyIn { .. } => ReplyWord::CopyIn as u64,
+        Ask::Print { .. } => ReplyWord::Print as u64,
+        Ask::ReadConsole { .. } => ReplyWord::ReadConsole as u64,
+        Ask::CopyOut { .. } => ReplyWord::CopyOut as u64,
+        Ask::Emit { .. } => ReplyWord::Emit as u64,
+        Ask::GetChar => ReplyWord::GetChar as u64,
+        Ask::Forward { .. } => ReplyWord::Forward as u64,
     }
 }
 
+#[tactic(auto, unfolding(scope::specs::Refusals::error_number))]
 fn error_word(e: Error) -> u64
     ensures { result ≡ 256 + error_number e }
 {
     match e {
-        Error::InvalidInput => 0x101,
-        Error::BadState => 0x102,
-        Error::Unsupported => 0x103,
-        Error::InvalidTrap => 0x104,
-        Error::DecodeFailed => 0x105,
-        Error::GuestMemoryFault => 0x106,
-        Error::WrongAnswer => 0x107,
+        Error::InvalidInput => ReplyWord::InvalidInput as u64,
+        Error::BadState => ReplyWord::BadState as u64,
+        Error::Unsupported => ReplyWord::Unsupported as u64,
+        Error::InvalidTrap => ReplyWord::InvalidTrap as u64,
+        Error::DecodeFailed => ReplyWord::DecodeFailed as u64,
+        Error::GuestMemoryFault => ReplyWord::GuestMemoryFault as u64,
+        Error::WrongAnswer => ReplyWord::WrongAnswer as u64,
     }
 }

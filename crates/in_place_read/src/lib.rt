@@ -1,12 +1,13 @@
-// Reading a vCPU record of 58 lent words: what waits, a register, the arguments of a call, the CSRs; and the words of the
+// Reading a vCPU record of 58 lent words: what waits, the CSRs; and the words of the
 // reply that are read off it.
 #![tactic(auto)]
 
 ghost use Rattle.std.specs.Prelude.{◌≡◌};
 ghost use Rattle.in_place_record.specs.View.{view_of};
-ghost use Rattle.in_place_record.specs.Rows.{args_words, fetch_out, read_word, six_words};
+ghost use Rattle.in_place_record.specs.Rows.{fetch_out, six_words};
 
-use scope::{Args, Csrs, GuestCsrs, HsCsrs, VsCsrs, Waiting};
+use scope::{Csrs, GuestCsrs, HsCsrs, VsCsrs, Waiting};
+use words_numbers::Numbered;
 
 // What waits.
 pub fn waiting(r: &[u64; 58]) -> Waiting
@@ -21,31 +22,8 @@ pub fn waiting(r: &[u64; 58]) -> Waiting
     )
 }
 
-// A general register; x0 reads 0.
-pub fn read(r: &[u64; 58], i: usize) -> u64
-    ensures { result ≡ read_word r.now i }
-{
-    if i < 32 {
-        return isa_types::select(i == 0, 0, r[i]);
-    }
-    0
-}
-
-// a0 to a5.
-pub fn args(r: &[u64; 58]) -> Args
-    ensures { result ≡ args_words r.now }
-{
-    Args {
-        a0: r[in_place_record::A0],
-        a1: r[in_place_record::A1],
-        a2: r[in_place_record::A2],
-        a3: r[in_place_record::A3],
-        a4: r[in_place_record::A4],
-        a5: r[in_place_record::A5],
-    }
-}
-
 // a0 to a5 into the reply.
+#[tactic(auto, unfolding(in_place_record::specs::Rows::six_words))]
 pub fn six(r: &[u64; 58], out: &mut [u64; 8])
     ensures { out.new ≡ six_words r.now out.old }
 {
@@ -58,11 +36,12 @@ pub fn six(r: &[u64; 58], out: &mut [u64; 8])
 }
 
 // Ask 1: at sepc, with the guest's rights.
+#[tactic(auto, unfolding(in_place_record::specs::Rows::fetch_out))]
 pub fn ask_fetch(r: &[u64; 58], out: &mut [u64; 8])
     ensures { out.new ≡ fetch_out r.now out.old }
 {
     out[0] = r[in_place_record::SEPC];
-    out[1] = words_record::flag(isa_registers::spvp(r[in_place_record::HSTATUS]));
+    out[1] = isa_registers::spvp(r[in_place_record::HSTATUS]).number();
 }
 
 pub fn csrs(r: &[u64; 58]) -> Csrs

@@ -29,13 +29,14 @@ use Rattle.in_place_record.specs.View.{record_of, view_of}
 use Rattle.scope.specs.ReplyWords.{reply_word}
 use Rattle.scope.specs.Words.{trap_left, waiting_count, asked_word_count}
 use Rattle.scope.specs.Refusals.{refusal, refuses}
-use Rattle.in_place_record.specs.Rows.{answered_left, args_words, bump_words, call_left, complete_word, complete_words, csr_left, fault_left, fetch_out, give_words, inject_words, missed_left, moved_words, pair_words, six_words, step_words, timer_words}
+use Rattle.in_place_record.specs.Rows.{answered_left, bump_words, call_left, complete_word, complete_words, csr_left, fault_left, fetch_out, give_words, inject_words, missed_left, moved_words, pair_words, six_words, step_words, timer_words}
 use Rattle.in_place_record.specs.Spelled.{spelled}
 use Rattle.in_place_record.specs.Laws.{On}
 use Rattle.in_place_record.proofs.Shown.{put_keeps, put_shows, same}
+use Rattle.scope.specs.Classes.{arguments_of}
 
-pub call_spelled : (k o : List ℕ) (d : SbiCall) → let r : List ℕ = spelled 58 0 k in On r o (call_effect (view_of r).csrs (get_or r 17 0) (get_or r 16 0) (args_words r) d) (call_left r o d)
-unfolding view_of record_of unpack_of csrs_of waiting_of waiting_by kind_word applied call_effect returns_of moves_of set_timer_of finished_of asking_of no_args stored counted bumped event_number listed moved timed pended reply_word out_over exit_count ask_count beside_of exit_number ask_number exit_values ask_values call_left pair_words give_words step_words moved_words timer_words bump_words args_words six_words clear_ipi_of asks_of stays_of hypercall_of abi_number trap_leaves trap_left refuses refusal waiting_count asked_word_count asked_words waiting_words gives_of forward_effect
+pub call_spelled : (k o : List ℕ) (d : SbiCall) → let r : List ℕ = spelled 58 0 k in On r o (call_effect (view_of r).csrs (get_or r 17 0) (get_or r 16 0) (arguments_of r) d) (call_left r o d)
+unfolding view_of record_of unpack_of csrs_of waiting_of waiting_by kind_word applied call_effect returns_of moves_of set_timer_of finished_of asking_of no_args stored counted bumped event_number listed moved timed pended reply_word out_over exit_count ask_count beside_of exit_number ask_number exit_values ask_values call_left pair_words give_words step_words moved_words timer_words bump_words arguments_of six_words clear_ipi_of asks_of stays_of hypercall_of abi_number trap_leaves trap_left refuses refusal waiting_count asked_word_count asked_words waiting_words gives_of forward_effect
 call_spelled k o (call.Returns e v) = record { shows = refl; waits = refl; says = refl; gives = refl }
 call_spelled k o call.Moves = record { shows = refl; waits = refl; says = refl; gives = refl }
 call_spelled k o (call.LegacyTimer d) = record { shows = refl; waits = refl; says = refl; gives = refl }

@@ -19,16 +19,17 @@ use Rattle.scope.specs.declared.decided.Answered.{Answered}
 use Rattle.scope.specs.Words.{csrs_of, unpack_of, waiting_by, waiting_of}
 use Rattle.in_place_record.specs.Steps.{Settled, trap_leaves}
 use Rattle.in_place_record.specs.View.{record_of, view_of}
-use Rattle.in_place_record.specs.Rows.{answered_left, args_words, call_left, complete_word, complete_words, csr_left, fault_left, missed_left, put_word, read_word}
+use Rattle.in_place_record.specs.Rows.{answered_left, call_left, complete_word, complete_words, csr_left, fault_left, missed_left, put_word}
 use Rattle.in_place_record.specs.Spelled.{spelled}
 use Rattle.in_place_record.specs.Laws.{On, csrs_at}
 use Rattle.in_place_record.proofs.Shown.{over}
 use Rattle.in_place_record.proofs.EachRow.{answered_spelled, call_spelled, complete_spelled, csr_spelled, fault_spelled, missed_spelled}
+use Rattle.scope.specs.Classes.{arguments_of}
 
 -- an SBI call
-pub call_made : (r o : List ℕ) → length r ≡ 58 → (d : SbiCall) → On r o (call_effect (view_of r).csrs (get_or r 17 0) (get_or r 16 0) (args_words r) d) (call_left r o d)
+pub call_made : (r o : List ℕ) → length r ≡ 58 → (d : SbiCall) → On r o (call_effect (view_of r).csrs (get_or r 17 0) (get_or r 16 0) (arguments_of r) d) (call_left r o d)
 call_made r o e d =
-    over (λ r. On r o (call_effect (view_of r).csrs (get_or r 17 0) (get_or r 16 0) (args_words r) d) (call_left r o d)) (λ k. call_spelled k o d) r e
+    over (λ r. On r o (call_effect (view_of r).csrs (get_or r 17 0) (get_or r 16 0) (arguments_of r) d) (call_left r o d)) (λ k. call_spelled k o d) r e
 
 -- a virtual instruction
 pub csr_made : (r o : List ℕ) → length r ≡ 58 → (d : Stimecmp) → On r o (stimecmp_effect (view_of r).csrs d) (csr_left r o d)
@@ -86,18 +87,6 @@ pub put_beyond : (r : List ℕ) (i n : ℕ) → ltb i 32 ≡ false → r ≡ put
 unfolding put_word
 put_beyond r i n h = rw h (same_pick (eqb i 0) r)
 
-no_register : (b : Bool) → ◌≡◌ {A = ℕ} 0 (pick b 0 0)
-no_register true = refl
-no_register false = refl
-
-pub read_straight : (r : List ℕ) (i : ℕ) → ltb i 32 ≡ true → pick (eqb i 0) 0 (get_or r i 0) ≡ read_word r i
-unfolding read_word
-read_straight r i h = rw h refl
-
-pub read_beyond : (r : List ℕ) (i : ℕ) → ltb i 32 ≡ false → 0 ≡ read_word r i
-unfolding read_word
-read_beyond r i h = rw h (no_register (eqb i 0))
-
 -- a register, read of the words or of the record
 
 read_by_lem : (r : List ℕ) (i : ℕ) (b c : Bool) → ltb i 32 ≡ c → pick b 0 (pick c (get_or r i 0) 0) ≡ pick b 0 (pick c (get_or (view_of r).x i 0) 0)
@@ -106,6 +95,6 @@ read_by_lem r i true c e = refl
 read_by_lem r i false true e = sym (get_or-take 32 r i 0 (ltb-true i 32 e))
 read_by_lem r i false false e = refl
 
-pub read_shows : (r : List ℕ) (i : ℕ) → read_word r i ≡ value_of (view_of r).x i
-unfolding read_word value_of
+pub read_shows : (r : List ℕ) (i : ℕ) → value_of r i ≡ value_of (view_of r).x i
+unfolding value_of
 read_shows r i = read_by_lem r i (eqb i 0) (ltb i 32) refl

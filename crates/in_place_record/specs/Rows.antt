@@ -41,10 +41,6 @@ pub record Leaves (l : Left) (r o : List ℕ) (w : ℕ) : Type 0 where
   pub out : o ≡ l.out
   pub word : w ≡ l.word
 
--- register i, of the words; x0 reads 0
-unfoldable pub read_word : List ℕ → ℕ → ℕ
-read_word r i = pick (eqb i 0) 0 (pick (ltb i 32) (get_or r i 0) 0)
-
 -- register i written; x0 never is
 unfoldable pub put_word : List ℕ → ℕ → ℕ → List ℕ
 put_word r i n = pick (eqb i 0) r (pick (ltb i 32) (set r i n) r)
@@ -88,11 +84,6 @@ unfoldable pub six_words : List ℕ → List ℕ → List ℕ
 six_words r o =
     set (set (set (set (set (set o 2 (get_or r 10 0)) 3 (get_or r 11 0)) 4 (get_or r 12 0)) 5 (get_or r 13 0)) 6 (get_or r 14 0)) 7
     (get_or r 15 0)
-
--- a0 to a5
-unfoldable pub args_words : List ℕ → Args
-args_words r =
-    record { a0 = get_or r 10 0; a1 = get_or r 11 0; a2 = get_or r 12 0; a3 = get_or r 13 0; a4 = get_or r 14 0; a5 = get_or r 15 0 }
 
 -- ask 1 at sepc
 unfoldable pub fetch_out : List ℕ → List ℕ → List ℕ

@@ -8,6 +8,59 @@ ghost use Rattle.in_place_record.specs.Rows.{complete_word, complete_words, give
 
 use scope::Waiting;
 
+// What a call returns, as `reply_word` of scope/specs/ReplyWords.antt has it: an exit's number, 0x20 and an ask's, done or a value, 0x100
+// and a refusal's. The functions return the number, since the exported ones hand that very word to C.
+#[derive(Clone, Copy)]
+pub enum ReplyWord {
+    Nothing = 0,
+    ExternalInterrupt = 1,
+    SendIpi = 2,
+    CpuUp = 3,
+    CpuDown = 4,
+    Halt = 5,
+    Hypercall = 6,
+    SystemDown = 7,
+    NestedPageFault = 8,
+    MmioRead = 9,
+    MmioWrite = 10,
+    Fetch = 0x21,
+    CopyMask = 0x22,
+    CopyIn = 0x23,
+    Print = 0x24,
+    ReadConsole = 0x25,
+    CopyOut = 0x26,
+    Emit = 0x27,
+    GetChar = 0x28,
+    Forward = 0x29,
+    Done = 0x40,
+    Value = 0x41,
+    InvalidInput = 0x101,
+    BadState = 0x102,
+    Unsupported = 0x103,
+    InvalidTrap = 0x104,
+    DecodeFailed = 0x105,
+    GuestMemoryFault = 0x106,
+    WrongAnswer = 0x107,
+}
+
+// The kinds of what waits, as the word KIND has them (`kind_word` of scope/specs/Words.antt).
+#[derive(Clone, Copy)]
+pub enum WaitingKind {
+    Idle = 0,
+    Load = 1,
+    FetchCsr = 2,
+    FetchFault = 3,
+    CopyMask = 4,
+    CopyIn = 5,
+    Print = 6,
+    ReadConsole = 7,
+    CopyOut = 8,
+    PutChar = 9,
+    PutByte = 10,
+    GetChar = 11,
+    Forward = 12,
+}
+
 // Where each word lies.
 pub const A0: usize = 10;
 
@@ -78,19 +131,17 @@ pub fn put(r: &mut [u64; 58], i: usize, n: u64)
 }
 
 // Completes a load, where one waits.
+#[tactic(auto, unfolding(crate::specs::Rows::complete_words, crate::specs::Rows::complete_word))]
 pub fn complete(r: &mut [u64; 58], w: Waiting, n: u64) -> u64
     ensures { (r.new ≡ complete_words r.old w n) × (result ≡ complete_word w) }
 {
     match w {
-        Waiting::Idle => 0x102,
         Waiting::Load { rd, width, signed } => {
-            r[KIND] = 0;
+            r[KIND] = WaitingKind::Idle as u64;
             put(r, rd, isa_extension::extend(width, signed, n));
-            0x40
+            ReplyWord::Done as u64
         }
-        Waiting::FetchCsr => 0x102,
-        Waiting::FetchFault { at: _, access: _ } => 0x102,
-        Waiting::Ecall(_) => 0x102,
+        _ => ReplyWord::BadState as u64,
     }
 }
 
@@ -101,17 +152,19 @@ fn count(s: &[u64]) -> usize
 }
 
 // sepc moves on.
+#[tactic(auto, unfolding(crate::specs::Rows::moved_words, isa_types::specs::Pick::wrapped))]
 pub fn advance(r: &mut [u64; 58], by: u64)
     ensures { r.new ≡ moved_words r.old by }
 {
-    r[SEPC] = decide_record::plus(r[SEPC], by);
+    r[SEPC] = r[SEPC].wrapping_add(by);
 }
 
 // a0 is this, and the call is finished.
+#[tactic(auto, unfolding(crate::specs::Rows::give_words))]
 pub fn give(r: &mut [u64; 58], n: u64)
     ensures { r.new ≡ give_words r.old n }
 {
-    r[KIND] = 0;
+    r[KIND] = WaitingKind::Idle as u64;
     r[A0] = n;
     advance(r, 4);
 }

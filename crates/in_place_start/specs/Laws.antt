@@ -18,7 +18,7 @@ use Rattle.in_place_record.specs.View.{record_of, view_of}
 use Rattle.scope.specs.ReplyWords.{reply_word}
 use Rattle.scope.specs.Words.{trap_left, waiting_count}
 use Rattle.scope.specs.Refusals.{refusal, refuses}
-use Rattle.in_place_record.specs.Rows.{args_words, call_left, csr_left, left, read_word}
+use Rattle.in_place_record.specs.Rows.{call_left, csr_left, left}
 use Rattle.in_place_record.specs.Laws.{On}
 use Rattle.in_place_record.proofs.Laws.{call_made}
 use Rattle.in_place_record.proofs.Shown.{over}
@@ -31,21 +31,21 @@ use Rattle.scope.specs.declared.machine.Writes.TheVariants as writes
 -- an ecall
 
 ecall_spelled : (k o : List ℕ) (room : ℕ) (d : SbiCall) → let r : List ℕ = spelled 58 0 k in
-    ((c : Csrs) → call_effect c (get_or r 17 0) (get_or r 16 0) (args_words r) d ≡ ecall_effect c (get_or r 17 0) (get_or r 16 0) (args_words r) room) → On r o (ecall_effect (view_of r).csrs (get_or (view_of r).x 17 0) (get_or (view_of r).x 16 0) (arguments_of (view_of r).x) room) (call_left r o d)
-unfolding view_of record_of unpack_of ecall_effect arguments_of args_words
+    ((c : Csrs) → call_effect c (get_or r 17 0) (get_or r 16 0) (arguments_of r) d ≡ ecall_effect c (get_or r 17 0) (get_or r 16 0) (arguments_of r) room) → On r o (ecall_effect (view_of r).csrs (get_or (view_of r).x 17 0) (get_or (view_of r).x 16 0) (arguments_of (view_of r).x) room) (call_left r o d)
+unfolding view_of record_of unpack_of ecall_effect arguments_of
 ecall_spelled k o room d h =
     let r : List ℕ = spelled 58 0 k in
     subst (λ e. On r o e (call_left r o d)) (h (view_of r).csrs) (call_made r o refl d)
 
 pub ecall_made : (r o : List ℕ) → length r ≡ 58 → (room : ℕ) (d : SbiCall)
-    → ((c : Csrs) → call_effect c (get_or r 17 0) (get_or r 16 0) (args_words r) d ≡ ecall_effect c (get_or r 17 0) (get_or r 16 0) (args_words r) room) → On r o (ecall_effect (view_of r).csrs (get_or (view_of r).x 17 0) (get_or (view_of r).x 16 0) (arguments_of (view_of r).x) room) (call_left r o d)
+    → ((c : Csrs) → call_effect c (get_or r 17 0) (get_or r 16 0) (arguments_of r) d ≡ ecall_effect c (get_or r 17 0) (get_or r 16 0) (arguments_of r) room) → On r o (ecall_effect (view_of r).csrs (get_or (view_of r).x 17 0) (get_or (view_of r).x 16 0) (arguments_of (view_of r).x) room) (call_left r o d)
 ecall_made r o e room d =
-    over (λ r. ((c : Csrs) → call_effect c (get_or r 17 0) (get_or r 16 0) (args_words r) d ≡ ecall_effect c (get_or r 17 0) (get_or r 16 0) (args_words r) room) → On r o (ecall_effect (view_of r).csrs (get_or (view_of r).x 17 0) (get_or (view_of r).x 16 0) (arguments_of (view_of r).x) room) (call_left r o d))
+    over (λ r. ((c : Csrs) → call_effect c (get_or r 17 0) (get_or r 16 0) (arguments_of r) d ≡ ecall_effect c (get_or r 17 0) (get_or r 16 0) (arguments_of r) room) → On r o (ecall_effect (view_of r).csrs (get_or (view_of r).x 17 0) (get_or (view_of r).x 16 0) (arguments_of (view_of r).x) room) (call_left r o d))
     (λ k. ecall_spelled k o room d) r e
 
 -- a virtual instruction
 pub virtual_made : (r o : List ℕ) → length r ≡ 58 → (stval : ℕ)
-    → On r o (virtual_effect (view_of r).csrs stval (value_of (view_of r).x (rs1_field (stval % 2 ^ 32)))) (csr_left r o (stimecmp_stval stval (get_or r 40 0) (read_word r (rs1_field (stval % 2 ^ 32)))))
+    → On r o (virtual_effect (view_of r).csrs stval (value_of (view_of r).x (rs1_field (stval % 2 ^ 32)))) (csr_left r o (stimecmp_stval stval (get_or r 40 0) (value_of r (rs1_field (stval % 2 ^ 32)))))
 unfolding virtual_effect
 virtual_made r o e stval = csr_by r o e (λ old rs1. stimecmp_stval stval old rs1) (rs1_field (stval % 2 ^ 32))
 

@@ -10,7 +10,7 @@ ghost use Rattle.isa_types.specs.Pick.{pick};
 ghost use Rattle.isa_fields.specs.Fields.{rs1_field};
 ghost use Rattle.scope.specs.Record.{value_of, applied};
 ghost use Rattle.scope.specs.Classes.{arguments_of, class_of, class_effect};
-ghost use Rattle.scope.specs.GuestPageFault.{mmio_of, page_fault_of};
+ghost use Rattle.scope.specs.GuestPageFault.{page_fault_of};
 ghost use Rattle.scope.specs.Ecalls.{ecall_effect};
 ghost use Rattle.scope.specs.VirtualInstruction.{virtual_effect};
 ghost use Rattle.scope.specs.Calls.{called_of};
@@ -18,8 +18,7 @@ ghost use Rattle.in_place_record.specs.Steps.{Laid, trap_leaves};
 ghost use Rattle.in_place_record.specs.View.{view_of};
 ghost use Rattle.in_place_start.specs.Words.{trap_words};
 
-use isa_decoder::Trapped;
-use isa_types::GuestPhysAddr;
+use in_place_record::{ReplyWord, WaitingKind};
 use scope::{Access, Class, Trap};
 
 // The trap of five words, read with no record in sight.
@@ -49,7 +48,7 @@ fn started(idle: bool, r: &mut [u64; 58], out: &mut [u64; 8], t: Trap) -> u64
     if idle {
         return trapped(decide_class::class_of(t.scause), r, out, t);
     }
-    0x102
+    ReplyWord::BadState as u64
 }
 
 // Each class at one place.
@@ -63,16 +62,16 @@ fn trapped(class: Class, r: &mut [u64; 58], out: &mut [u64; 8], t: Trap) -> u64
         Class::PageFault(access) => page_fault(r, out, t, access),
         Class::Interrupt => {
             out[0] = t.scause;
-            r[in_place_record::KIND] = 0;
-            1
+            r[in_place_record::KIND] = WaitingKind::Idle as u64;
+            ReplyWord::ExternalInterrupt as u64
         }
         Class::NotHandled => {
-            r[in_place_record::KIND] = 0;
-            0x103
+            r[in_place_record::KIND] = WaitingKind::Idle as u64;
+            ReplyWord::Unsupported as u64
         }
         Class::Unknown => {
-            r[in_place_record::KIND] = 0;
-            0x104
+            r[in_place_record::KIND] = WaitingKind::Idle as u64;
+            ReplyWord::InvalidTrap as u64
         }
     }
 }
@@ -81,7 +80,7 @@ fn ecall(r: &mut [u64; 58], out: &mut [u64; 8], room: u64) -> u64
     ensures { Laid (trap_leaves r.old) out.old (applied (view_of r.old) (ecall_effect (view_of r.old).csrs (get_or (view_of r.old).x 17 0) (get_or (view_of r.old).x 16 0) (arguments_of (view_of r.old).x) room)) r.new out.new result }
 {
     in_place_record::sized(r);
-    let a = in_place_read::args(r);
+    let a = decide_record::arguments(r);
     let d = decide_ecall::decide(r[in_place_record::A7], r[in_place_record::A6], a, room);
     in_place_ecall::do_call(r, out, d)
 }
@@ -90,7 +89,7 @@ fn virtual_inst(r: &mut [u64; 58], out: &mut [u64; 8], stval: u64) -> u64
     ensures { Laid (trap_leaves r.old) out.old (applied (view_of r.old) (virtual_effect (view_of r.old).csrs stval (value_of (view_of r.old).x (rs1_field (stval % 2 ^ 32))))) r.new out.new result }
 {
     in_place_record::sized(r);
-    let rs1 = in_place_read::read(r, isa_fields::rs1(stval % 0x1_0000_0000));
+    let rs1 = decide_record::register(r, isa_fields::rs1(stval % 0x1_0000_0000));
     let d = decide_virtual_inst::decide_stval(stval, r[in_place_record::VSTIMECMP], rs1);
     in_place_classes::do_csr(r, out, d)
 }
@@ -99,22 +98,5 @@ fn page_fault(r: &mut [u64; 58], out: &mut [u64; 8], t: Trap, access: Access) ->
     ensures { Laid (trap_leaves r.old) out.old (applied (view_of r.old) (page_fault_of (view_of r.old).x (view_of r.old).csrs t access)) r.new out.new result }
 {
     let at = isa_registers::guest_page_fault_addr(t.htval, t.stval);
-    mmio(r, out, at, access, isa_decoder::from_htinst(t.htinst))
-}
-
-// A load or store of a device, once its instruction is known. It has one caller, and in_place_answer's mmio_word does the
-// same for the word of a fetch: a function with one caller is always put in its place, so that the instruction passes in
-// registers.
-fn mmio(r: &mut [u64; 58], out: &mut [u64; 8], at: GuestPhysAddr, access: Access, i: Trapped) -> u64
-    ensures { Laid (trap_leaves r.old) out.old (applied (view_of r.old) (mmio_of (view_of r.old).x (view_of r.old).csrs at access i)) r.new out.new result }
-{
-    in_place_record::sized(r);
-    let source = in_place_read::read(r, isa_decoder::store_source(i));
-    in_place_classes::do_fault(
-        r,
-        out,
-        at,
-        access,
-        decide_page_fault::decide(access, i, source),
-    )
+    in_place_classes::do_mmio(r, out, at, access, isa_decoder::from_htinst(t.htinst))
 }

@@ -2,30 +2,33 @@
 #![tactic(auto)]
 
 ghost use Rattle.std.specs.Prelude.{◌≡◌};
-ghost use Rattle.scope.specs.Record.{event_number};
 ghost use Rattle.in_place_record.specs.Rows.{bump_words, inject_words, pair_words, step_words, timer_words};
 
-use scope::{Csrs, Event};
+use in_place_record::WaitingKind;
+use scope::Csrs;
 
 // Nothing waits, and sepc moves on.
+#[tactic(auto, unfolding(in_place_record::specs::Rows::step_words))]
 pub fn step(r: &mut [u64; 58], by: u64)
     ensures { r.new ≡ step_words r.old by }
 {
-    r[in_place_record::KIND] = 0;
+    r[in_place_record::KIND] = WaitingKind::Idle as u64;
     in_place_record::advance(r, by);
 }
 
 // a0 and a1 are these, and the call is finished.
+#[tactic(auto, unfolding(in_place_record::specs::Rows::pair_words))]
 pub fn pair(r: &mut [u64; 58], e: u64, v: u64)
     ensures { r.new ≡ pair_words r.old e v }
 {
-    r[in_place_record::KIND] = 0;
+    r[in_place_record::KIND] = WaitingKind::Idle as u64;
     r[in_place_record::A0] = e;
     r[in_place_record::A1] = v;
     in_place_record::advance(r, 4);
 }
 
 // The timer's pending bit is cleared, the timer set, and counted.
+#[tactic(auto, unfolding(in_place_record::specs::Rows::timer_words))]
 pub fn timer(r: &mut [u64; 58], deadline: u64)
     ensures { r.new ≡ timer_words r.old deadline }
 {
@@ -39,6 +42,7 @@ pub fn timer(r: &mut [u64; 58], deadline: u64)
 }
 
 // One more in the count of an event's number; 0 is no event.
+#[tactic(auto, unfolding(in_place_record::specs::Rows::bump_words, isa_types::specs::Pick::wrapped))]
 pub fn bump(r: &mut [u64; 58], number: usize)
     ensures { r.new ≡ bump_words r.old number }
 {
@@ -47,32 +51,16 @@ pub fn bump(r: &mut [u64; 58], number: usize)
     }
     if number < 10 {
         let at = number + 44;
-        r[at] = decide_record::plus(r[at], 1);
-    }
-}
-
-pub fn event_number(e: Event) -> usize
-    ensures { result ≡ event_number e }
-{
-    match e {
-        Event::Quiet => 0,
-        Event::SetTimer => 1,
-        Event::IllegalInsn => 2,
-        Event::FenceI => 3,
-        Event::SfenceVma => 4,
-        Event::SfenceVmaAsid => 5,
-        Event::HfenceGvmaVmid => 6,
-        Event::HfenceGvma => 7,
-        Event::HfenceVvmaAsid => 8,
-        Event::HfenceVvma => 9,
+        r[at] = r[at].wrapping_add(1);
     }
 }
 
 // The CSRs that an injected exception changes.
+#[tactic(auto, unfolding(in_place_record::specs::Rows::inject_words))]
 pub fn inject(r: &mut [u64; 58], c: Csrs)
     ensures { r.new ≡ inject_words r.old c }
 {
-    r[in_place_record::KIND] = 0;
+    r[in_place_record::KIND] = WaitingKind::Idle as u64;
     r[in_place_record::VSSTATUS] = c.vs.vsstatus;
     r[in_place_record::VSEPC] = c.vs.vsepc;
     r[in_place_record::VSCAUSE] = c.vs.vscause;

@@ -1,6 +1,0 @@
-use Rattle.in_place_read.specs.Laws.{mmio_made}
-use Rattle.in_place_record.proofs.Shown.{made_by}
-use Rattle.in_place_answer.proofs.mmio_word.Goals as goal
-
-pub returns : goal.returns
-returns c = made_by (mmio_made _ _ c.sized.ensures _ _ _) (simp (c.decide.ensures, c.read-source.ensures, c.store_source.ensures, c.from_fetched-i.ensures) at c.do_fault.ensures)
