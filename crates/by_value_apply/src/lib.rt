@@ -35,8 +35,7 @@ pub fn apply(v: Vcpu, e: Effect) -> Outcome
 pub fn unless_asking(v: Vcpu, e: Effect) -> Outcome
     ensures { result ≡ applied v (unless_asking v e) }
 {
-    let ask = decide_record::ask_of(v.waiting);
-    apply(v, decide_effects::guarded(ask, v.csrs, v.waiting, e))
+    apply(v, decide_effects::guarded(v.csrs, v.waiting, e))
 }
 
 // The registers after a write; x0 is never written.

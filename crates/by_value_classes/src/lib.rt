@@ -75,7 +75,7 @@ pub fn csr(c: Csrs, d: Stimecmp) -> Effect
 }
 
 // The effect of a guest page fault.
-#[tactic(auto, unfolding(scope::specs::GuestPageFault::fault_effect))]
+#[tactic(auto, unfolding(scope::specs::GuestPageFault::fault_effect, scope::specs::Refusals::finished_of))]
 pub fn fault(c: Csrs, at: GuestPhysAddr, access: Access, d: Fault) -> Effect
     ensures { result ≡ fault_effect c at access d }
 {
@@ -95,12 +95,13 @@ pub fn fault(c: Csrs, at: GuestPhysAddr, access: Access, d: Fault) -> Effect
             rd,
             length,
         } => Effect {
-            csrs: decide_record::advance(c, length),
-            event: Event::Quiet,
-            writes: Writes::Keep,
             waiting: Waiting::Load { rd, width, signed },
-            reply: Reply::Exit(Exit::MmioRead { addr: at, width }),
-            args: decide_effects::no_args(),
+            ..decide_effects::finished(
+                decide_record::advance(c, length),
+                Event::Quiet,
+                Writes::Keep,
+                Exit::MmioRead { addr: at, width },
+            )
         },
         Fault::Store {
             width,

@@ -143,16 +143,12 @@ fn clear_ipi(c: Csrs) -> Effect
 }
 
 // EID_HVC: the arguments stand beside the exit.
-#[tactic(auto, unfolding(scope::specs::Ecalls::hypercall_of))]
+#[tactic(auto, unfolding(scope::specs::Ecalls::hypercall_of, scope::specs::Ecalls::moves_of, scope::specs::Refusals::finished_of))]
 fn hypercall(c: Csrs, e: Ecall) -> Effect
     ensures { result ≡ hypercall_of c e.fid e.args }
 {
     Effect {
-        csrs: decide_record::advance(c, 4),
-        event: Event::Quiet,
-        writes: Writes::Keep,
-        waiting: Waiting::Idle,
-        reply: Reply::Exit(Exit::Hypercall { nr: e.fid }),
         args: e.args,
+        ..moves(c, Exit::Hypercall { nr: e.fid })
     }
 }

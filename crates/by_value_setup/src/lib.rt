@@ -6,7 +6,7 @@ ghost use Rattle.scope.specs.declared.hosts.HostCall.TheVariants as host_call;
 ghost use Rattle.scope.specs.Calls.{new_of, called_of};
 
 use isa_types::GuestPhysAddr;
-use scope::{Csrs, GuestCsrs, HsCsrs, Outcome, Vcpu, VsCsrs, Waiting, Writes};
+use scope::{Csrs, Outcome, Vcpu, Waiting, Writes};
 
 // A record of zeros but for what a guest finds at its start: a0 is its hart, a1 where the device tree lies.
 #[tactic(auto, unfolding(scope::specs::Calls::new_of))]
@@ -16,31 +16,10 @@ pub fn new(hart_id: u64, dtb_addr: u64) -> Vcpu
     let mut x = [0u64; 32];
     x[10] = hart_id;
     x[11] = dtb_addr;
-    let guest = GuestCsrs {
-        sepc: 0,
-        sstatus: 0,
-        hstatus: 0,
-    };
-    let vs = VsCsrs {
-        vsstatus: 0,
-        vstvec: 0,
-        vsepc: 0,
-        vscause: 0,
-        vstval: 0,
-        vstimecmp: 0,
-    };
-    let hs = HsCsrs {
-        hie: 0,
-        hvip: 0,
-        hgeie: 0,
-        hgatp: 0,
-    };
-    let csrs = Csrs { guest, vs, hs };
-    let counts = [0u64; 9];
     Vcpu {
         x,
-        csrs,
-        counts,
+        csrs: Csrs::default(),
+        counts: [0; 9],
         waiting: Waiting::Idle,
     }
 }
