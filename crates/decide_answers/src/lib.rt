@@ -1,5 +1,5 @@
 // The host's answers to an ecall's asks, 2 to 9.
-#![tactic(auto, unfolding(scope::specs::Decided::answered_effect, scope::specs::Ecalls::console_read_effect, scope::specs::Ecalls::copied_effect, scope::specs::Ecalls::copied_out_effect, scope::specs::Ecalls::ecall_answer, scope::specs::Ecalls::mask_effect))]
+#![tactic(auto)]
 
 ghost use Rattle.std.specs.Prelude.{◌≡◌};
 ghost use Rattle.scope.specs.Ecalls.{console_read_effect, copied_effect, copied_out_effect, ecall_answer, mask_effect};
@@ -10,6 +10,7 @@ use isa_types::GuestPhysAddr;
 use scope::{Answered, EcallAsk, IpiRequest};
 
 // What an answer's two numbers do to the ecall that waits.
+#[tactic(auto, unfolding(scope::specs::Decided::answered_effect, scope::specs::Ecalls::ecall_answer))]
 pub fn decide(a: EcallAsk, word: u64, more: u64) -> Answered
     ensures { (c : Csrs) → answered_effect c result ≡ ecall_answer c a word more }
 {
@@ -27,6 +28,7 @@ pub fn decide(a: EcallAsk, word: u64, more: u64) -> Answered
 }
 
 // Legacy 4, ask 2.
+#[tactic(auto, unfolding(scope::specs::Decided::answered_effect, scope::specs::Ecalls::mask_effect))]
 fn mask(q: Option<IpiRequest>) -> Answered
     ensures { (c : Csrs) → answered_effect c result ≡ mask_effect c q }
 {
@@ -37,6 +39,7 @@ fn mask(q: Option<IpiRequest>) -> Answered
 }
 
 // DBCN fid 0, ask 3.
+#[tactic(auto, unfolding(scope::specs::Decided::answered_effect, scope::specs::Ecalls::copied_effect))]
 fn copied(count: u64, got: u64) -> Answered
     ensures { (c : Csrs) → answered_effect c result ≡ copied_effect c count got }
 {
@@ -47,6 +50,7 @@ fn copied(count: u64, got: u64) -> Answered
 }
 
 // DBCN fid 1, ask 5.
+#[tactic(auto, unfolding(scope::specs::Decided::answered_effect, scope::specs::Ecalls::console_read_effect))]
 fn read(count: u64, at: GuestPhysAddr, error: u64, value: u64) -> Answered
     ensures { (c : Csrs) → answered_effect c result ≡ console_read_effect c count at error value }
 {
@@ -57,6 +61,7 @@ fn read(count: u64, at: GuestPhysAddr, error: u64, value: u64) -> Answered
 }
 
 // DBCN fid 1, ask 6.
+#[tactic(auto, unfolding(scope::specs::Decided::answered_effect, scope::specs::Ecalls::copied_out_effect))]
 fn copied_out(count: u64, got: u64) -> Answered
     ensures { (c : Csrs) → answered_effect c result ≡ copied_out_effect c count got }
 {

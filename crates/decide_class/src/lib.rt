@@ -1,5 +1,5 @@
 // What a trap is handled as, by scause. 01, Classes.
-#![tactic(auto, unfolding(scope::specs::Classes::class_of))]
+#![tactic(auto)]
 
 ghost use Rattle.std.specs.Prelude.{◌≡◌};
 ghost use Rattle.scope.specs.Classes.{class_of};
@@ -7,6 +7,7 @@ ghost use Rattle.scope.specs.Classes.{class_of};
 use scope::{Access, Class};
 
 // The class of a trap.
+#[tactic(auto, unfolding(scope::specs::Classes::class_of))]
 pub fn class_of(scause: u64) -> Class
     ensures { result ≡ class_of scause }
 {

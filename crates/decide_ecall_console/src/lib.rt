@@ -1,5 +1,5 @@
 // SBI, 'Debug Console Extension': what a call does, by its function, its arguments and the room in the console buffer.
-#![tactic(auto, unfolding(scope::specs::Decided::call_effect, scope::specs::Ecalls::console_effect, scope::specs::Ecalls::dbcn_effect, scope::specs::Ecalls::lesser_of, scope::specs::Ecalls::span_effect))]
+#![tactic(auto)]
 
 ghost use Rattle.std.specs.Prelude.{◌≡◌, ℕ};
 ghost use Rattle.scope.specs.declared.machine.Csrs.{Csrs};
@@ -11,6 +11,7 @@ use decide_record::Ecall;
 use isa_types::GuestPhysAddr;
 use scope::{Args, SbiCall};
 
+#[tactic(auto, unfolding(scope::specs::Decided::call_effect, scope::specs::Ecalls::dbcn_effect))]
 pub fn dbcn(e: Ecall, room: u64) -> SbiCall
     ensures { (c : Csrs) (eid : ℕ) → call_effect c eid e.fid e.args result ≡ dbcn_effect c e.fid e.args room }
 {
@@ -23,6 +24,7 @@ pub fn dbcn(e: Ecall, room: u64) -> SbiCall
 }
 
 // The checks that console write and read share.
+#[tactic(auto, unfolding(scope::specs::Decided::call_effect, scope::specs::Ecalls::console_effect, scope::specs::Ecalls::lesser_of))]
 fn console(write: bool, a: Args, room: u64) -> SbiCall
     ensures { (c : Csrs) (eid fid : ℕ) → call_effect c eid fid a result ≡ console_effect c write a room }
 {
@@ -35,6 +37,7 @@ fn console(write: bool, a: Args, room: u64) -> SbiCall
     SbiCall::Returns(isa_consts::RET_ERR_INVALID_PARAM, 0)
 }
 
+#[tactic(auto, unfolding(scope::specs::Decided::call_effect, scope::specs::Ecalls::span_effect))]
 fn span(write: bool, at: GuestPhysAddr, count: u64) -> SbiCall
     ensures { (c : Csrs) (eid fid : ℕ) (a : Args) → call_effect c eid fid a result ≡ span_effect c write at count }
 {

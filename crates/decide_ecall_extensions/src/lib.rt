@@ -1,5 +1,5 @@
 // The SBI extensions whose calls are decided by their function and arguments alone: TIME, sPI, HSM, SRST, RFNC.
-#![tactic(auto, unfolding(scope::specs::Decided::call_effect, scope::specs::Ecalls::forward_effect, scope::specs::Ecalls::hsm_effect, scope::specs::Ecalls::not_supported_effect, scope::specs::Ecalls::rfnc_effect, scope::specs::Ecalls::spi_effect, scope::specs::Ecalls::srst_effect, scope::specs::Ecalls::time_effect))]
+#![tactic(auto)]
 
 ghost use Rattle.std.specs.Prelude.{◌≡◌, ℕ};
 ghost use Rattle.scope.specs.declared.machine.Csrs.{Csrs};
@@ -11,6 +11,7 @@ use decide_record::Ecall;
 use isa_types::GuestPhysAddr;
 use scope::{Event, SbiCall};
 
+#[tactic(auto, unfolding(scope::specs::Decided::call_effect, scope::specs::Ecalls::time_effect))]
 pub fn time(e: Ecall) -> SbiCall
     ensures { (c : Csrs) (eid : ℕ) → call_effect c eid e.fid e.args result ≡ time_effect c e.fid e.args }
 {
@@ -20,6 +21,7 @@ pub fn time(e: Ecall) -> SbiCall
     not_supported()
 }
 
+#[tactic(auto, unfolding(scope::specs::Decided::call_effect, scope::specs::Ecalls::spi_effect))]
 pub fn spi(e: Ecall) -> SbiCall
     ensures { (c : Csrs) (eid : ℕ) → call_effect c eid e.fid e.args result ≡ spi_effect c e.fid e.args }
 {
@@ -29,6 +31,7 @@ pub fn spi(e: Ecall) -> SbiCall
     not_supported()
 }
 
+#[tactic(auto, unfolding(scope::specs::Decided::call_effect, scope::specs::Ecalls::hsm_effect))]
 pub fn hsm(e: Ecall) -> SbiCall
     ensures { (c : Csrs) (eid : ℕ) → call_effect c eid e.fid e.args result ≡ hsm_effect c e.fid e.args }
 {
@@ -44,6 +47,7 @@ pub fn hsm(e: Ecall) -> SbiCall
     }
 }
 
+#[tactic(auto, unfolding(scope::specs::Decided::call_effect, scope::specs::Ecalls::srst_effect))]
 pub fn srst(e: Ecall) -> SbiCall
     ensures { (c : Csrs) (eid : ℕ) → call_effect c eid e.fid e.args result ≡ srst_effect c e.fid e.args }
 {
@@ -54,6 +58,7 @@ pub fn srst(e: Ecall) -> SbiCall
 }
 
 // Remote fences are counted by their kind, and all are forwarded.
+#[tactic(auto, unfolding(scope::specs::Decided::call_effect, scope::specs::Ecalls::forward_effect, scope::specs::Ecalls::rfnc_effect))]
 pub fn rfnc(fid: u64) -> SbiCall
     ensures { (c : Csrs) (eid : ℕ) (a : Args) → call_effect c eid fid a result ≡ rfnc_effect c eid fid a }
 {
@@ -69,6 +74,7 @@ pub fn rfnc(fid: u64) -> SbiCall
     }
 }
 
+#[tactic(auto, unfolding(scope::specs::Decided::call_effect, scope::specs::Ecalls::not_supported_effect))]
 pub fn not_supported() -> SbiCall
     ensures { (c : Csrs) (eid fid : ℕ) (a : Args) → call_effect c eid fid a result ≡ not_supported_effect c }
 {

@@ -1,5 +1,5 @@
 // How a call ends: an effect for each kind of end, built in one place. scope/specs/Refusals.antt defines them.
-#![tactic(auto, unfolding(scope::specs::Record::no_args, scope::specs::Refusals::asking_of, scope::specs::Refusals::done_of, scope::specs::Refusals::failed_of, scope::specs::Refusals::finished_of, scope::specs::Refusals::leaves_of, scope::specs::Refusals::refused_of))]
+#![tactic(auto)]
 
 ghost use Rattle.std.specs.Prelude.{◌≡◌, eqb};
 ghost use Rattle.scope.specs.Refusals.{asking_of, done_of, failed_of, finished_of, refused_of};
@@ -12,6 +12,7 @@ ghost use Rattle.scope.specs.declared.machine.Writes.TheVariants as writes;
 use scope::{Args, Ask, Csrs, Effect, Error, Event, Exit, Reply, Waiting, Writes};
 
 // The trap is finished with an exit.
+#[tactic(auto, unfolding(scope::specs::Refusals::finished_of))]
 pub fn finished(csrs: Csrs, event: Event, writes: Writes, exit: Exit) -> Effect
     ensures { result ≡ finished_of csrs event writes exit }
 {
@@ -23,6 +24,7 @@ pub fn finished(csrs: Csrs, event: Event, writes: Writes, exit: Exit) -> Effect
 }
 
 // The trap waits for an answer. No register and no CSR changes.
+#[tactic(auto, unfolding(scope::specs::Refusals::asking_of))]
 pub fn asking(csrs: Csrs, event: Event, waits: Waiting, ask: Ask) -> Effect
     ensures { result ≡ asking_of csrs event waits ask }
 {
@@ -33,6 +35,7 @@ pub fn asking(csrs: Csrs, event: Event, waits: Waiting, ask: Ask) -> Effect
 }
 
 // The trap ends in an error. No register and no CSR changes.
+#[tactic(auto, unfolding(scope::specs::Refusals::failed_of))]
 pub fn failed(csrs: Csrs, seen: Event, error: Error) -> Effect
     ensures { result ≡ failed_of csrs seen error }
 {
@@ -43,6 +46,7 @@ pub fn failed(csrs: Csrs, seen: Event, error: Error) -> Effect
 }
 
 // The call is refused. Nothing changes.
+#[tactic(auto, unfolding(scope::specs::Refusals::leaves_of, scope::specs::Refusals::refused_of))]
 pub fn refused(csrs: Csrs, kept: Waiting, error: Error) -> Effect
     ensures { result ≡ refused_of csrs kept error }
 {
@@ -50,6 +54,7 @@ pub fn refused(csrs: Csrs, kept: Waiting, error: Error) -> Effect
 }
 
 // The call is done. What waits goes on waiting.
+#[tactic(auto, unfolding(scope::specs::Refusals::done_of))]
 pub fn done(csrs: Csrs, writes: Writes, still: Waiting) -> Effect
     ensures { result ≡ done_of csrs writes still }
 {
@@ -60,6 +65,7 @@ pub fn done(csrs: Csrs, writes: Writes, still: Waiting) -> Effect
 }
 
 // The effect, unless an ask waits: then refusal 2.
+#[tactic(auto, unfolding(scope::specs::Refusals::refused_of))]
 pub fn guarded(csrs: Csrs, waiting: Waiting, e: Effect) -> Effect
     ensures { result ≡ pick (eqb (waiting_ask waiting) 0) e (refused_of csrs waiting error.BadState) }
 {
@@ -70,6 +76,7 @@ pub fn guarded(csrs: Csrs, waiting: Waiting, e: Effect) -> Effect
 }
 
 // An effect that counts nothing and writes no register.
+#[tactic(auto, unfolding(scope::specs::Record::no_args))]
 fn replying(csrs: Csrs, waiting: Waiting, reply: Reply) -> Effect
     ensures { result ≡ record { csrs = csrs; event = event.Quiet; writes = writes.Keep; waiting = waiting; reply = reply; args = no_args } }
 {

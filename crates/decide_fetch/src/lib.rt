@@ -1,5 +1,5 @@
 // What a failed fetch of the guest's instruction does, and injection into the guest.
-#![tactic(auto, unfolding(scope::specs::VirtualInstruction::injected_of, scope::specs::VirtualInstruction::missed_of, scope::specs::VirtualInstruction::trap_status_of))]
+#![tactic(auto)]
 
 ghost use Rattle.std.specs.Prelude.{◌≡◌};
 ghost use Rattle.scope.specs.VirtualInstruction.{injected_of, missed_of, trap_status_of};
@@ -8,6 +8,7 @@ use isa_types::GuestVirtAddr;
 use scope::{Access, Csrs, Fetch, GuestCsrs, Missed, VsCsrs};
 
 // What the fault in a fetch answer does. A word is no fault; callers take it out before.
+#[tactic(auto, unfolding(scope::specs::VirtualInstruction::missed_of))]
 pub fn decide(f: Fetch) -> Missed
     ensures { result ≡ missed_of f }
 {
@@ -30,6 +31,7 @@ pub fn decide(f: Fetch) -> Missed
 }
 
 // The guest's CSRs after an exception that it takes in supervisor mode: sstatus.SPP says so to the return.
+#[tactic(auto, unfolding(scope::specs::VirtualInstruction::injected_of))]
 pub fn inject(c: Csrs, cause: u64, addr: GuestVirtAddr) -> Csrs
     ensures { result ≡ injected_of c cause addr }
 {
@@ -53,6 +55,7 @@ pub fn inject(c: Csrs, cause: u64, addr: GuestVirtAddr) -> Csrs
 }
 
 // vsstatus as the hardware leaves it on a trap into the guest's supervisor mode.
+#[tactic(auto, unfolding(scope::specs::VirtualInstruction::trap_status_of))]
 fn trap_status(vsstatus: u64, hstatus: u64) -> u64
     ensures { result ≡ trap_status_of vsstatus hstatus }
 {

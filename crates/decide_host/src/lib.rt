@@ -1,5 +1,5 @@
 // What the host's own calls do to a record: setup, entry, registers, page table, interrupts, IPI results.
-#![tactic(auto, unfolding(scope::specs::Host::entry_csrs, scope::specs::Host::ipi_writes, scope::specs::Host::paging_by, scope::specs::Host::paging_effect, scope::specs::Host::pending_effect, scope::specs::Host::setup_csrs, scope::specs::Host::table_csrs, scope::specs::Host::write_effect))]
+#![tactic(auto)]
 
 ghost use Rattle.std.specs.Prelude.{◌≡◌, eqb};
 ghost use Rattle.scope.specs.Host.{entry_csrs, ipi_writes, hvip_bit_of, paging_by, paging_effect, pending_effect, setup_csrs, table_csrs, write_effect};
@@ -16,6 +16,7 @@ use isa_types::GuestPhysAddr;
 use scope::{Csrs, Effect, Error, GuestCsrs, HsCsrs, IpiAbi, Waiting, Writes};
 
 // The CSRs that a guest starts with.
+#[tactic(auto, unfolding(scope::specs::Host::setup_csrs))]
 pub fn setup_csrs(c: Csrs) -> Csrs
     ensures { result ≡ setup_csrs c }
 {
@@ -36,6 +37,7 @@ pub fn setup_csrs(c: Csrs) -> Csrs
 }
 
 // sepc is the entry.
+#[tactic(auto, unfolding(scope::specs::Host::entry_csrs))]
 pub fn entry_csrs(c: Csrs, entry: GuestPhysAddr) -> Csrs
     ensures { result ≡ entry_csrs c entry }
 {
@@ -45,6 +47,7 @@ pub fn entry_csrs(c: Csrs, entry: GuestPhysAddr) -> Csrs
 }
 
 // Writes a general register.
+#[tactic(auto, unfolding(scope::specs::Host::write_effect))]
 pub fn write_effect(c: Csrs, w: Waiting, index: usize, value: u64) -> Effect
     ensures { result ≡ write_effect c w index value }
 {
@@ -55,6 +58,7 @@ pub fn write_effect(c: Csrs, w: Waiting, index: usize, value: u64) -> Effect
 }
 
 // Sets the guest-stage page table.
+#[tactic(auto, unfolding(scope::specs::Host::paging_effect))]
 pub fn paging_effect(c: Csrs, w: Waiting, levels: u64, mode: u64, root: u64) -> Effect
     ensures { result ≡ paging_effect c w levels mode root }
 {
@@ -66,6 +70,7 @@ pub fn paging_effect(c: Csrs, w: Waiting, levels: u64, mode: u64, root: u64) -> 
 }
 
 // Sets or clears a pending interrupt of the guest, by the host's vector.
+#[tactic(auto, unfolding(scope::specs::Host::pending_effect))]
 pub fn pending_effect(c: Csrs, w: Waiting, vector: u64, on: bool) -> Effect
     ensures { result ≡ pending_effect c w vector on }
 {
@@ -93,6 +98,7 @@ pub fn line_of(vector: u64) -> u64
 }
 
 // The registers that an IPI result goes to.
+#[tactic(auto, unfolding(scope::specs::Host::ipi_writes))]
 pub fn ipi_writes(abi: IpiAbi, error: u64) -> Writes
     ensures { result ≡ ipi_writes abi error }
 {
@@ -102,6 +108,7 @@ pub fn ipi_writes(abi: IpiAbi, error: u64) -> Writes
     }
 }
 
+#[tactic(auto, unfolding(scope::specs::Host::paging_by))]
 fn paging_by(c: Csrs, w: Waiting, wanted: u64, mode: u64, root: u64) -> Effect
     ensures { result ≡ paging_by c w wanted mode root }
 {
@@ -111,6 +118,7 @@ fn paging_by(c: Csrs, w: Waiting, wanted: u64, mode: u64, root: u64) -> Effect
     decide_effects::refused(c, w, Error::InvalidInput)
 }
 
+#[tactic(auto, unfolding(scope::specs::Host::table_csrs))]
 fn table_csrs(c: Csrs, mode: u64, root: u64) -> Csrs
     ensures { result ≡ table_csrs c mode root }
 {
@@ -119,4 +127,3 @@ fn table_csrs(c: Csrs, mode: u64, root: u64) -> Csrs
     n.hs.hgatp = hgatp;
     n
 }
-

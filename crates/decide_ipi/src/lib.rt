@@ -1,5 +1,5 @@
 // Inter-processor interrupts: the requests that a guest makes through SBI, and the results that it gets back.
-#![tactic(auto, unfolding(scope::specs::Ecalls::completion_number, scope::specs::Ecalls::legacy_request, scope::specs::Ecalls::standard_request))]
+#![tactic(auto)]
 
 ghost use Rattle.std.specs.Prelude.{◌≡◌};
 ghost use Rattle.scope.specs.Ecalls.{completion_number, legacy_request, standard_request};
@@ -7,6 +7,7 @@ ghost use Rattle.scope.specs.Ecalls.{completion_number, legacy_request, standard
 use scope::{IpiAbi, IpiCompletion, IpiRequest};
 
 // The request of extension sPI: mask and base as given.
+#[tactic(auto, unfolding(scope::specs::Ecalls::standard_request))]
 pub fn standard_request(mask: u64, base: u64) -> IpiRequest
     ensures { result ≡ standard_request mask base }
 {
@@ -18,6 +19,7 @@ pub fn standard_request(mask: u64, base: u64) -> IpiRequest
 }
 
 // The request of the legacy call, from how many bytes the host could copy and their number: base 0. A short read is none.
+#[tactic(auto, unfolding(scope::specs::Ecalls::legacy_request))]
 pub fn legacy_request(count: u64, bytes: u64) -> Option<IpiRequest>
     ensures { result ≡ legacy_request count bytes }
 {
@@ -32,6 +34,7 @@ pub fn legacy_request(count: u64, bytes: u64) -> Option<IpiRequest>
 }
 
 // The SBI error number that a completion gives the guest.
+#[tactic(auto, unfolding(scope::specs::Ecalls::completion_number))]
 pub fn completion_number(c: IpiCompletion) -> u64
     ensures { result ≡ completion_number c }
 {

@@ -1,5 +1,5 @@
 // A guest page fault: a load or store of a device, or a page that the host has to map.
-#![tactic(auto, unfolding(scope::specs::GuestPageFault::fault_of, scope::specs::GuestPageFault::load_under, scope::specs::GuestPageFault::store_under))]
+#![tactic(auto)]
 
 ghost use Rattle.std.specs.Prelude.{◌≡◌};
 ghost use Rattle.scope.specs.GuestPageFault.{fault_of, load_under, store_under};
@@ -9,6 +9,7 @@ use isa_types::Width;
 use scope::{Access, Fault};
 
 // What the instruction does under a read or a write, with the content of the register that a store moves.
+#[tactic(auto, unfolding(scope::specs::GuestPageFault::fault_of))]
 pub fn decide(access: Access, t: Trapped, source: u64) -> Fault
     ensures { result ≡ fault_of access t source }
 {
@@ -25,6 +26,7 @@ pub fn decide(access: Access, t: Trapped, source: u64) -> Fault
 }
 
 // A load is taken under a read alone.
+#[tactic(auto, unfolding(scope::specs::GuestPageFault::load_under))]
 fn load(access: Access, width: Width, signed: bool, rd: usize, length: u64) -> Fault
     ensures { result ≡ load_under access width signed rd length }
 {
@@ -40,6 +42,7 @@ fn load(access: Access, width: Width, signed: bool, rd: usize, length: u64) -> F
 }
 
 // A store is taken under a write alone.
+#[tactic(auto, unfolding(scope::specs::GuestPageFault::store_under))]
 fn store(access: Access, width: Width, source: u64, length: u64) -> Fault
     ensures { result ≡ store_under access width source length }
 {

@@ -1,5 +1,5 @@
 // A row of posts, folded over hvip up to the first that is refused. 01, Which shape goes where; 02, W4.
-#![tactic(auto, unfolding(crate::specs::Fold::applied_by, crate::specs::Fold::begun_by, crate::specs::Fold::given_of, crate::specs::Fold::refusal_number))]
+#![tactic(auto)]
 
 ghost use Rattle.std.specs.Prelude.{◌≡◌, ◌<◌, ◌-◌, ◌^◌, length};
 ghost use Rattle.decide_posts.specs.Fold.{applied_by, begun_by, fold_of, given_of};
@@ -17,6 +17,7 @@ pub struct Row {
 
 impl Row {
     // What the row gives: a refusal by its number, and 0 for none.
+    #[tactic(auto, unfolding(crate::specs::Fold::given_of, crate::specs::Fold::refusal_number))]
     pub fn given(self) -> Posted
         ensures { result ≡ given_of self }
     {
@@ -32,10 +33,15 @@ impl Row {
 }
 
 // Before the first post: while an ask waits the row is refused as a whole.
+#[tactic(auto, unfolding(crate::specs::Fold::begun_by))]
 pub fn begin(hvip: u64, ask: u64) -> Row
     ensures { result ≡ begun_by hvip ask }
 {
-    let refusal = if ask == 0 { None } else { Some(Error::BadState) };
+    let refusal = if ask == 0 {
+        None
+    } else {
+        Some(Error::BadState)
+    };
     Row {
         hvip,
         applied: 0,
@@ -59,6 +65,7 @@ pub fn fold(s: Row, posts: &[Post]) -> Row
 }
 
 // The bit of hvip set or cleared; a vector that stands for no bit stops the row.
+#[tactic(auto, unfolding(crate::specs::Fold::applied_by))]
 fn apply(s: Row, line: u64, on: bool) -> Row
     requires { s.applied < 2 ^ 64 - 1 }
     ensures { result ≡ applied_by s line on }

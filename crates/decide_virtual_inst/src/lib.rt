@@ -1,5 +1,5 @@
 // A virtual-instruction trap: the guest's CSR instruction on stimecmp, in its six forms.
-#![tactic(auto, unfolding(crate::specs::Straight::timer_of, scope::specs::VirtualInstruction::stimecmp_stval, scope::specs::VirtualInstruction::stimecmp_word))]
+#![tactic(auto)]
 
 ghost use Rattle.std.specs.Prelude.{◌≡◌, eqb};
 ghost use Rattle.scope.specs.VirtualInstruction.{stimecmp_word, stimecmp_stval, stimecmp_by};
@@ -12,6 +12,7 @@ ghost use Rattle.scope.specs.declared.decided.Stimecmp.TheVariants as csr;
 use scope::Stimecmp;
 
 // What the word in stval does, with the old timer and rs1's content.
+#[tactic(auto, unfolding(scope::specs::VirtualInstruction::stimecmp_stval))]
 pub fn decide_stval(stval: u64, old: u64, rs1: u64) -> Stimecmp
     ensures { result ≡ stimecmp_stval stval old rs1 }
 {
@@ -23,6 +24,7 @@ pub fn decide_stval(stval: u64, old: u64, rs1: u64) -> Stimecmp
 }
 
 // What a word that stval or a fetch gave does.
+#[tactic(auto, unfolding(scope::specs::VirtualInstruction::stimecmp_word))]
 pub fn decide(word: u64, old: u64, rs1: u64) -> Stimecmp
     ensures { result ≡ stimecmp_word word old rs1 }
 {
@@ -60,6 +62,7 @@ fn stimecmp(funct3: u64, rd: usize, field: u64, old: u64, rs1: u64) -> Stimecmp
 // follows the guest's words: what is chosen is a number or 0, since a choice of two numbers may be a jump where the processor has no
 // conditional move. (`writes` is only held against 0.) The field is multiplied and not chosen, since the compiler makes one choice
 // of two by the same test.
+#[tactic(auto, unfolding(crate::specs::Straight::timer_of))]
 fn timer(funct3: u64, field: u64, old: u64, rs1: u64) -> u64
     ensures { result ≡ timer_of funct3 field old rs1 }
 {

@@ -1,6 +1,6 @@
 // The numbers of the RISC-V privileged architecture and of SBI that the handler goes by, one place for each.
 // specs/ has the numbers that definitions go by; every function that uses a constant here is proved against those.
-#![tactic(auto, unfolding(crate::specs::Traps::known_cause, crate::specs::Traps::known_exception, crate::specs::Traps::known_interrupt, crate::specs::Traps::supervisor_external))]
+#![tactic(auto)]
 
 ghost use Rattle.std.specs.Prelude.{◌≡◌};
 ghost use Rattle.isa_consts.specs.Traps.{known_cause, known_exception, known_interrupt, supervisor_external};
@@ -131,6 +131,7 @@ pub const RET_ERR_NOT_SUPPORTED: u64 = 0xffff_ffff_ffff_fffe;
 pub const RET_ERR_INVALID_PARAM: u64 = 0xffff_ffff_ffff_fffd;
 
 // Whether a vector is the supervisor external interrupt, with or without the interrupt bit.
+#[tactic(auto, unfolding(crate::specs::Traps::supervisor_external))]
 pub fn is_supervisor_external(vector: u64) -> bool
     ensures { result ≡ supervisor_external vector }
 {
@@ -138,6 +139,7 @@ pub fn is_supervisor_external(vector: u64) -> bool
 }
 
 // Whether scause is one of the causes that document 01 knows.
+#[tactic(auto, unfolding(crate::specs::Traps::known_cause))]
 pub fn is_known_cause(scause: u64) -> bool
     ensures { result ≡ known_cause scause }
 {
@@ -148,20 +150,17 @@ pub fn is_known_cause(scause: u64) -> bool
 }
 
 // The codes of exceptions that are known and not handled.
+#[tactic(auto, unfolding(crate::specs::Traps::known_exception))]
 fn is_known_exception(code: u64) -> bool
     ensures { result ≡ known_exception code }
 {
     matches!(
         code,
-        0..=9
-            | 11
-            | INST_PAGE_FAULT
-            | LOAD_PAGE_FAULT
-            | STORE_PAGE_FAULT
-            | INST_GUEST_PAGE_FAULT
+        0..=9 | 11 | INST_PAGE_FAULT | LOAD_PAGE_FAULT | STORE_PAGE_FAULT | INST_GUEST_PAGE_FAULT
     )
 }
 
+#[tactic(auto, unfolding(crate::specs::Traps::known_interrupt))]
 fn is_known_interrupt(code: u64) -> bool
     ensures { result ≡ known_interrupt code }
 {

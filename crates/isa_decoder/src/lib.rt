@@ -1,6 +1,6 @@
 // The instruction behind a guest page fault: its length, and whether it is a load or a store.
 // The handler knows this crate by its promises alone.
-#![tactic(auto, unfolding(crate::specs::Compressed::compressed_by, crate::specs::Compressed::compressed_of, crate::specs::Compressed::sp_load_of, crate::specs::Decode::decode_by, crate::specs::Decode::decode_of, crate::specs::Length::fetched_of, crate::specs::Length::htinst_of, crate::specs::Length::op_source, crate::specs::Length::store_source, crate::specs::Length::transformed_of, crate::specs::Straight::width_at))]
+#![tactic(auto)]
 
 ghost use Rattle.std.specs.Prelude.{◌≡◌};
 ghost use Rattle.isa_decoder.specs.Compressed.{compressed_of, quadrant0_of, quadrant2_of, sp_load_of};
@@ -38,6 +38,7 @@ pub enum Trapped {
 }
 
 // What htinst says.
+#[tactic(auto, unfolding(crate::specs::Length::htinst_of))]
 pub fn from_htinst(htinst: u64) -> Trapped
     ensures { result ≡ htinst_of htinst }
 {
@@ -48,6 +49,7 @@ pub fn from_htinst(htinst: u64) -> Trapped
 }
 
 // What the low 32 bits of htinst say, where it is not 0.
+#[tactic(auto, unfolding(crate::specs::Length::transformed_of))]
 fn transformed(word: u64) -> Trapped
     ensures { result ≡ transformed_of word }
 {
@@ -65,6 +67,7 @@ fn transformed(word: u64) -> Trapped
 }
 
 // What a fetched word says.
+#[tactic(auto, unfolding(crate::specs::Length::fetched_of))]
 pub fn from_fetched(word: u32) -> Trapped
     ensures { result ≡ fetched_of word }
 {
@@ -85,6 +88,7 @@ pub fn from_fetched(word: u32) -> Trapped
 }
 
 // The load or store that a 32-bit word is.
+#[tactic(auto, unfolding(crate::specs::Decode::decode_by, crate::specs::Decode::decode_of))]
 pub fn decode(word: u64) -> Decoded
     ensures { result ≡ decode_of word }
 {
@@ -96,6 +100,7 @@ pub fn decode(word: u64) -> Decoded
 }
 
 // The load or store that a 16-bit word is.
+#[tactic(auto, unfolding(crate::specs::Compressed::compressed_by, crate::specs::Compressed::compressed_of))]
 pub fn compressed(word: u64) -> Decoded
     ensures { result ≡ compressed_of word }
 {
@@ -147,6 +152,7 @@ fn quadrant2(funct3: u64, rd: usize, rs2: usize) -> Decoded
 }
 
 // A load into x0 is reserved here, where a 32-bit one is a load.
+#[tactic(auto, unfolding(crate::specs::Compressed::sp_load_of))]
 fn sp_load(width: Width, rd: usize) -> Decoded
     ensures { result ≡ sp_load_of width rd }
 {
@@ -161,6 +167,7 @@ fn sp_load(width: Width, rd: usize) -> Decoded
 }
 
 // The register that a store moves; 0, which reads 0, where there is no store.
+#[tactic(auto, unfolding(crate::specs::Length::op_source, crate::specs::Length::store_source))]
 pub fn store_source(t: Trapped) -> usize
     ensures { result ≡ store_source t }
 {
@@ -175,6 +182,7 @@ pub fn store_source(t: Trapped) -> usize
 
 // The width at this place of the four, and the widest at any other; as constants alone, of which the compiler makes arithmetic and no
 // jump.
+#[tactic(auto, unfolding(crate::specs::Straight::width_at))]
 pub fn width(n: u64) -> Width
     ensures { result ≡ width_at n }
 {

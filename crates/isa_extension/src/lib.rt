@@ -1,6 +1,6 @@
 // A number cut to a width and extended from it. No branch hangs on the width or the sign: a guest's loads come in any order, and a
 // jump that follows them is often foretold wrong.
-#![tactic(auto, unfolding(crate::specs::Extend::cut_of, crate::specs::Extend::width_bits))]
+#![tactic(auto)]
 
 ghost use Rattle.std.specs.Prelude.{◌≡◌, ◌-◌, ◌^◌};
 ghost use Rattle.isa_extension.specs.Extend.{cut_of, extend_of, width_bits};
@@ -8,6 +8,7 @@ ghost use Rattle.isa_extension.specs.Extend.{cut_of, extend_of, width_bits};
 use isa_types::Width;
 
 // A number cut to a width: what a store writes.
+#[tactic(auto, unfolding(crate::specs::Extend::cut_of, crate::specs::Extend::width_bits))]
 pub fn cut(width: Width, n: u64) -> u64
     ensures { result ≡ cut_of width n }
 {
@@ -27,6 +28,7 @@ pub fn extend(width: Width, signed: bool, n: u64) -> u64
 }
 
 // The bits of a width, all set; as constants alone, of which the compiler makes a table and no jump.
+#[tactic(auto, unfolding(crate::specs::Extend::width_bits))]
 fn mask(width: Width) -> u64
     ensures { result ≡ 2 ^ width_bits width - 1 }
 {

@@ -1,5 +1,5 @@
 // Values of hypervisor CSRs: the two delegation masks, hgatp, the address behind a guest page fault, single bits.
-#![tactic(auto, unfolding(crate::specs::Bits::sie_of, crate::specs::Bits::spvp_of, crate::specs::Bits::with_bits, crate::specs::Values::delegated_exceptions, crate::specs::Values::delegated_interrupts, crate::specs::Values::guest_page_fault_addr, crate::specs::Values::hgatp_of))]
+#![tactic(auto)]
 
 ghost use Rattle.std.specs.Prelude.{◌≡◌};
 ghost use Rattle.isa_registers.specs.Values.{delegated_exceptions, delegated_interrupts, guest_page_fault_addr, hgatp_of};
@@ -8,6 +8,7 @@ ghost use Rattle.isa_registers.specs.Bits.{sie_of, spvp_of, with_bits};
 use isa_types::GuestPhysAddr;
 
 // hgatp from a translation mode and the address of the root page table.
+#[tactic(auto, unfolding(crate::specs::Values::hgatp_of))]
 pub fn hgatp_value(mode: u64, root: u64) -> u64
     ensures { result ≡ hgatp_of mode root }
 {
@@ -15,6 +16,7 @@ pub fn hgatp_value(mode: u64, root: u64) -> u64
 }
 
 // The guest physical address of a guest page fault.
+#[tactic(auto, unfolding(crate::specs::Values::guest_page_fault_addr))]
 pub fn guest_page_fault_addr(htval: u64, stval: u64) -> GuestPhysAddr
     ensures { result ≡ guest_page_fault_addr htval stval }
 {
@@ -22,6 +24,7 @@ pub fn guest_page_fault_addr(htval: u64, stval: u64) -> GuestPhysAddr
 }
 
 // hedeleg: the exceptions that go straight to the guest.
+#[tactic(auto, unfolding(crate::specs::Values::delegated_exceptions))]
 pub fn delegated_exception_bits() -> u64
     ensures { result ≡ delegated_exceptions }
 {
@@ -29,6 +32,7 @@ pub fn delegated_exception_bits() -> u64
 }
 
 // hideleg: the interrupts that go straight to the guest.
+#[tactic(auto, unfolding(crate::specs::Values::delegated_interrupts))]
 pub fn delegated_interrupt_bits() -> u64
     ensures { result ≡ delegated_interrupts }
 {
@@ -36,6 +40,7 @@ pub fn delegated_interrupt_bits() -> u64
 }
 
 // hstatus.SPVP: whether the guest ran in supervisor mode.
+#[tactic(auto, unfolding(crate::specs::Bits::spvp_of))]
 pub fn spvp(hstatus: u64) -> bool
     ensures { result ≡ spvp_of hstatus }
 {
@@ -43,6 +48,7 @@ pub fn spvp(hstatus: u64) -> bool
 }
 
 // vsstatus.SIE: whether the guest takes interrupts.
+#[tactic(auto, unfolding(crate::specs::Bits::sie_of))]
 pub fn sie(vsstatus: u64) -> bool
     ensures { result ≡ sie_of vsstatus }
 {
@@ -50,6 +56,7 @@ pub fn sie(vsstatus: u64) -> bool
 }
 
 // The number with the bits of the mask set or cleared.
+#[tactic(auto, unfolding(crate::specs::Bits::with_bits))]
 pub fn with_bits(n: u64, mask: u64, on: bool) -> u64
     ensures { result ≡ with_bits n mask on }
 {
@@ -61,6 +68,7 @@ pub fn with_bits(n: u64, mask: u64, on: bool) -> u64
 
 // The same where nothing foretells `on`. The bits are cleared first, so that what is chosen is the mask or 0: on rv64gc, which has no
 // conditional move, that is an AND, and a choice of two numbers is a jump.
+#[tactic(auto, unfolding(crate::specs::Bits::with_bits))]
 pub fn with_bits_straight(n: u64, mask: u64, on: bool) -> u64
     ensures { result ≡ with_bits n mask on }
 {
