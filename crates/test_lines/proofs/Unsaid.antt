@@ -13,10 +13,10 @@ module _ {W : Type 0} (took : W → List ℕ → W → Type 0) (left : W → Lis
   -- nothing is left: all of it was printed
   said : (w : W) (printed : List ℕ) (v : W) → left v ≡ [] → WritesInCalls took w printed v → left w ≡ printed
   said w printed v e p =
-    left_after_calls w p.parts v p.calls
-    ∙ ap (λ (l : List ℕ). concat p.parts ++ l) e
-    ∙ append-nil (concat p.parts)
-    ∙ p.whole
+      left_after_calls w p.parts v p.calls
+      ∙ ap (λ (l : List ℕ). concat p.parts ++ l) e
+      ∙ append-nil (concat p.parts)
+      ∙ p.whole
 
   -- the same of a text, if it is known what it prints
   pub text_said : {E : Type 0} (r : Result (Unit {0}) E) (text : Option (List ℕ)) (w v : W) → OnOk r (WritesText took w text v) → is_ok r ≡ true → left v ≡ []

@@ -1,5 +1,6 @@
 // Files that a program's arguments name.
 ghost use Rattle.std.specs.Prelude.{◌≤◌, length, IfSome};
+ghost use Rattle.std.specs.Io.KnownBytes.{Consumes};
 
 use std::env::Env;
 use std::fs::{File, Files};
@@ -49,10 +50,11 @@ fn open<R: Files + Eprint>(rt: &R, path: &str) -> Option<R::File> {
     }
 }
 
-// Reads until the bytes are full, the input ends or a read fails, and gives those that were read. (`read_exact` doesn't say how many
-// they are.)
+// Reads until the bytes are full, the input ends or a read fails, and gives those that were read. A loop by hand, since a read gives
+// as many as it likes, and the library's `read_exact` doesn't say how many there were.
 pub fn read_front<'a, F: Read>(file: &mut F, space: &'a mut [u8]) -> &'a [u8]
-    ensures { length result.now ≤ length space.old }
+    ensures room { length result.now ≤ length space.old }
+    ensures bytes { Consumes (F.remaining file.old) (F.remaining file.new) result.now }
 {
     let mut done: usize = 0;
     while done < space.len() {

@@ -6,14 +6,15 @@ ghost use Rattle.test_lines.specs.Digits.{digit_of, with_digit};
 use std::fmt;
 use std::fmt::{Display, Write};
 
-// The number that hex digits in lower case spell, in 64 bits. Other bytes spell one too: what a program does with a line that it
-// calls wrong hangs on it.
+// The number that hex digits in lower case spell, in 64 bits. Other bytes spell one too: what a program does on a line that is wrong,
+// and on the lines after it, hangs on that number.
 pub fn number(digits: &[u8]) -> u64
     ensures { result ≡ fold with_digit 0 digits.now }
 {
     digits.iter().fold(0, |n, digit| n % 0x1000_0000_0000_0000 * 16 + value(*digit))
 }
 
+// By hand, since `char::to_digit` has no number for the other bytes.
 fn value(digit: u8) -> u64
     ensures value { result ≡ digit_of digit }
     ensures bound { result < 16 }

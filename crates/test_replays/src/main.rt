@@ -97,7 +97,7 @@ fn judge(capture: &[u8], expected: &[u8]) -> Result<(), Differs>
     Ok(())
 }
 
-// How many bytes two slices have alike, from the first on.
+// How many bytes two slices have alike, from the first on: what `equal_pairs` counts, in the words that `judge` needs.
 fn agree(a: &[u8], b: &[u8]) -> usize
     ensures { (result ≤ length a.now) × (result ≤ length b.now) × (take result a.now ≡ take result b.now) }
 {
