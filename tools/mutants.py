@@ -45,7 +45,7 @@ ROOT = os.path.dirname(os.path.dirname(os.path.abspath(__file__)))
 WORK = f"{tempfile.gettempdir()}/mutants-of-{hashlib.sha256(ROOT.encode()).hexdigest()[:16]}"
 RESULTS = f"{ROOT}/docs/mutants.jsonl"
 # A library whose functions promise safety alone, and the program whose output shows what they do.
-SHOWN_BY = {"test_call_lines": "test_call_list", "test_call_rows": "test_call_list"}
+SHOWN_BY = {"test_lines": "test_call_list", "test_call_rows": "test_call_list"}
 SORTS = ("fact", "fact-new", "fit", "unfit", "run", "broken", "accepted")
 
 # ---- reading the code

@@ -1,12 +1,28 @@
--- Two lists that begin alike, and the next element of each.
-use Rattle.std.proofs.Common.{◌≡◌, ℕ, ◌+◌, ◌<◌, List, [], ◌∷◌, ◌++◌, length, get_or, take, sym, ap, ◌∙◌, add-one, take-suc}
+-- Two lists whose elements are equal, pair by pair from the first on, begin alike.
+use Rattle.std.proofs.Common.{◌≡◌, ℕ, ◌+◌, ◌≤◌, ◌==◌, List, ◌∷◌, [], length, take, rules, arith, sym, ap, ◌∙◌, subst, add-one}
+use Rattle.std.proofs.lemmas.Bool.{cond_both, eqb-true}
+use Rattle.std.specs.List.{prefix_len, zip}
 
--- one more is alike
-pub alike_next : (a b : List ℕ) (i : ℕ) → i < length a → i < length b → get_or a i 0 ≡ get_or b i 0 → take i a ≡ take i b → take (i + 1) a ≡ take (i + 1) b
-alike_next a b i h k e f =
-    ap (λ (n : ℕ). take n a) (add-one i)
-    ∙ take-suc a i 0 h
-    ∙ ap (λ (l : List ℕ). l ++ (get_or a i 0 ∷ [])) f
-    ∙ ap (λ (x : ℕ). take i b ++ (x ∷ [])) e
-    ∙ sym (take-suc b i 0 k)
-    ∙ ap (λ (n : ℕ). take n b) (sym (add-one i))
+-- so many elements are in both lists, and alike
+abbrev pub Alike : List ℕ → List ℕ → ℕ → Type 0
+Alike a b n = (n ≤ length a) × (n ≤ length b) × (take n a ≡ take n b)
+
+take_one_more : (k x : ℕ) (l : List ℕ) → take (1 + k) (x ∷ l) ≡ x ∷ take k l
+take_one_more k x l =
+    let e : 1 + k ≡ k + 1 = omega arith in
+    ap (λ (n : ℕ). take n (x ∷ l)) (e ∙ add-one k)
+
+one_more : (x y : ℕ) (a b : List ℕ) (k : ℕ) → Alike a b k → x ≡ y → Alike (x ∷ a) (y ∷ b) (1 + k)
+one_more x y a b k h e =
+    let t : x ∷ take k a ≡ y ∷ take k b = subst (λ (z : ℕ). x ∷ take k a ≡ z ∷ take k b) e (ap (λ (l : List ℕ). x ∷ l) h.2) in
+    (omega (arith, h.0), omega (arith, h.1), take_one_more k x a ∙ t ∙ sym (take_one_more k y b))
+
+alike_by_pairs : (a b : List ℕ) → Alike a b (prefix_len (λ (p : ℕ × ℕ). p.0 == p.1) (zip a b))
+alike_by_pairs [] b = search rules
+alike_by_pairs (x ∷ a) [] = search rules
+alike_by_pairs (x ∷ a) (y ∷ b) =
+    let k = prefix_len (λ (p : ℕ × ℕ). p.0 == p.1) (zip a b) in
+    cond_both (x == y) (1 + k) 0 (Alike (x ∷ a) (y ∷ b)) (λ e. one_more x y a b k (alike_by_pairs a b) (eqb-true x y e)) (λ _. search rules)
+
+pub alike : (a b : List ℕ) (n : ℕ) → n ≡ prefix_len (λ (p : ℕ × ℕ). p.0 == p.1) (zip a b) → Alike a b n
+alike a b n e = subst (Alike a b) (sym e) (alike_by_pairs a b)

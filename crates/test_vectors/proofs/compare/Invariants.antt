@@ -1,8 +1,0 @@
-use Rattle.std.proofs.Common.{◌-◌, ◌≤◌}
-use Rattle.test_vectors.proofs.compare.Given as goal
-
-abbrev pub invariant-loop-lines : goal.invariant-loop-lines
-invariant-loop-lines g l = (l.lines ≤ 100000) × (l.wrong ≤ l.lines)
-
-abbrev pub decreases-loop-lines : goal.decreases-loop-lines
-decreases-loop-lines g l = 100000 - l.lines
