@@ -24,12 +24,12 @@ pub extern "C" fn vcpu_post_row(r: &mut [u64; 58], posts: &[Post]) -> Posted
 fn begin(r: &[u64; 58]) -> Row
     ensures { result ≡ begun_of (view_of r.now) }
 {
-    in_place_record::sized(r);
     let w = in_place_read::waiting(r);
     decide_posts::begin(r[in_place_record::HVIP], decide_record::ask_of(w))
 }
 
 // The one write of hvip, and what the row gives.
+#[tactic(auto, unfolding(crate::specs::Row::given_of))]
 fn finish(r: &mut [u64; 58], s: Row) -> Posted
     ensures { (r.new ≡ set r.old 42 s.hvip) × (result ≡ given_of s) }
 {

@@ -55,7 +55,6 @@ fn started(idle: bool, r: &mut [u64; 58], out: &mut [u64; 8], t: Trap) -> u64
 fn trapped(class: Class, r: &mut [u64; 58], out: &mut [u64; 8], t: Trap) -> u64
     ensures { Laid (trap_leaves r.old) out.old (applied (view_of r.old) (class_effect class (view_of r.old).x (view_of r.old).csrs t)) r.new out.new result }
 {
-    in_place_record::sized(r);
     match class {
         Class::Ecall => ecall(r, out, t.room),
         Class::VirtualInstruction => virtual_inst(r, out, t.stval),
@@ -79,7 +78,6 @@ fn trapped(class: Class, r: &mut [u64; 58], out: &mut [u64; 8], t: Trap) -> u64
 fn ecall(r: &mut [u64; 58], out: &mut [u64; 8], room: u64) -> u64
     ensures { Laid (trap_leaves r.old) out.old (applied (view_of r.old) (ecall_effect (view_of r.old).csrs (get_or (view_of r.old).x 17 0) (get_or (view_of r.old).x 16 0) (arguments_of (view_of r.old).x) room)) r.new out.new result }
 {
-    in_place_record::sized(r);
     let a = decide_record::arguments(r);
     let d = decide_ecall::decide(r[in_place_record::A7], r[in_place_record::A6], a, room);
     in_place_ecall::do_call(r, out, d)
@@ -88,7 +86,6 @@ fn ecall(r: &mut [u64; 58], out: &mut [u64; 8], room: u64) -> u64
 fn virtual_inst(r: &mut [u64; 58], out: &mut [u64; 8], stval: u64) -> u64
     ensures { Laid (trap_leaves r.old) out.old (applied (view_of r.old) (virtual_effect (view_of r.old).csrs stval (value_of (view_of r.old).x (rs1_field (stval % 2 ^ 32))))) r.new out.new result }
 {
-    in_place_record::sized(r);
     let rs1 = decide_record::register(r, isa_fields::rs1(stval % 0x1_0000_0000));
     let d = decide_virtual_inst::decide_stval(stval, r[in_place_record::VSTIMECMP], rs1);
     in_place_classes::do_csr(r, out, d)

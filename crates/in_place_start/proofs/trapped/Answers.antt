@@ -16,12 +16,12 @@ returns-in-PageFault c = rw c.in-PageFault.is c.page_fault.ensures
 
 pub returns-in-Interrupt : goal.returns-in-Interrupt
 unfolding class_effect
-returns-in-Interrupt c = rw c.in-Interrupt.is (interrupt_made _ _ c.sized.ensures _)
+returns-in-Interrupt c = rw c.in-Interrupt.is (interrupt_made _ _ c.told-r _)
 
 pub returns-in-NotHandled : goal.returns-in-NotHandled
 unfolding class_effect
-returns-in-NotHandled c = rw c.in-NotHandled.is (not_handled_made _ _ c.sized.ensures)
+returns-in-NotHandled c = rw c.in-NotHandled.is (not_handled_made _ _ c.told-r)
 
 pub returns-in-Unknown : goal.returns-in-Unknown
 unfolding class_effect
-returns-in-Unknown c = rw c.in-Unknown.is (unknown_made _ _ c.sized.ensures)
+returns-in-Unknown c = rw c.in-Unknown.is (unknown_made _ _ c.told-r)
