@@ -299,14 +299,13 @@ def listed_head(mods):
     return f'''use {SPECS}declared.HostCall.{{HostCall}}
 use {SPECS}declared.Outcome.{{Outcome}}
 use {SPECS}declared.Record.{{Record}}
+use {SPECS}declared.ReplyWords.{{ReplyWords}}
 use {SPECS}{home(mods, 'view_of')}.{{record_of, view_of}}
 use {SPECS}{home(mods, 'out_of')}.{{out_of, reply_word}}
-use {SPECS}declared.After.{{After}}
 use {SPECS}{home(mods, 'left_by')}.{{call_by, left_by}}
 use {SPECS}{home(mods, 'exported_of')}.{{exported_of}}
 use {SPECS}{home(mods, 'called_of', 'Vcpu → HostCall')}.{{called_of, printable}}
 use {SPECS}{home(mods, 'start_call')}.{{answer_call, start_call}}
-use {SPECS}declared.AfterRow.{{AfterRow}}
 use {SPECS}declared.Post.{{Post}}
 use {SPECS}declared.Posted.{{Posted}}
 use {SPECS}{home(mods, 'posted_of')}.{{left_posted, posted_of}}
@@ -334,8 +333,8 @@ abbrev wanted : ℕ → List ℕ → List ℕ → List ℕ
 wanted code out after = code ∷ (out ++ (beside (eqb code 6) out ++ after))
 
 -- the same through the words of the exported entry: a reply's kind and number, its values, the array, the record
-abbrev reported : After → List ℕ
-reported a = a.reply.kind ∷ a.reply.number ∷ (a.reply.values ++ (a.reply.args ++ words a.rec))
+abbrev reported : Record × ReplyWords → List ℕ
+reported a = a.1.kind ∷ a.1.number ∷ (a.1.values ++ (a.1.args ++ words a.0))
 
 abbrev exported : ℕ → List ℕ → List ℕ → List ℕ
 exported k c r = reported (exported_of (record_of r) (record { kind = k; numbers = c }))
@@ -384,8 +383,8 @@ abbrev posted : ℕ → List ℕ → List ℕ → List ℕ
 posted k c r = rowed (posted_of (view_of r) (posts c)).posted (left_posted (record_of r) (posts c))
 
 -- the same through the exported entry
-abbrev row_out : AfterRow → List ℕ
-row_out a = rowed a.posted a.rec
+abbrev row_out : Record × Posted → List ℕ
+row_out a = rowed a.1 a.0
 
 abbrev posted_out : ℕ → List ℕ → List ℕ → List ℕ
 posted_out k c r = row_out (exported_row (record_of r) (posts c))

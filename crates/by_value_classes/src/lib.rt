@@ -12,23 +12,19 @@ use scope::{
 };
 
 // A load's number arrives: cut, extended, written.
+#[tactic(auto, unfolding(scope::specs::GuestPageFault::completed_of))]
 pub fn complete(c: Csrs, w: Waiting, n: u64) -> Effect
     ensures { result ≡ completed_of c w n }
 {
-    match w {
-        Waiting::Idle => decide_effects::refused(c, w, Error::BadState),
-        Waiting::Load { rd, width, signed } => decide_effects::done(
-            c,
-            Writes::One(rd, isa_extension::extend(width, signed, n)),
-            Waiting::Idle,
-        ),
-        Waiting::FetchCsr => decide_effects::refused(c, w, Error::BadState),
-        Waiting::FetchFault { at: _, access: _ } => decide_effects::refused(c, w, Error::BadState),
-        Waiting::Ecall(_) => decide_effects::refused(c, w, Error::BadState),
-    }
+    let Waiting::Load { rd, width, signed } = w else {
+        return decide_effects::refused(c, w, Error::BadState);
+    };
+    let number = isa_extension::extend(width, signed, n);
+    decide_effects::done(c, Writes::One(rd, number), Waiting::Idle)
 }
 
 // Asks for the instruction at sepc, with the guest's rights.
+#[tactic(auto, unfolding(scope::specs::VirtualInstruction::ask_fetch_of))]
 pub fn ask_fetch(c: Csrs, waiting: Waiting) -> Effect
     ensures { result ≡ ask_fetch_of c waiting }
 {
@@ -38,6 +34,7 @@ pub fn ask_fetch(c: Csrs, waiting: Waiting) -> Effect
 }
 
 // The effect of a failed fetch.
+#[tactic(auto, unfolding(scope::specs::VirtualInstruction::missed_effect))]
 pub fn missed(c: Csrs, m: Missed) -> Effect
     ensures { result ≡ missed_effect c m }
 {
@@ -58,6 +55,7 @@ pub fn missed(c: Csrs, m: Missed) -> Effect
 }
 
 // The effect of a virtual instruction.
+#[tactic(auto, unfolding(scope::specs::VirtualInstruction::stimecmp_effect))]
 pub fn csr(c: Csrs, d: Stimecmp) -> Effect
     ensures { result ≡ stimecmp_effect c d }
 {
@@ -77,6 +75,7 @@ pub fn csr(c: Csrs, d: Stimecmp) -> Effect
 }
 
 // The effect of a guest page fault.
+#[tactic(auto, unfolding(scope::specs::GuestPageFault::fault_effect, scope::specs::Refusals::finished_of))]
 pub fn fault(c: Csrs, at: GuestPhysAddr, access: Access, d: Fault) -> Effect
     ensures { result ≡ fault_effect c at access d }
 {
@@ -96,12 +95,13 @@ pub fn fault(c: Csrs, at: GuestPhysAddr, access: Access, d: Fault) -> Effect
             rd,
             length,
         } => Effect {
-            csrs: decide_record::advance(c, length),
-            event: Event::Quiet,
-            writes: Writes::Keep,
             waiting: Waiting::Load { rd, width, signed },
-            reply: Reply::Exit(Exit::MmioRead { addr: at, width }),
-            args: decide_effects::no_args(),
+            ..decide_effects::finished(
+                decide_record::advance(c, length),
+                Event::Quiet,
+                Writes::Keep,
+                Exit::MmioRead { addr: at, width },
+            )
         },
         Fault::Store {
             width,

@@ -4,17 +4,19 @@
 ghost use Rattle.std.specs.Prelude.{◌≡◌};
 ghost use Rattle.scope.specs.Ecalls.{asks_of, clear_ipi_of, hypercall_of, moves_of, returns_of, set_timer_of, stays_of, gives_of};
 ghost use Rattle.scope.specs.Decided.{call_effect, answered_effect};
+ghost use Rattle.scope.specs.Record.{moved};
+ghost use Rattle.scope.specs.Refusals.{finished_of};
 
-use scope::{
-    Answered, Args, Ask, Csrs, EcallAsk, Effect, Event, Exit, Reply, SbiCall, Waiting, Writes,
-};
+use decide_record::Ecall;
+use scope::{Answered, Ask, Csrs, EcallAsk, Effect, Event, Exit, Reply, SbiCall, Waiting, Writes};
 
 // The effect of a call on the record.
-pub fn effect(c: Csrs, eid: u64, fid: u64, a: Args, call: SbiCall) -> Effect
-    ensures { result ≡ call_effect c eid fid a call }
+#[tactic(auto, unfolding(scope::specs::Decided::call_effect, scope::specs::Ecalls::forward_effect))]
+pub fn effect(c: Csrs, e: Ecall, call: SbiCall) -> Effect
+    ensures { result ≡ call_effect c e.eid e.fid e.args call }
 {
     match call {
-        SbiCall::Returns(e, v) => returns(c, e, v),
+        SbiCall::Returns(error, value) => returns(c, error, value),
         SbiCall::Moves => moves(c, Exit::Nothing),
         SbiCall::LegacyTimer(d) => set_timer(c, d, Writes::One(10, 0)),
         SbiCall::SetTimer(d) => set_timer(c, d, Writes::Pair(0, 0)),
@@ -34,7 +36,7 @@ pub fn effect(c: Csrs, eid: u64, fid: u64, a: Args, call: SbiCall) -> Effect
         SbiCall::CpuDown => stays(c, Exit::CpuDown { state: 0 }),
         SbiCall::Halt => stays(c, Exit::Halt),
         SbiCall::SystemDown => stays(c, Exit::SystemDown),
-        SbiCall::Hypercall => hypercall(c, fid, a),
+        SbiCall::Hypercall => hypercall(c, e),
         SbiCall::CopyIn(at, count) => {
             asks(c, EcallAsk::CopyIn { count }, Ask::CopyIn { at, count })
         }
@@ -45,13 +47,18 @@ pub fn effect(c: Csrs, eid: u64, fid: u64, a: Args, call: SbiCall) -> Effect
         ),
         SbiCall::PutByte(n) => asks(c, EcallAsk::PutByte, Ask::Emit { number: n }),
         SbiCall::Forward(event) => {
-            let ask = Ask::Forward { eid, fid, args: a };
+            let ask = Ask::Forward {
+                eid: e.eid,
+                fid: e.fid,
+                args: e.args,
+            };
             decide_effects::asking(c, event, Waiting::Ecall(EcallAsk::Forward), ask)
         }
     }
 }
 
 // The effect of the answer to an ecall's ask.
+#[tactic(auto, unfolding(scope::specs::Decided::answered_effect))]
 pub fn answered(c: Csrs, d: Answered) -> Effect
     ensures { result ≡ answered_effect c d }
 {
@@ -68,42 +75,38 @@ pub fn answered(c: Csrs, d: Answered) -> Effect
 }
 
 // "Return e, v" of document 01.
+#[tactic(auto, unfolding(scope::specs::Ecalls::returns_of))]
 fn returns(c: Csrs, error: u64, value: u64) -> Effect
     ensures { result ≡ returns_of c error value }
 {
-    decide_effects::finished(
-        decide_record::advance(c, 4),
-        Event::Quiet,
-        Writes::Pair(error, value),
-        Exit::Nothing,
-    )
+    onward(c, Event::Quiet, Writes::Pair(error, value), Exit::Nothing)
 }
 
 // sepc moves on, no register is written.
+#[tactic(auto, unfolding(scope::specs::Ecalls::moves_of))]
 fn moves(c: Csrs, exit: Exit) -> Effect
     ensures { result ≡ moves_of c exit }
 {
-    decide_effects::finished(
-        decide_record::advance(c, 4),
-        Event::Quiet,
-        Writes::Keep,
-        exit,
-    )
+    onward(c, Event::Quiet, Writes::Keep, exit)
 }
 
 // a0 is the number.
+#[tactic(auto, unfolding(scope::specs::Ecalls::gives_of))]
 fn gives(c: Csrs, n: u64) -> Effect
     ensures { result ≡ gives_of c n }
 {
-    decide_effects::finished(
-        decide_record::advance(c, 4),
-        Event::Quiet,
-        Writes::One(10, n),
-        Exit::Nothing,
-    )
+    onward(c, Event::Quiet, Writes::One(10, n), Exit::Nothing)
+}
+
+// The trap is finished and sepc moves on.
+fn onward(c: Csrs, event: Event, writes: Writes, exit: Exit) -> Effect
+    ensures { result ≡ finished_of (moved c 4) event writes exit }
+{
+    decide_effects::finished(decide_record::advance(c, 4), event, writes, exit)
 }
 
 // sepc stays.
+#[tactic(auto, unfolding(scope::specs::Ecalls::stays_of))]
 fn stays(c: Csrs, exit: Exit) -> Effect
     ensures { result ≡ stays_of c exit }
 {
@@ -111,6 +114,7 @@ fn stays(c: Csrs, exit: Exit) -> Effect
 }
 
 // An ask, with what its answer needs.
+#[tactic(auto, unfolding(scope::specs::Ecalls::asks_of))]
 fn asks(c: Csrs, waiting: EcallAsk, ask: Ask) -> Effect
     ensures { result ≡ asks_of c waiting ask }
 {
@@ -118,44 +122,33 @@ fn asks(c: Csrs, waiting: EcallAsk, ask: Ask) -> Effect
 }
 
 // Both set-timer calls, which differ in the registers that they write.
+#[tactic(auto, unfolding(scope::specs::Ecalls::set_timer_of))]
 fn set_timer(c: Csrs, deadline: u64, writes: Writes) -> Effect
     ensures { result ≡ set_timer_of c deadline writes }
 {
     let armed = decide_record::with_timer(c, deadline);
     let hvip = isa_registers::with_bits(c.hs.hvip, isa_consts::VSTIP, false);
     let cleared = decide_record::with_hvip(armed, hvip);
-    decide_effects::finished(
-        decide_record::advance(cleared, 4),
-        Event::SetTimer,
-        writes,
-        Exit::Nothing,
-    )
+    onward(cleared, Event::SetTimer, writes, Exit::Nothing)
 }
 
 // Legacy 3.
+#[tactic(auto, unfolding(scope::specs::Ecalls::clear_ipi_of, scope::specs::Ecalls::gives_of))]
 fn clear_ipi(c: Csrs) -> Effect
     ensures { result ≡ clear_ipi_of c }
 {
     let hvip = isa_registers::with_bits(c.hs.hvip, isa_consts::VSSIP, false);
     let cleared = decide_record::with_hvip(c, hvip);
-    decide_effects::finished(
-        decide_record::advance(cleared, 4),
-        Event::Quiet,
-        Writes::One(10, 0),
-        Exit::Nothing,
-    )
+    gives(cleared, 0)
 }
 
 // EID_HVC: the arguments stand beside the exit.
-fn hypercall(c: Csrs, fid: u64, a: Args) -> Effect
-    ensures { result ≡ hypercall_of c fid a }
+#[tactic(auto, unfolding(scope::specs::Ecalls::hypercall_of, scope::specs::Ecalls::moves_of, scope::specs::Refusals::finished_of))]
+fn hypercall(c: Csrs, e: Ecall) -> Effect
+    ensures { result ≡ hypercall_of c e.fid e.args }
 {
     Effect {
-        csrs: decide_record::advance(c, 4),
-        event: Event::Quiet,
-        writes: Writes::Keep,
-        waiting: Waiting::Idle,
-        reply: Reply::Exit(Exit::Hypercall { nr: fid }),
-        args: a,
+        args: e.args,
+        ..moves(c, Exit::Hypercall { nr: e.fid })
     }
 }

@@ -1,21 +1,23 @@
 // Every call on a vCPU record behind one function, by value.
 #![tactic(auto)]
 
-ghost use Rattle.std.specs.Prelude.{◌≡◌};
-ghost use Rattle.scope.specs.declared.hosts.HostCall.TheVariants as host_call;
-ghost use Rattle.scope.specs.Calls.{called_of};
+ghost use Rattle.std.specs.Prelude.{◌≡◌, replicate};
+ghost use Rattle.scope.specs.Calls.{called_of, gpr_reply};
 
 use scope::{Answer, HostCall, Outcome, Reply, Vcpu};
 
 // Makes the call on a record that is handed over by value.
+#[tactic(auto, unfolding(scope::specs::Calls::called_of, scope::specs::Calls::base_of, scope::specs::Calls::effect_of, scope::specs::Record::applied, scope::specs::Record::stored, scope::specs::Record::counted, scope::specs::Record::bumped, scope::specs::Record::event_number, scope::specs::Record::no_args, scope::specs::Record::listed, scope::specs::Refusals::leaves_of, scope::specs::Refusals::done_of))]
 pub fn call(v: Vcpu, c: HostCall) -> Outcome
     ensures { result ≡ called_of v c }
 {
     match c {
-        HostCall::New { hart_id, dtb_addr } => fresh(v, hart_id, dtb_addr),
+        HostCall::New { hart_id, dtb_addr } => {
+            plain(by_value_setup::new(hart_id, dtb_addr), Reply::Done)
+        }
         HostCall::Setup => by_value_setup::setup(v),
         HostCall::SetEntry(at) => by_value_setup::set_entry(v, at),
-        HostCall::GetGpr { index } => read(v, index),
+        HostCall::GetGpr { index } => plain(v, read(v, index)),
         HostCall::SetGpr { index, value } => by_value_gprs::set_gpr(v, index, value),
         HostCall::SetReturnValue { value } => by_value_gprs::set_return_value(v, value),
         HostCall::SetNestedPageTable { levels, mode, root } =>
@@ -29,41 +31,29 @@ pub fn call(v: Vcpu, c: HostCall) -> Outcome
         HostCall::Start(t) => by_value_vcpu::start(v, t),
         HostCall::Answer(a) => by_value_vcpu::answer(v, a),
         HostCall::CompleteLoad { number } => by_value_vcpu::complete_load(v, number),
-        HostCall::ToPrint { length } => printing(v, length),
+        HostCall::ToPrint { length } => {
+            plain(v, Reply::Value(decide_record::printable(v.waiting, length)))
+        }
     }
 }
 
-// A register read as an outcome: the record stays.
-fn read(v: Vcpu, index: usize) -> Outcome
-    ensures { result ≡ called_of v (host_call.GetGpr index) }
+// The outcome of a call that is no hypercall and leaves this record.
+fn plain(vcpu: Vcpu, reply: Reply) -> Outcome
+    ensures { result ≡ record { vcpu = vcpu; reply = reply; args = replicate 6 0 } }
 {
-    let reply = by_value_gprs::get_gpr(v, index);
     Outcome {
-        vcpu: v,
+        vcpu,
         reply,
         args: [0; 6],
     }
 }
 
-// A new record as an outcome.
-fn fresh(v: Vcpu, hart_id: u64, dtb_addr: u64) -> Outcome
-    ensures { result ≡ called_of v (host_call.New hart_id dtb_addr) }
+// A register read, as a reply.
+fn read(v: Vcpu, index: usize) -> Reply
+    ensures { result ≡ gpr_reply v index }
 {
-    Outcome {
-        vcpu: by_value_setup::new(hart_id, dtb_addr),
-        reply: Reply::Done,
-        args: [0; 6],
-    }
-}
-
-// How much is to be printed, as an outcome: the record stays.
-fn printing(v: Vcpu, length: u64) -> Outcome
-    ensures { result ≡ called_of v (host_call.ToPrint length) }
-{
-    let w = v.waiting;
-    Outcome {
-        vcpu: v,
-        reply: Reply::Value(decide_record::printable(w, length)),
-        args: [0; 6],
+    match by_value_gprs::get_gpr(v, index) {
+        Ok(n) => Reply::Value(n),
+        Err(e) => Reply::Error(e),
     }
 }

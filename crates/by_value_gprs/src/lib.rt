@@ -1,30 +1,29 @@
 // The guest's general registers, read and written by the host.
-#![tactic(auto)]
+#![tactic(auto, unfolding(scope::specs::Calls::called_of, scope::specs::Calls::base_of, scope::specs::Calls::effect_of))]
 
 ghost use Rattle.std.specs.Prelude.{◌≡◌};
 ghost use Rattle.scope.specs.declared.hosts.HostCall.TheVariants as host_call;
 ghost use Rattle.scope.specs.Calls.{called_of, gpr_reply};
+ghost use Rattle.by_value_gprs.specs.Given.{reply_of};
 
-use scope::{Error, Outcome, Reply, Vcpu, Writes};
+use scope::{Error, Outcome, Vcpu, Writes};
 
 // Reads a general register.
-pub fn get_gpr(v: Vcpu, index: usize) -> Reply
-    ensures { result ≡ gpr_reply v index }
+#[tactic(auto, unfolding(scope::specs::Calls::gpr_reply))]
+pub fn get_gpr(v: Vcpu, index: usize) -> Result<u64, Error>
+    ensures { reply_of result ≡ gpr_reply v index }
 {
-    let x = v.x;
     if index < 32 {
-        return Reply::Value(decide_record::register(x, index));
+        return Ok(decide_record::register(&v.x, index));
     }
-    Reply::Error(Error::InvalidInput)
+    Err(Error::InvalidInput)
 }
 
 // Writes a general register; x0 stays.
 pub fn set_gpr(v: Vcpu, index: usize, value: u64) -> Outcome
     ensures { result ≡ called_of v (host_call.SetGpr index value) }
 {
-    let c = v.csrs;
-    let w = v.waiting;
-    let e = decide_host::write_effect(c, w, index, value);
+    let e = decide_host::write_effect(v.csrs, v.waiting, index, value);
     by_value_apply::unless_asking(v, e)
 }
 
@@ -32,8 +31,6 @@ pub fn set_gpr(v: Vcpu, index: usize, value: u64) -> Outcome
 pub fn set_return_value(v: Vcpu, value: u64) -> Outcome
     ensures { result ≡ called_of v (host_call.SetReturnValue value) }
 {
-    let c = v.csrs;
-    let w = v.waiting;
-    let e = decide_effects::done(c, Writes::One(10, value), w);
+    let e = decide_effects::done(v.csrs, Writes::One(10, value), v.waiting);
     by_value_apply::unless_asking(v, e)
 }

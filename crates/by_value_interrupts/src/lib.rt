@@ -1,19 +1,18 @@
 // The guest's interrupts, raised and latched by the host, and the results of its IPI requests.
-#![tactic(auto)]
+#![tactic(auto, unfolding(scope::specs::Calls::called_of, scope::specs::Calls::base_of, scope::specs::Calls::effect_of))]
 
 ghost use Rattle.std.specs.Prelude.{true, ◌≡◌};
 ghost use Rattle.scope.specs.declared.hosts.HostCall.TheVariants as host_call;
 ghost use Rattle.scope.specs.Calls.{called_of};
 
 use scope::{IpiAbi, IpiCompletion, Outcome, Vcpu, Writes};
+use words_numbers::Numbered;
 
 // Sets or clears a pending interrupt of the guest, by the host's vector.
 pub fn set_virtual_interrupt_pending(v: Vcpu, vector: u64, pending: bool) -> Outcome
     ensures { result ≡ called_of v (host_call.SetPending vector pending) }
 {
-    let c = v.csrs;
-    let w = v.waiting;
-    let e = decide_host::pending_effect(c, w, vector, pending);
+    let e = decide_host::pending_effect(v.csrs, v.waiting, vector, pending);
     by_value_apply::unless_asking(v, e)
 }
 
@@ -35,13 +34,8 @@ pub fn set_vseip_level(v: Vcpu, asserted: bool) -> Outcome
 pub fn latch_hvip(v: Vcpu, bits: u64) -> Outcome
     ensures { result ≡ called_of v (host_call.LatchHvip bits) }
 {
-    let c = v.csrs;
-    let w = v.waiting;
-    let e = decide_effects::done(
-        decide_record::with_hvip(c, c.hs.hvip | bits),
-        Writes::Keep,
-        w,
-    );
+    let latched = decide_record::with_hvip(v.csrs, v.csrs.hs.hvip | bits);
+    let e = decide_effects::done(latched, Writes::Keep, v.waiting);
     by_value_apply::unless_asking(v, e)
 }
 
@@ -49,12 +43,7 @@ pub fn latch_hvip(v: Vcpu, bits: u64) -> Outcome
 pub fn complete_ipi(v: Vcpu, abi: IpiAbi, completion: IpiCompletion) -> Outcome
     ensures { result ≡ called_of v (host_call.CompleteIpi abi completion) }
 {
-    let c = v.csrs;
-    let w = v.waiting;
-    let e = decide_effects::done(
-        c,
-        decide_host::ipi_writes(abi, decide_ipi::completion_number(completion)),
-        w,
-    );
+    let writes = decide_host::ipi_writes(abi, completion.number());
+    let e = decide_effects::done(v.csrs, writes, v.waiting);
     by_value_apply::unless_asking(v, e)
 }

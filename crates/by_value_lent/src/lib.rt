@@ -3,7 +3,7 @@
 
 ghost use Rattle.by_value_lent.specs.Lent.{Stored};
 
-use scope::{HostCall, Reply, Vcpu};
+use scope::{HostCall, Outcome, Reply, Vcpu};
 
 // What the host gets back when its record is changed where it lies: an outcome less the record.
 #[derive(Clone, Copy)]
@@ -16,11 +16,7 @@ pub struct Given {
 pub fn call_in_place(v: &mut Vcpu, c: HostCall) -> Given
     ensures { Stored v.old c v.new result }
 {
-    let o = by_value_entry::call(*v, c);
-    *v = o.vcpu;
-    let args = o.args;
-    Given {
-        reply: o.reply,
-        args,
-    }
+    let Outcome { vcpu, reply, args } = by_value_entry::call(*v, c);
+    *v = vcpu;
+    Given { reply, args }
 }

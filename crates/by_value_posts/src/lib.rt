@@ -10,43 +10,40 @@ use decide_posts::Row;
 use scope::{Post, Posted, RowOutcome, Vcpu};
 
 // Sets or clears pending interrupts of the guest in order, up to the first that is refused.
+#[tactic(auto, using(decide_posts::specs::RowLaws::folded), unfolding(decide_posts::specs::Fold::begun_of, decide_posts::specs::Fold::begun_by))]
 pub fn post(v: Vcpu, posts: &[Post]) -> RowOutcome
     ensures { result ≡ posted_of v posts.now }
 {
-    let s = begin(v);
-    let row = decide_posts::fold(s, posts);
-    finish(v, row)
+    let row = decide_posts::fold(begun(v), posts);
+    ended(v, row)
 }
 
 // The same on the host's record where it lies.
 pub fn post_in_place(v: &mut Vcpu, posts: &[Post]) -> Posted
     ensures { StoredRow v.old posts.now v.new result }
 {
-    let o = post(*v, posts);
-    *v = o.vcpu;
-    o.posted
+    let RowOutcome { vcpu, posted } = post(*v, posts);
+    *v = vcpu;
+    posted
 }
 
 // hvip, and whether an ask waits.
-fn begin(v: Vcpu) -> Row
+#[tactic(auto, unfolding(decide_posts::specs::Fold::begun_of))]
+fn begun(v: Vcpu) -> Row
     ensures { result ≡ begun_of v }
 {
-    let w = v.waiting;
-    decide_posts::begin(v.csrs.hs.hvip, decide_record::ask_of(w))
+    decide_posts::begin(v.csrs.hs.hvip, decide_record::ask_of(v.waiting))
 }
 
 // The record with hvip as the row leaves it, and what the row gives.
-fn finish(v: Vcpu, s: Row) -> RowOutcome
+#[tactic(auto, unfolding(decide_posts::specs::Fold::ended_of, decide_posts::specs::Fold::given_of, scope::specs::Posts::row_of, scope::specs::PostsLaws::with_hvip))]
+fn ended(v: Vcpu, s: Row) -> RowOutcome
     ensures { result ≡ ended_of v s }
 {
-    let c = v.csrs;
-    let mut n = v;
-    n.csrs = decide_record::with_hvip(c, s.hvip);
+    let mut vcpu = v;
+    vcpu.csrs = decide_record::with_hvip(v.csrs, s.hvip);
     RowOutcome {
-        vcpu: n,
-        posted: Posted {
-            applied: s.applied,
-            refusal: s.refusal,
-        },
+        vcpu,
+        posted: s.given(),
     }
 }

@@ -1,45 +1,25 @@
 // What the host sets up before a guest runs: the record, its CSRs, where it starts, its page table.
-#![tactic(auto)]
+#![tactic(auto, unfolding(scope::specs::Calls::called_of, scope::specs::Calls::base_of, scope::specs::Calls::effect_of))]
 
 ghost use Rattle.std.specs.Prelude.{◌≡◌};
 ghost use Rattle.scope.specs.declared.hosts.HostCall.TheVariants as host_call;
 ghost use Rattle.scope.specs.Calls.{new_of, called_of};
 
 use isa_types::GuestPhysAddr;
-use scope::{Csrs, GuestCsrs, HsCsrs, Outcome, Vcpu, VsCsrs, Waiting, Writes};
+use scope::{Csrs, Outcome, Vcpu, Waiting, Writes};
 
 // A record of zeros but for what a guest finds at its start: a0 is its hart, a1 where the device tree lies.
+#[tactic(auto, unfolding(scope::specs::Calls::new_of))]
 pub fn new(hart_id: u64, dtb_addr: u64) -> Vcpu
     ensures { result ≡ new_of hart_id dtb_addr }
 {
     let mut x = [0u64; 32];
     x[10] = hart_id;
     x[11] = dtb_addr;
-    let guest = GuestCsrs {
-        sepc: 0,
-        sstatus: 0,
-        hstatus: 0,
-    };
-    let vs = VsCsrs {
-        vsstatus: 0,
-        vstvec: 0,
-        vsepc: 0,
-        vscause: 0,
-        vstval: 0,
-        vstimecmp: 0,
-    };
-    let hs = HsCsrs {
-        hie: 0,
-        hvip: 0,
-        hgeie: 0,
-        hgatp: 0,
-    };
-    let csrs = Csrs { guest, vs, hs };
-    let counts = [0u64; 9];
     Vcpu {
         x,
-        csrs,
-        counts,
+        csrs: Csrs::default(),
+        counts: [0; 9],
         waiting: Waiting::Idle,
     }
 }
@@ -48,9 +28,7 @@ pub fn new(hart_id: u64, dtb_addr: u64) -> Vcpu
 pub fn setup(v: Vcpu) -> Outcome
     ensures { result ≡ called_of v host_call.Setup }
 {
-    let c = v.csrs;
-    let w = v.waiting;
-    let e = decide_effects::done(decide_host::setup_csrs(c), Writes::Keep, w);
+    let e = decide_effects::done(decide_host::setup_csrs(v.csrs), Writes::Keep, v.waiting);
     by_value_apply::unless_asking(v, e)
 }
 
@@ -58,9 +36,8 @@ pub fn setup(v: Vcpu) -> Outcome
 pub fn set_entry(v: Vcpu, entry: GuestPhysAddr) -> Outcome
     ensures { result ≡ called_of v (host_call.SetEntry entry) }
 {
-    let c = v.csrs;
-    let w = v.waiting;
-    let e = decide_effects::done(decide_host::entry_csrs(c, entry), Writes::Keep, w);
+    let csrs = decide_host::entry_csrs(v.csrs, entry);
+    let e = decide_effects::done(csrs, Writes::Keep, v.waiting);
     by_value_apply::unless_asking(v, e)
 }
 
@@ -68,8 +45,6 @@ pub fn set_entry(v: Vcpu, entry: GuestPhysAddr) -> Outcome
 pub fn set_nested_page_table(v: Vcpu, levels: u64, mode: u64, root: u64) -> Outcome
     ensures { result ≡ called_of v (host_call.SetNestedPageTable levels mode root) }
 {
-    let c = v.csrs;
-    let w = v.waiting;
-    let e = decide_host::paging_effect(c, w, levels, mode, root);
+    let e = decide_host::paging_effect(v.csrs, v.waiting, levels, mode, root);
     by_value_apply::unless_asking(v, e)
 }

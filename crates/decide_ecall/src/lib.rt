@@ -7,30 +7,31 @@ ghost use Rattle.scope.specs.declared.traps.Args.{Args};
 ghost use Rattle.scope.specs.Decided.{call_effect};
 ghost use Rattle.scope.specs.Ecalls.{ecall_effect};
 
+use decide_record::Ecall;
 use isa_types::GuestVirtAddr;
-use scope::{Args, Event, SbiCall};
+use scope::{Event, SbiCall};
 
-// What the call eid, fid does with these arguments and this much room in the console buffer.
-pub fn decide(eid: u64, fid: u64, a: Args, room: u64) -> SbiCall
-    ensures { (c : Csrs) → call_effect c eid fid a result ≡ ecall_effect c eid fid a room }
+// What the call does with this much room in the console buffer.
+pub fn decide(e: Ecall, room: u64) -> SbiCall
+    ensures { (c : Csrs) → call_effect c e.eid e.fid e.args result ≡ ecall_effect c e.eid e.fid e.args room }
 {
-    match eid {
-        isa_consts::LEGACY_SET_TIMER => SbiCall::LegacyTimer(a.a0),
-        isa_consts::LEGACY_CONSOLE_PUTCHAR => SbiCall::PutChar(a.a0),
+    match e.eid {
+        isa_consts::LEGACY_SET_TIMER => SbiCall::LegacyTimer(e.args.a0),
+        isa_consts::LEGACY_CONSOLE_PUTCHAR => SbiCall::PutChar(e.args.a0),
         isa_consts::LEGACY_CONSOLE_GETCHAR => SbiCall::GetChar,
         isa_consts::LEGACY_CLEAR_IPI => SbiCall::ClearIpi,
-        isa_consts::LEGACY_SEND_IPI => SbiCall::CopyMask(GuestVirtAddr(a.a0)),
+        isa_consts::LEGACY_SEND_IPI => SbiCall::CopyMask(GuestVirtAddr(e.args.a0)),
         isa_consts::LEGACY_REMOTE_FENCE_I => SbiCall::Moves,
         isa_consts::LEGACY_REMOTE_SFENCE_VMA => SbiCall::Moves,
         isa_consts::LEGACY_REMOTE_SFENCE_VMA_ASID => SbiCall::Moves,
         isa_consts::LEGACY_SHUTDOWN => SbiCall::SystemDown,
-        isa_consts::EID_TIME => decide_ecall_extensions::time(fid, a),
-        isa_consts::EID_SPI => decide_ecall_extensions::spi(fid, a),
-        isa_consts::EID_HSM => decide_ecall_extensions::hsm(fid, a),
+        isa_consts::EID_TIME => decide_ecall_extensions::time(e),
+        isa_consts::EID_SPI => decide_ecall_extensions::spi(e),
+        isa_consts::EID_HSM => decide_ecall_extensions::hsm(e),
         isa_consts::EID_HVC => SbiCall::Hypercall,
-        isa_consts::EID_SRST => decide_ecall_extensions::srst(fid, a),
-        isa_consts::EID_DBCN => decide_ecall_console::dbcn(fid, a, room.min(isa_consts::CONSOLE_ROOM)),
-        isa_consts::EID_RFNC => decide_ecall_extensions::rfnc(fid),
+        isa_consts::EID_SRST => decide_ecall_extensions::srst(e),
+        isa_consts::EID_DBCN => decide_ecall_console::dbcn(e, room.min(isa_consts::CONSOLE_ROOM)),
+        isa_consts::EID_RFNC => decide_ecall_extensions::rfnc(e.fid),
         _ => SbiCall::Forward(Event::Quiet),
     }
 }

@@ -7,16 +7,17 @@ ghost use Rattle.scope.specs.declared.traps.Args.{Args};
 ghost use Rattle.scope.specs.Decided.{call_effect};
 ghost use Rattle.scope.specs.Ecalls.{console_effect, dbcn_effect, span_effect};
 
+use decide_record::Ecall;
 use isa_types::GuestPhysAddr;
 use scope::{Args, SbiCall};
 
-pub fn dbcn(fid: u64, a: Args, room: u64) -> SbiCall
-    ensures { (c : Csrs) (eid : ℕ) → call_effect c eid fid a result ≡ dbcn_effect c fid a room }
+pub fn dbcn(e: Ecall, room: u64) -> SbiCall
+    ensures { (c : Csrs) (eid : ℕ) → call_effect c eid e.fid e.args result ≡ dbcn_effect c e.fid e.args room }
 {
-    match fid {
-        isa_consts::FID_CONSOLE_WRITE => console(true, a, room),
-        isa_consts::FID_CONSOLE_READ => console(false, a, room),
-        isa_consts::FID_CONSOLE_WRITE_BYTE => SbiCall::PutByte(a.a0 % 256),
+    match e.fid {
+        isa_consts::FID_CONSOLE_WRITE => console(true, e.args, room),
+        isa_consts::FID_CONSOLE_READ => console(false, e.args, room),
+        isa_consts::FID_CONSOLE_WRITE_BYTE => SbiCall::PutByte(e.args.a0 % 256),
         _ => decide_ecall_extensions::not_supported(),
     }
 }

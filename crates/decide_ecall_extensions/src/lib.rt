@@ -7,42 +7,47 @@ ghost use Rattle.scope.specs.declared.traps.Args.{Args};
 ghost use Rattle.scope.specs.Decided.{call_effect};
 ghost use Rattle.scope.specs.Ecalls.{hsm_effect, not_supported_effect, rfnc_effect, spi_effect, srst_effect, time_effect};
 
+use decide_record::Ecall;
 use isa_types::GuestPhysAddr;
-use scope::{Args, Event, SbiCall};
+use scope::{Event, SbiCall};
 
-pub fn time(fid: u64, a: Args) -> SbiCall
-    ensures { (c : Csrs) (eid : ℕ) → call_effect c eid fid a result ≡ time_effect c fid a }
+pub fn time(e: Ecall) -> SbiCall
+    ensures { (c : Csrs) (eid : ℕ) → call_effect c eid e.fid e.args result ≡ time_effect c e.fid e.args }
 {
-    if fid == isa_consts::FID_SET_TIMER {
-        return SbiCall::SetTimer(a.a0);
+    if e.fid == isa_consts::FID_SET_TIMER {
+        return SbiCall::SetTimer(e.args.a0);
     }
     not_supported()
 }
 
-pub fn spi(fid: u64, a: Args) -> SbiCall
-    ensures { (c : Csrs) (eid : ℕ) → call_effect c eid fid a result ≡ spi_effect c fid a }
+pub fn spi(e: Ecall) -> SbiCall
+    ensures { (c : Csrs) (eid : ℕ) → call_effect c eid e.fid e.args result ≡ spi_effect c e.fid e.args }
 {
-    if fid == isa_consts::FID_SEND_IPI {
-        return SbiCall::SendIpi(decide_ipi::standard_request(a.a0, a.a1));
+    if e.fid == isa_consts::FID_SEND_IPI {
+        return SbiCall::SendIpi(decide_ipi::standard_request(e.args.a0, e.args.a1));
     }
     not_supported()
 }
 
-pub fn hsm(fid: u64, a: Args) -> SbiCall
-    ensures { (c : Csrs) (eid : ℕ) → call_effect c eid fid a result ≡ hsm_effect c fid a }
+pub fn hsm(e: Ecall) -> SbiCall
+    ensures { (c : Csrs) (eid : ℕ) → call_effect c eid e.fid e.args result ≡ hsm_effect c e.fid e.args }
 {
-    match fid {
-        isa_consts::FID_HART_START => SbiCall::CpuUp(a.a0, GuestPhysAddr(a.a1), a.a2),
+    match e.fid {
+        isa_consts::FID_HART_START => SbiCall::CpuUp(
+            e.args.a0,
+            GuestPhysAddr(e.args.a1),
+            e.args.a2,
+        ),
         isa_consts::FID_HART_STOP => SbiCall::CpuDown,
         isa_consts::FID_HART_SUSPEND => SbiCall::Halt,
         _ => not_supported(),
     }
 }
 
-pub fn srst(fid: u64, a: Args) -> SbiCall
-    ensures { (c : Csrs) (eid : ℕ) → call_effect c eid fid a result ≡ srst_effect c fid a }
+pub fn srst(e: Ecall) -> SbiCall
+    ensures { (c : Csrs) (eid : ℕ) → call_effect c eid e.fid e.args result ≡ srst_effect c e.fid e.args }
 {
-    if fid == isa_consts::FID_SYSTEM_RESET && a.a0 == isa_consts::RESET_TYPE_SHUTDOWN {
+    if e.fid == isa_consts::FID_SYSTEM_RESET && e.args.a0 == isa_consts::RESET_TYPE_SHUTDOWN {
         return SbiCall::SystemDown;
     }
     not_supported()

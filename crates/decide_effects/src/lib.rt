@@ -3,9 +3,11 @@
 
 ghost use Rattle.std.specs.Prelude.{◌≡◌, eqb};
 ghost use Rattle.scope.specs.Refusals.{asking_of, done_of, failed_of, finished_of, refused_of};
-ghost use Rattle.scope.specs.Record.{no_args};
+ghost use Rattle.scope.specs.Record.{no_args, waiting_ask};
 ghost use Rattle.isa_types.specs.Pick.{pick};
 ghost use Rattle.scope.specs.declared.traps.Error.TheVariants as error;
+ghost use Rattle.scope.specs.declared.machine.Event.TheVariants as event;
+ghost use Rattle.scope.specs.declared.machine.Writes.TheVariants as writes;
 
 use scope::{Args, Ask, Csrs, Effect, Error, Event, Exit, Reply, Waiting, Writes};
 
@@ -14,12 +16,9 @@ pub fn finished(csrs: Csrs, event: Event, writes: Writes, exit: Exit) -> Effect
     ensures { result ≡ finished_of csrs event writes exit }
 {
     Effect {
-        csrs,
         event,
         writes,
-        waiting: Waiting::Idle,
-        reply: Reply::Exit(exit),
-        args: no_args(),
+        ..replying(csrs, Waiting::Idle, Reply::Exit(exit))
     }
 }
 
@@ -28,12 +27,8 @@ pub fn asking(csrs: Csrs, event: Event, waits: Waiting, ask: Ask) -> Effect
     ensures { result ≡ asking_of csrs event waits ask }
 {
     Effect {
-        csrs,
         event,
-        writes: Writes::Keep,
-        waiting: waits,
-        reply: Reply::Ask(ask),
-        args: no_args(),
+        ..replying(csrs, waits, Reply::Ask(ask))
     }
 }
 
@@ -42,12 +37,8 @@ pub fn failed(csrs: Csrs, seen: Event, error: Error) -> Effect
     ensures { result ≡ failed_of csrs seen error }
 {
     Effect {
-        csrs,
         event: seen,
-        writes: Writes::Keep,
-        waiting: Waiting::Idle,
-        reply: Reply::Error(error),
-        args: no_args(),
+        ..replying(csrs, Waiting::Idle, Reply::Error(error))
     }
 }
 
@@ -55,14 +46,7 @@ pub fn failed(csrs: Csrs, seen: Event, error: Error) -> Effect
 pub fn refused(csrs: Csrs, kept: Waiting, error: Error) -> Effect
     ensures { result ≡ refused_of csrs kept error }
 {
-    Effect {
-        csrs,
-        event: Event::Quiet,
-        writes: Writes::Keep,
-        waiting: kept,
-        reply: Reply::Error(error),
-        args: no_args(),
-    }
+    replying(csrs, kept, Reply::Error(error))
 }
 
 // The call is done. What waits goes on waiting.
@@ -70,34 +54,31 @@ pub fn done(csrs: Csrs, writes: Writes, still: Waiting) -> Effect
     ensures { result ≡ done_of csrs writes still }
 {
     Effect {
-        csrs,
-        event: Event::Quiet,
         writes,
-        waiting: still,
-        reply: Reply::Done,
-        args: no_args(),
+        ..replying(csrs, still, Reply::Done)
     }
 }
 
 // The effect, unless an ask waits: then refusal 2.
-pub fn guarded(ask: u64, csrs: Csrs, waiting: Waiting, e: Effect) -> Effect
-    ensures { result ≡ pick (eqb ask 0) e (refused_of csrs waiting error.BadState) }
+pub fn guarded(csrs: Csrs, waiting: Waiting, e: Effect) -> Effect
+    ensures { result ≡ pick (eqb (waiting_ask waiting) 0) e (refused_of csrs waiting error.BadState) }
 {
-    if ask == 0 {
+    if decide_record::ask_of(waiting) == 0 {
         return e;
     }
     refused(csrs, waiting, Error::BadState)
 }
 
-pub fn no_args() -> Args
-    ensures { result ≡ no_args }
+// An effect that counts nothing and writes no register.
+fn replying(csrs: Csrs, waiting: Waiting, reply: Reply) -> Effect
+    ensures { result ≡ record { csrs = csrs; event = event.Quiet; writes = writes.Keep; waiting = waiting; reply = reply; args = no_args } }
 {
-    Args {
-        a0: 0,
-        a1: 0,
-        a2: 0,
-        a3: 0,
-        a4: 0,
-        a5: 0,
+    Effect {
+        csrs,
+        event: Event::Quiet,
+        writes: Writes::Keep,
+        waiting,
+        reply,
+        args: Args::default(),
     }
 }

@@ -5,6 +5,7 @@ ghost use Rattle.std.specs.Prelude.{◌≡◌, ◌<◌, ◌-◌, ◌^◌, length
 ghost use Rattle.decide_posts.specs.Fold.{applied_by, begun_by, fold_of, given_of};
 
 use scope::{Error, Post, Posted};
+use words_numbers::Numbered;
 
 // How far a row has come: hvip, how many posts were applied, and the refusal that stopped it.
 #[derive(Clone, Copy)]
@@ -21,7 +22,7 @@ impl Row {
     {
         let refusal = match self.refusal {
             None => 0,
-            Some(e) => words_numbers::error_number(e),
+            Some(e) => e.number(),
         };
         Posted {
             applied: self.applied,

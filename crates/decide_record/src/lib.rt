@@ -1,7 +1,7 @@
 // The parts of a vCPU record, read and changed: sepc, the timer, hvip, a register, the ask that waits. Both entries use them.
 #![tactic(auto)]
 
-ghost use Rattle.std.specs.Prelude.{◌≡◌, ◌≤◌, ◌+◌};
+ghost use Rattle.std.specs.Prelude.{◌≡◌, ◌≤◌, ◌+◌, get_or};
 ghost use Rattle.isa_types.specs.Pick.{wrapped};
 ghost use Rattle.scope.specs.Calls.{fitted, print_count, printable};
 ghost use Rattle.scope.specs.Classes.{arguments_of};
@@ -51,19 +51,35 @@ pub fn register<const N: usize>(x: &[u64; N], i: usize) -> u64
     0
 }
 
-// a0 to a5, of the registers that words begin with.
-#[tactic(auto, unfolding(scope::specs::Classes::arguments_of))]
-pub fn arguments<const N: usize>(x: &[u64; N]) -> Args
-    requires { 32 ≤ N }
-    ensures { result ≡ arguments_of x.now }
-{
-    Args {
-        a0: x[10],
-        a1: x[11],
-        a2: x[12],
-        a3: x[13],
-        a4: x[14],
-        a5: x[15],
+// An SBI call: its extension, its function and its arguments.
+#[derive(Clone, Copy)]
+pub struct Ecall {
+    pub eid: u64,
+    pub fid: u64,
+    pub args: Args,
+}
+
+impl Ecall {
+    // The call that a guest's registers make, which words begin with: a7, a6, and a0 to a5.
+    #[tactic(auto, unfolding(scope::specs::Classes::arguments_of))]
+    pub fn of<const N: usize>(x: &[u64; N]) -> Ecall
+        requires { 32 ≤ N }
+        ensures eid { result.eid ≡ get_or x.now 17 0 }
+        ensures fid { result.fid ≡ get_or x.now 16 0 }
+        ensures args { result.args ≡ arguments_of x.now }
+    {
+        Ecall {
+            eid: x[17],
+            fid: x[16],
+            args: Args {
+                a0: x[10],
+                a1: x[11],
+                a2: x[12],
+                a3: x[13],
+                a4: x[14],
+                a5: x[15],
+            },
+        }
     }
 }
 

@@ -4,7 +4,7 @@ use crate::traps::{Access, Args, Reply};
 use isa_types::{GuestPhysAddr, Width};
 
 // What the guest resumes with.
-#[derive(Clone, Copy)]
+#[derive(Clone, Copy, Default)]
 pub struct GuestCsrs {
     pub sepc: u64,
     pub sstatus: u64,
@@ -12,7 +12,7 @@ pub struct GuestCsrs {
 }
 
 // The guest's own supervisor CSRs.
-#[derive(Clone, Copy)]
+#[derive(Clone, Copy, Default)]
 pub struct VsCsrs {
     pub vsstatus: u64,
     pub vstvec: u64,
@@ -23,7 +23,7 @@ pub struct VsCsrs {
 }
 
 // The hypervisor's CSRs for this guest.
-#[derive(Clone, Copy)]
+#[derive(Clone, Copy, Default)]
 pub struct HsCsrs {
     pub hie: u64,
     pub hvip: u64,
@@ -31,7 +31,7 @@ pub struct HsCsrs {
     pub hgatp: u64,
 }
 
-#[derive(Clone, Copy)]
+#[derive(Clone, Copy, Default)]
 pub struct Csrs {
     pub guest: GuestCsrs,
     pub vs: VsCsrs,

@@ -25,7 +25,7 @@ pub struct IpiRequest {
 }
 
 // The arguments a0 to a5 of an ecall.
-#[derive(Clone, Copy)]
+#[derive(Clone, Copy, Default)]
 pub struct Args {
     pub a0: u64,
     pub a1: u64,

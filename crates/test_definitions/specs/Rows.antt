@@ -32,14 +32,13 @@ use Rattle.in_place_start.specs.Words as theInPlaceStartWords
 use Rattle.scope.specs.declared.hosts.HostCall.{HostCall}
 use Rattle.scope.specs.declared.machine.Outcome.{Outcome}
 use Rattle.scope.specs.declared.machine.Record.{Record}
+use Rattle.words_call.specs.declared.ReplyWords.{ReplyWords}
 use Rattle.in_place_record.specs.View.{record_of, view_of}
 use Rattle.scope.specs.ReplyWords.{out_of, reply_word}
-use Rattle.words_call.specs.declared.After.{After}
 use Rattle.scope.specs.Words.{call_by, left_by}
 use Rattle.words_entry.specs.Words.{exported_of}
 use Rattle.scope.specs.Calls.{called_of, printable}
 use Rattle.in_place_entry_trap.specs.Calls.{answer_call, start_call}
-use Rattle.words_entry_posts.specs.declared.AfterRow.{AfterRow}
 use Rattle.scope.specs.declared.hosts.Post.{Post}
 use Rattle.scope.specs.declared.hosts.Posted.{Posted}
 use Rattle.scope.specs.Posts.{left_posted, posted_of}
@@ -69,8 +68,8 @@ abbrev wanted : ℕ → List ℕ → List ℕ → List ℕ
 wanted code out after = code ∷ (out ++ (beside (eqb code 6) out ++ after))
 
 -- the same through the words of the exported entry: a reply's kind and number, its values, the array, the record
-abbrev reported : After → List ℕ
-reported a = a.reply.kind ∷ a.reply.number ∷ (a.reply.values ++ (a.reply.args ++ words a.rec))
+abbrev reported : Record × ReplyWords → List ℕ
+reported a = a.1.kind ∷ a.1.number ∷ (a.1.values ++ (a.1.args ++ words a.0))
 
 abbrev exported : ℕ → List ℕ → List ℕ → List ℕ
 exported k c r = reported (exported_of (record_of r) (record { kind = k; numbers = c }))
@@ -119,8 +118,8 @@ abbrev posted : ℕ → List ℕ → List ℕ → List ℕ
 posted k c r = rowed (posted_of (view_of r) (posts c)).posted (left_posted (record_of r) (posts c))
 
 -- the same through the exported entry
-abbrev row_out : AfterRow → List ℕ
-row_out a = rowed a.posted a.rec
+abbrev row_out : Record × Posted → List ℕ
+row_out a = rowed a.1 a.0
 
 abbrev posted_out : ℕ → List ℕ → List ℕ → List ℕ
 posted_out k c r = row_out (exported_row (record_of r) (posts c))

@@ -9,6 +9,7 @@ use isa_types::Width;
 use std::env::Env;
 use std::fs::{File, Files};
 use std::io::Read;
+use words_numbers::Numbered;
 
 // A list that never ends is cut here.
 const MOST_LINES: u64 = 100_000;
@@ -226,11 +227,11 @@ fn of_decoded(d: Decoded) -> u64
 {
     match d {
         Decoded::Load { width, signed, rd } => 0x1_0000
-            + words_numbers::width_bytes(width) % 16 * 0x1000
+            + width.number() % 16 * 0x1000
             + sign(signed)
             + (rd % 256) as u64,
         Decoded::Store { width, rs2 } => 0x2_0000
-            + words_numbers::width_bytes(width) % 16 * 0x1000
+            + width.number() % 16 * 0x1000
             + (rs2 % 256) as u64,
         Decoded::Neither => 0,
     }

@@ -14,7 +14,7 @@ use scope::{
 };
 use words_numbers::{FromNumber, Numbered};
 
-// A call in words.
+// A call in words. The kind is a number, since C writes it.
 #[repr(C)]
 #[derive(Clone, Copy)]
 pub struct CallWords {
@@ -22,7 +22,7 @@ pub struct CallWords {
     pub numbers: [u64; 5],
 }
 
-// What a call gives back, in words.
+// What a call gives back, in words. Its kind and number are numbers, since C reads them.
 #[repr(C)]
 #[derive(Clone, Copy)]
 pub struct ReplyWords {
@@ -33,50 +33,52 @@ pub struct ReplyWords {
 }
 
 // The call that words stand for. An unknown kind is no call: it is read as the read of a register that isn't there, which is
-// refused. No From: HostCall is scope's, which holds no code.
-#[tactic(auto, unfolding(crate::specs::Words::call_of, scope::specs::Words::call_by))]
-pub fn call_of(c: CallWords) -> HostCall
-    ensures { result ≡ call_of c }
-{
-    let [a, b, d, e, f] = c.numbers;
-    match c.kind {
-        1 => HostCall::Setup,
-        2 => HostCall::SetEntry(GuestPhysAddr(a)),
-        3 => HostCall::GetGpr { index: a as usize },
-        4 => HostCall::SetGpr {
-            index: a as usize,
-            value: b,
-        },
-        5 => HostCall::SetReturnValue { value: a },
-        6 => HostCall::SetNestedPageTable {
-            levels: a,
-            mode: b,
-            root: d,
-        },
-        7 => HostCall::SetPending {
-            vector: a,
-            level: bool::from_number(b),
-        },
-        8 => HostCall::LatchHvip { bits: a },
-        9 => HostCall::CompleteIpi {
-            abi: IpiAbi::from_number(a),
-            completion: IpiCompletion::from_number(b),
-        },
-        10 => HostCall::Start(Trap {
-            scause: a,
-            stval: b,
-            htval: d,
-            htinst: e,
-            room: f,
-        }),
-        11 => HostCall::Answer(answer_for(a, b, d)),
-        12 => HostCall::CompleteLoad { number: a },
-        13 => HostCall::ToPrint { length: a },
-        14 => HostCall::New {
-            hart_id: a,
-            dtb_addr: b,
-        },
-        _ => HostCall::GetGpr { index: 32 },
+// refused.
+impl From<CallWords> for HostCall {
+    ghost from_gives = { λ c h. h ≡ call_of c };
+
+    #[tactic(auto, unfolding(crate::specs::Words::call_of, scope::specs::Words::call_by))]
+    fn from(c: CallWords) -> HostCall {
+        let [a, b, d, e, f] = c.numbers;
+        match c.kind {
+            1 => HostCall::Setup,
+            2 => HostCall::SetEntry(GuestPhysAddr(a)),
+            3 => HostCall::GetGpr { index: a as usize },
+            4 => HostCall::SetGpr {
+                index: a as usize,
+                value: b,
+            },
+            5 => HostCall::SetReturnValue { value: a },
+            6 => HostCall::SetNestedPageTable {
+                levels: a,
+                mode: b,
+                root: d,
+            },
+            7 => HostCall::SetPending {
+                vector: a,
+                level: bool::from_number(b),
+            },
+            8 => HostCall::LatchHvip { bits: a },
+            9 => HostCall::CompleteIpi {
+                abi: IpiAbi::from_number(a),
+                completion: IpiCompletion::from_number(b),
+            },
+            10 => HostCall::Start(Trap {
+                scause: a,
+                stval: b,
+                htval: d,
+                htinst: e,
+                room: f,
+            }),
+            11 => HostCall::Answer(answer_for(a, b, d)),
+            12 => HostCall::CompleteLoad { number: a },
+            13 => HostCall::ToPrint { length: a },
+            14 => HostCall::New {
+                hart_id: a,
+                dtb_addr: b,
+            },
+            _ => HostCall::GetGpr { index: 32 },
+        }
     }
 }
 
@@ -112,16 +114,18 @@ fn answer_for(ask: u64, word: u64, more: u64) -> Answer
 }
 
 // What an outcome gives beside the record.
-#[tactic(auto, unfolding(crate::specs::Words::reply_words_of))]
-pub fn told(o: Outcome) -> ReplyWords
-    ensures { result ≡ reply_words_of o }
-{
-    let Outcome { reply, args, .. } = o;
-    ReplyWords {
-        kind: reply_kind(reply),
-        number: reply_number(reply),
-        values: reply_values(reply),
-        args,
+impl From<Outcome> for ReplyWords {
+    ghost from_gives = { λ o r. r ≡ reply_words_of o };
+
+    #[tactic(auto, unfolding(crate::specs::Words::reply_words_of))]
+    fn from(o: Outcome) -> ReplyWords {
+        let Outcome { reply, args, .. } = o;
+        ReplyWords {
+            kind: reply_kind(reply),
+            number: reply_number(reply),
+            values: reply_values(reply),
+            args,
+        }
     }
 }
 

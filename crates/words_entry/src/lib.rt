@@ -5,7 +5,7 @@
 ghost use Rattle.std.specs.Prelude.{◌≡◌};
 ghost use Rattle.words_entry.specs.Words.{Exported, exported_of};
 
-use scope::Record;
+use scope::{HostCall, Record};
 use words_call::{CallWords, ReplyWords};
 
 // Makes a call on the host's record where it lies.
@@ -23,7 +23,7 @@ pub extern "C" fn vcpu_call(v: &mut Record, c: CallWords) -> ReplyWords
 pub fn step(r: Record, c: CallWords) -> (Record, ReplyWords)
     ensures { result ≡ exported_of r c }
 {
-    let h = words_call::call_of(c);
+    let h = HostCall::from(c);
     let o = by_value_entry::call(words_record::unpack(r), h);
-    (words_call::left(r, h, o), words_call::told(o))
+    (words_call::left(r, h, o), ReplyWords::from(o))
 }

@@ -230,28 +230,3 @@ pub fn ask_values(a: Ask) -> [u64; 8]
         ],
     }
 }
-
-// The functions of the traits by name, until their callers call the methods.
-pub fn exit_number(e: Exit) -> u64
-    ensures { result ≡ exit_number e }
-{
-    e.number()
-}
-
-pub fn width_bytes(w: Width) -> u64
-    ensures { result ≡ width_bytes w }
-{
-    w.number()
-}
-
-pub fn access_number(a: Access) -> u64
-    ensures { result ≡ access_number a }
-{
-    a.number()
-}
-
-pub fn abi_number(a: IpiAbi) -> u64
-    ensures { result ≡ abi_number a }
-{
-    a.number()
-}

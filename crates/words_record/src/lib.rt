@@ -1,19 +1,17 @@
-// The vCPU record in words, and the numbers of what a call is given, as the host's compiler sees them.
+// The vCPU record in words, and the values that other words stand for, as the host's compiler sees them. A kind is a number here, since
+// C reads and writes these words.
 #![tactic(auto)]
 
 ghost use Rattle.std.specs.Prelude.{◌≡◌, ◌≤◌, take};
-ghost use Rattle.scope.specs.OneTrap.{flag_of, fetch_of};
+ghost use Rattle.scope.specs.OneTrap.{fetch_of};
 ghost use Rattle.std.proofs.lemmas.List.Edits.{sets};
-ghost use Rattle.scope.specs.Words.{abi_of, asked_word_count, waiting_count, completion_of, csrs_of, csrs_words, laid_with, tested, unpack_of, waiting_by, waiting_of, waiting_words, asked_words};
+ghost use Rattle.scope.specs.Words.{asked_word_count, waiting_count, csrs_of, csrs_words, laid_with, unpack_of, waiting_by, waiting_of, waiting_words, asked_words};
 
 use isa_types::{GuestPhysAddr, GuestVirtAddr, Width};
-use scope::{
-    Access, Csrs, EcallAsk, Fetch, GuestCsrs, HsCsrs, IpiAbi, IpiCompletion, Record, Vcpu, VsCsrs,
-    Waiting,
-};
+use scope::{Access, Csrs, EcallAsk, Fetch, GuestCsrs, HsCsrs, Record, Vcpu, VsCsrs, Waiting};
 use words_numbers::{FromNumber, Numbered};
 
-// The record that words stand for. No From: a record and its parts are scope's, which holds no code.
+// The record that words stand for. Functions here and no From: both types are scope's, which holds no code.
 #[tactic(auto, unfolding(scope::specs::Words::unpack_of))]
 pub fn unpack(r: Record) -> Vcpu
     ensures { result ≡ unpack_of r }
@@ -222,29 +220,4 @@ pub fn fetch_of(word: u64, fault: u64) -> Fetch
         4 => Fetch::GuestPage(GuestPhysAddr(word)),
         _ => Fetch::Unhandled,
     }
-}
-
-// The methods by name, until their callers call them.
-pub fn abi_of(n: u64) -> IpiAbi
-    ensures { result ≡ abi_of n }
-{
-    IpiAbi::from_number(n)
-}
-
-pub fn completion_of(n: u64) -> IpiCompletion
-    ensures { result ≡ completion_of n }
-{
-    IpiCompletion::from_number(n)
-}
-
-pub fn test(n: u64) -> bool
-    ensures { result ≡ tested n }
-{
-    bool::from_number(n)
-}
-
-pub fn flag(b: bool) -> u64
-    ensures { result ≡ flag_of b }
-{
-    b.number()
 }
