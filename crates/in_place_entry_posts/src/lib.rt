@@ -3,8 +3,7 @@
 #![tactic(auto)]
 
 ghost use Rattle.std.specs.Prelude.{◌≡◌, set};
-ghost use Rattle.decide_posts.specs.Fold.{begun_of};
-ghost use Rattle.in_place_entry_posts.specs.Row.{given_of};
+ghost use Rattle.decide_posts.specs.Fold.{begun_of, given_of};
 ghost use Rattle.in_place_record.specs.View.{MadeRow, view_of};
 
 use decide_posts::Row;
@@ -29,13 +28,9 @@ fn begin(r: &[u64; 58]) -> Row
 }
 
 // The one write of hvip, and what the row gives.
-#[tactic(auto, unfolding(crate::specs::Row::given_of))]
 fn finish(r: &mut [u64; 58], s: Row) -> Posted
     ensures { (r.new ≡ set r.old 42 s.hvip) × (result ≡ given_of s) }
 {
     r[in_place_record::HVIP] = s.hvip;
-    Posted {
-        applied: s.applied,
-        refusal: s.refusal,
-    }
+    s.given()
 }
