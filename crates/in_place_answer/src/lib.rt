@@ -68,7 +68,6 @@ pub fn answer(r: &mut [u64; 58], out: &mut [u64; 8], a: AnswerWords) -> u64
 pub fn complete_load(r: &mut [u64; 58], n: u64) -> u64
     ensures { Settled (trap_leaves r.old) (called_of (view_of r.old) (host_call.CompleteLoad n)) r.new result }
 {
-    in_place_record::sized(r);
     let w = in_place_read::waiting(r);
     in_place_record::complete(r, w, n)
 }
@@ -97,7 +96,6 @@ fn ecall_waits(r: &mut [u64; 58], out: &mut [u64; 8], e: EcallAsk, a: AnswerWord
 fn answered(number: u64, r: &mut [u64; 58], out: &mut [u64; 8], e: EcallAsk, a: AnswerWords) -> u64
     ensures { waiting.Ecall e ≡ (view_of r.old).waiting → number ≡ ecall_ask_number e → Laid (trap_leaves r.old) out.old (called_of (view_of r.old) (host_call.Answer (answer_for a.ask a.word a.more))) r.new out.new result }
 {
-    in_place_record::sized(r);
     if a.ask == number {
         return in_place_classes::do_answered(r, out, decide_answers::decide(e, a.word, a.more));
     }
@@ -108,7 +106,6 @@ fn answered(number: u64, r: &mut [u64; 58], out: &mut [u64; 8], e: EcallAsk, a: 
 fn csr_fetched(r: &mut [u64; 58], out: &mut [u64; 8], a: AnswerWords) -> u64
     ensures { Laid (trap_leaves r.old) out.old (applied (view_of r.old) (fetch_effect (view_of r.old).x (view_of r.old).csrs waiting.FetchCsr (fetch_of a.word a.more))) r.new out.new result }
 {
-    in_place_record::sized(r);
     match words_record::fetch_of(a.word, a.more) {
         Fetch::Word(word) => stimecmp_word(r, out, word as u64),
         f => in_place_classes::do_missed(r, out, decide_fetch::decide(f)),
@@ -125,7 +122,6 @@ fn mmio_fetched(
 ) -> u64
     ensures { Laid (trap_leaves r.old) out.old (applied (view_of r.old) (fetch_effect (view_of r.old).x (view_of r.old).csrs (waiting.FetchFault at access) (fetch_of a.word a.more))) r.new out.new result }
 {
-    in_place_record::sized(r);
     match words_record::fetch_of(a.word, a.more) {
         Fetch::Word(word) => {
             in_place_classes::do_mmio(r, out, at, access, isa_decoder::from_fetched(word))
@@ -138,7 +134,6 @@ fn mmio_fetched(
 fn stimecmp_word(r: &mut [u64; 58], out: &mut [u64; 8], word: u64) -> u64
     ensures { Laid (trap_leaves r.old) out.old (applied (view_of r.old) (stimecmp_effect (view_of r.old).csrs (stimecmp_word word (view_of r.old).csrs.vs.vstimecmp (value_of (view_of r.old).x (rs1_field word))))) r.new out.new result }
 {
-    in_place_record::sized(r);
     let rs1 = decide_record::register(r, isa_fields::rs1(word));
     let d = decide_virtual_inst::decide(word, r[in_place_record::VSTIMECMP], rs1);
     in_place_classes::do_csr(r, out, d)

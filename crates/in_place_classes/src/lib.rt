@@ -114,7 +114,6 @@ pub fn do_mmio(
 ) -> u64
     ensures { Laid (trap_leaves r.old) out.old (applied (view_of r.old) (mmio_of (view_of r.old).x (view_of r.old).csrs at access i)) r.new out.new result }
 {
-    in_place_record::sized(r);
     let source = decide_record::register(r, isa_decoder::store_source(i));
     do_fault(
         r,

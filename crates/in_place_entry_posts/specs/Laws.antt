@@ -1,7 +1,7 @@
 -- A row made in place: hvip is one of the 58 words, and all others stay.
 use Rattle.std.specs.Prelude.{ℕ, List, ◌≡◌, refl, drop, get_or, length, set}
 use Rattle.std.proofs.Common.{ap, sym, ◌∙◌}
-use Rattle.decide_posts.specs.Fold.{begun_of, ended_of, fold_of}
+use Rattle.decide_posts.specs.Fold.{begun_of, ended_of, fold_of, given_of}
 use Rattle.decide_posts.specs.RowLaws.{folded}
 use Rattle.decide_posts.specs.declared.Row.{Row}
 use Rattle.in_place_record.proofs.Shown.{over}
@@ -13,7 +13,6 @@ use Rattle.scope.specs.Words.{csrs_of, unpack_of}
 use Rattle.scope.specs.declared.hosts.Post.{Post}
 use Rattle.scope.specs.declared.hosts.Posted.{Posted}
 use Rattle.scope.specs.declared.machine.RowOutcome.{RowOutcome}
-use Rattle.in_place_entry_posts.specs.Row.{given_of}
 
 -- word 42 is hvip
 pub hvip_word : (r : List ℕ) → length r ≡ 58 → get_or r 42 0 ≡ (view_of r).csrs.hs.hvip

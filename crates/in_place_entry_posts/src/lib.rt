@@ -3,8 +3,7 @@
 #![tactic(auto)]
 
 ghost use Rattle.std.specs.Prelude.{◌≡◌, set};
-ghost use Rattle.decide_posts.specs.Fold.{begun_of};
-ghost use Rattle.in_place_entry_posts.specs.Row.{given_of};
+ghost use Rattle.decide_posts.specs.Fold.{begun_of, given_of};
 ghost use Rattle.in_place_record.specs.View.{MadeRow, view_of};
 
 use decide_posts::Row;
@@ -24,7 +23,6 @@ pub extern "C" fn vcpu_post_row(r: &mut [u64; 58], posts: &[Post]) -> Posted
 fn begin(r: &[u64; 58]) -> Row
     ensures { result ≡ begun_of (view_of r.now) }
 {
-    in_place_record::sized(r);
     let w = in_place_read::waiting(r);
     decide_posts::begin(r[in_place_record::HVIP], decide_record::ask_of(w))
 }
@@ -34,8 +32,5 @@ fn finish(r: &mut [u64; 58], s: Row) -> Posted
     ensures { (r.new ≡ set r.old 42 s.hvip) × (result ≡ given_of s) }
 {
     r[in_place_record::HVIP] = s.hvip;
-    Posted {
-        applied: s.applied,
-        refusal: s.refusal,
-    }
+    s.given()
 }

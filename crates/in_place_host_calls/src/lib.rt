@@ -119,7 +119,6 @@ fn unless_asking<F: FnOnce(Csrs, Waiting) -> Effect>(r: &mut [u64; 58], effect: 
     requires keeps { (c : Csrs) (w : Waiting) (e : Effect) → F.post effect c w e → Keeps e w }
     ensures { (e : Effect) × F.post effect (view_of r.old).csrs (view_of r.old).waiting e × Settled (host_leaves r.old) (applied (view_of r.old) (unless_asking (view_of r.old) e)) r.new result }
 {
-    in_place_record::sized(r);
     let c = in_place_read::csrs(r);
     let w = in_place_read::waiting(r);
     let e = effect(c, w);

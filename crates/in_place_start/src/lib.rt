@@ -18,6 +18,7 @@ ghost use Rattle.in_place_record.specs.Steps.{Laid, trap_leaves};
 ghost use Rattle.in_place_record.specs.View.{view_of};
 ghost use Rattle.in_place_start.specs.Words.{trap_words};
 
+use decide_record::Ecall;
 use in_place_record::{ReplyWord, WaitingKind};
 use scope::{Access, Class, Trap};
 
@@ -34,29 +35,21 @@ pub fn trap_of(t: &[u64; 5]) -> Trap
     }
 }
 
-// Starts a trap.
+// Starts a trap, where nothing waits.
 pub fn start(r: &mut [u64; 58], out: &mut [u64; 8], t: Trap) -> u64
     ensures { Laid (trap_leaves r.old) out.old (called_of (view_of r.old) (host_call.Start t)) r.new out.new result }
 {
-    let idle = decide_record::is_idle(in_place_read::waiting(r));
-    started(idle, r, out, t)
-}
-
-fn started(idle: bool, r: &mut [u64; 58], out: &mut [u64; 8], t: Trap) -> u64
-    ensures { Laid (trap_leaves r.old) out.old (applied (view_of r.old) (pick idle (class_effect (class_of t.scause) (view_of r.old).x (view_of r.old).csrs t) (refused_of (view_of r.old).csrs (view_of r.old).waiting error.BadState))) r.new out.new result }
-{
-    if idle {
-        return trapped(decide_class::class_of(t.scause), r, out, t);
+    if decide_record::is_idle(in_place_read::waiting(r)) {
+        return trapped(r, out, t);
     }
     ReplyWord::BadState as u64
 }
 
 // Each class at one place.
-fn trapped(class: Class, r: &mut [u64; 58], out: &mut [u64; 8], t: Trap) -> u64
-    ensures { Laid (trap_leaves r.old) out.old (applied (view_of r.old) (class_effect class (view_of r.old).x (view_of r.old).csrs t)) r.new out.new result }
+fn trapped(r: &mut [u64; 58], out: &mut [u64; 8], t: Trap) -> u64
+    ensures { Laid (trap_leaves r.old) out.old (applied (view_of r.old) (class_effect (class_of t.scause) (view_of r.old).x (view_of r.old).csrs t)) r.new out.new result }
 {
-    in_place_record::sized(r);
-    match class {
+    match decide_class::class_of(t.scause) {
         Class::Ecall => ecall(r, out, t.room),
         Class::VirtualInstruction => virtual_inst(r, out, t.stval),
         Class::PageFault(access) => page_fault(r, out, t, access),
@@ -79,16 +72,13 @@ fn trapped(class: Class, r: &mut [u64; 58], out: &mut [u64; 8], t: Trap) -> u64
 fn ecall(r: &mut [u64; 58], out: &mut [u64; 8], room: u64) -> u64
     ensures { Laid (trap_leaves r.old) out.old (applied (view_of r.old) (ecall_effect (view_of r.old).csrs (get_or (view_of r.old).x 17 0) (get_or (view_of r.old).x 16 0) (arguments_of (view_of r.old).x) room)) r.new out.new result }
 {
-    in_place_record::sized(r);
-    let a = decide_record::arguments(r);
-    let d = decide_ecall::decide(r[in_place_record::A7], r[in_place_record::A6], a, room);
+    let d = decide_ecall::decide(Ecall::of(r), room);
     in_place_ecall::do_call(r, out, d)
 }
 
 fn virtual_inst(r: &mut [u64; 58], out: &mut [u64; 8], stval: u64) -> u64
     ensures { Laid (trap_leaves r.old) out.old (applied (view_of r.old) (virtual_effect (view_of r.old).csrs stval (value_of (view_of r.old).x (rs1_field (stval % 2 ^ 32))))) r.new out.new result }
 {
-    in_place_record::sized(r);
     let rs1 = decide_record::register(r, isa_fields::rs1(stval % 0x1_0000_0000));
     let d = decide_virtual_inst::decide_stval(stval, r[in_place_record::VSTIMECMP], rs1);
     in_place_classes::do_csr(r, out, d)

@@ -6,4 +6,4 @@ use Rattle.in_place_answer.proofs.complete_load.Goals as goal
 
 pub returns : goal.returns
 unfolding called_of base_of effect_of
-returns c = done_by (complete_done _ c.sized.ensures _ _ refl) (simp c.waiting-w.ensures at c.complete.ensures)
+returns c = done_by (complete_done _ c.told-r _ _ refl) (simp c.waiting-w.ensures at c.complete.ensures)

@@ -8,4 +8,4 @@ unfolding fetch_effect word_effect
 returns-in-Word c = rw (sym c.fetch_of.ensures ∙ c.in-Word.is) (simp c.from_fetched.ensures at c.do_mmio.ensures)
 
 pub returns-in_default : goal.returns-in_default
-returns-in_default c = rw (sym c.fetch_of.ensures) (missed_answer _ _ _ _ _ _ _ c.sized.ensures c.in_default.not-Word (simp (c.decide.ensures, sym c.in_default.f-is) at c.do_missed.ensures))
+returns-in_default c = rw (sym c.fetch_of.ensures) (missed_answer _ _ _ _ _ _ _ c.told-r c.in_default.not-Word (simp (c.decide.ensures, sym c.in_default.f-is) at c.do_missed.ensures))

@@ -7,4 +7,4 @@ use Rattle.in_place_entry_interrupts.proofs.vcpu_complete_ipi.Goals as goal
 
 pub returns : goal.returns
 unfolding call_by host_leaves waiting_left
-returns c = settled (host_call.CompleteIpi _ _) (λ o. refl) (simp (c.completion_of.ensures, c.abi_of.ensures) at c.complete_ipi.ensures)
+returns c = settled (host_call.CompleteIpi _ _) (λ o. refl) (simp (c.from_number-2.ensures, c.from_number.ensures) at c.complete_ipi.ensures)

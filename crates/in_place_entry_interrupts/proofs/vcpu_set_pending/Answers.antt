@@ -7,4 +7,4 @@ use Rattle.in_place_entry_interrupts.proofs.vcpu_set_pending.Goals as goal
 
 pub returns : goal.returns
 unfolding call_by host_leaves waiting_left
-returns c = settled (host_call.SetPending _ _) (λ o. refl) (rw c.test.ensures at c.set_pending.ensures)
+returns c = settled (host_call.SetPending _ _) (λ o. refl) (rw c.from_number.ensures at c.set_pending.ensures)
