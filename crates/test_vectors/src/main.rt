@@ -155,7 +155,7 @@ fn fetched(word: u64) -> u64 {
 }
 
 // An answer as a number: the kind (1 load, 2 store), the width in bytes, the sign and the register, a hex digit for each and
-// two for the register.
+// two for the register. (No `From`: only the decoder's crate may write one for its types, and the digits are the lists' own.)
 fn of_decoded(d: Decoded) -> u64
     ensures { result < 0x100000 }
 {
