@@ -103,7 +103,8 @@ pub fn do_fault(
 }
 
 // Does a load or store of a device, once its instruction is known: a trap's, or the word of a fetch. It is always put in its callers'
-// places, so that the instruction passes in registers.
+// places, so that the instruction passes in registers. `at` and `access` come apart, as what waits has them (Waiting::FetchFault), and
+// are used apart: a struct of the two would only be made and opened again.
 #[inline(always)]
 pub fn do_mmio(
     r: &mut [u64; 58],

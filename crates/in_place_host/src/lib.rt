@@ -11,14 +11,25 @@ use in_place_record::ReplyWord;
 use scope::{Ask, Effect, Error, Reply, Writes};
 use words_numbers::Numbered;
 
-// Writes an effect that counts nothing and leaves what waits.
-#[tactic(auto, unfolding(crate::specs::Host::host_words))]
+// Writes an effect that counts nothing and leaves what waits. The CSRs go word by word: as in in_place_read::csrs, a copy of the slice
+// goes through the stack.
+#[tactic(auto, unfolding(crate::specs::Host::host_words, scope::specs::Words::csrs_words))]
 pub fn host(r: &mut [u64; 58], e: Effect) -> u64
     ensures { (r.new ≡ host_words r.old e) × (result ≡ reply_word e.reply) }
 {
-    r[in_place_record::SEPC..in_place_record::HGATP + 1].copy_from_slice(&words_record::csrs_words(
-        e.csrs,
-    ));
+    r[in_place_record::SEPC] = e.csrs.guest.sepc;
+    r[in_place_record::SSTATUS] = e.csrs.guest.sstatus;
+    r[in_place_record::HSTATUS] = e.csrs.guest.hstatus;
+    r[in_place_record::VSSTATUS] = e.csrs.vs.vsstatus;
+    r[in_place_record::VSTVEC] = e.csrs.vs.vstvec;
+    r[in_place_record::VSEPC] = e.csrs.vs.vsepc;
+    r[in_place_record::VSCAUSE] = e.csrs.vs.vscause;
+    r[in_place_record::VSTVAL] = e.csrs.vs.vstval;
+    r[in_place_record::VSTIMECMP] = e.csrs.vs.vstimecmp;
+    r[in_place_record::HIE] = e.csrs.hs.hie;
+    r[in_place_record::HVIP] = e.csrs.hs.hvip;
+    r[in_place_record::HGEIE] = e.csrs.hs.hgeie;
+    r[in_place_record::HGATP] = e.csrs.hs.hgatp;
     write(r, e.writes);
     reply_word(e.reply)
 }

@@ -6,7 +6,7 @@ ghost use Rattle.std.specs.Prelude.{◌≡◌};
 ghost use Rattle.in_place_record.specs.View.{view_of};
 ghost use Rattle.in_place_record.specs.Rows.{fetch_out, six_words};
 
-use scope::{Csrs, Waiting};
+use scope::{Csrs, GuestCsrs, HsCsrs, VsCsrs, Waiting};
 use words_numbers::Numbered;
 
 // What waits.
@@ -43,11 +43,30 @@ pub fn ask_fetch(r: &[u64; 58], out: &mut [u64; 8])
     out[1] = isa_registers::spvp(r[in_place_record::HSTATUS]).number();
 }
 
-#[tactic(auto, unfolding(in_place_record::specs::View::view_of, in_place_record::specs::View::record_of, scope::specs::Words::unpack_of))]
+// The CSRs, word by word: copied as a slice for words_record::csrs_of they go through the stack, and a host's call takes four times the
+// instructions.
+#[tactic(auto, using(in_place_record::proofs::Laws::csrs_words_lem))]
 pub fn csrs(r: &[u64; 58]) -> Csrs
     ensures { result ≡ (view_of r.now).csrs }
 {
-    let mut c = [0; 13];
-    c.copy_from_slice(&r[in_place_record::SEPC..in_place_record::HGATP + 1]);
-    words_record::csrs_of(c)
+    let guest = GuestCsrs {
+        sepc: r[in_place_record::SEPC],
+        sstatus: r[in_place_record::SSTATUS],
+        hstatus: r[in_place_record::HSTATUS],
+    };
+    let vs = VsCsrs {
+        vsstatus: r[in_place_record::VSSTATUS],
+        vstvec: r[in_place_record::VSTVEC],
+        vsepc: r[in_place_record::VSEPC],
+        vscause: r[in_place_record::VSCAUSE],
+        vstval: r[in_place_record::VSTVAL],
+        vstimecmp: r[in_place_record::VSTIMECMP],
+    };
+    let hs = HsCsrs {
+        hie: r[in_place_record::HIE],
+        hvip: r[in_place_record::HVIP],
+        hgeie: r[in_place_record::HGEIE],
+        hgatp: r[in_place_record::HGATP],
+    };
+    Csrs { guest, vs, hs }
 }

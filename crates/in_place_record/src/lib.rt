@@ -1,6 +1,8 @@
 // A vCPU record as 58 lent words, and writes that change it where it lies; in_place_read reads it,
 // in_place_write has the other writes. specs/View.antt gives the words their meaning; specs/Rows.antt says what each decision
 // does to them, and proofs/EachRow.antt and proofs/Laws.antt that this is the effect of the same decision.
+// The record and the eight words of a reply go side by side, as C lends them: about half of the functions take the record alone, and a
+// struct of the two loans would be taken apart at each of these calls, and twice as long in each promise (`l.r.old`, `l.out.old`).
 #![tactic(auto)]
 
 ghost use Rattle.std.specs.Prelude.{◌≡◌, length};

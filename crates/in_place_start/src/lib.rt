@@ -4,9 +4,6 @@
 
 ghost use Rattle.std.specs.Prelude.{◌≡◌, ◌%◌, ◌^◌, get_or};
 ghost use Rattle.scope.specs.declared.hosts.HostCall.TheVariants as host_call;
-ghost use Rattle.scope.specs.Refusals.{refused_of};
-ghost use Rattle.scope.specs.declared.traps.Error.TheVariants as error;
-ghost use Rattle.isa_types.specs.Pick.{pick};
 ghost use Rattle.isa_fields.specs.Fields.{rs1_field};
 ghost use Rattle.scope.specs.Record.{value_of, applied};
 ghost use Rattle.scope.specs.Classes.{arguments_of, class_of, class_effect};
@@ -22,7 +19,7 @@ use decide_record::Ecall;
 use in_place_record::{ReplyWord, WaitingKind};
 use scope::{Access, Class, Trap};
 
-// The trap of five words, read with no record in sight.
+// The trap of five words, read with no record in sight. No From: a Trap is scope's, which holds no code.
 pub fn trap_of(t: &[u64; 5]) -> Trap
     ensures { result ≡ trap_words t.now }
 {
