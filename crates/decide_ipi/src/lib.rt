@@ -1,10 +1,10 @@
-// Inter-processor interrupts: the requests that a guest makes through SBI, and the results that it gets back.
+// Inter-processor interrupts: the requests that a guest makes through SBI.
 #![tactic(auto)]
 
 ghost use Rattle.std.specs.Prelude.{◌≡◌};
-ghost use Rattle.scope.specs.Ecalls.{completion_number, legacy_request, standard_request};
+ghost use Rattle.scope.specs.Ecalls.{legacy_request, standard_request};
 
-use scope::{IpiAbi, IpiCompletion, IpiRequest};
+use scope::{IpiAbi, IpiRequest};
 
 // The request of extension sPI: mask and base as given.
 #[tactic(auto, unfolding(scope::specs::Ecalls::standard_request))]
@@ -31,16 +31,4 @@ pub fn legacy_request(count: u64, bytes: u64) -> Option<IpiRequest>
         });
     }
     None
-}
-
-// The SBI error number that a completion gives the guest.
-#[tactic(auto, unfolding(scope::specs::Ecalls::completion_number))]
-pub fn completion_number(c: IpiCompletion) -> u64
-    ensures { result ≡ completion_number c }
-{
-    match c {
-        IpiCompletion::Success => isa_consts::RET_SUCCESS,
-        IpiCompletion::InvalidParameter => isa_consts::RET_ERR_INVALID_PARAM,
-        IpiCompletion::Failed => isa_consts::RET_ERR_FAILED,
-    }
 }

@@ -148,9 +148,3 @@ pub fn print_count(w: Waiting) -> u64
         _ => 0,
     }
 }
-
-pub fn plus(a: u64, b: u64) -> u64
-    ensures { result ≡ wrapped (a + b) }
-{
-    a.wrapping_add(b)
-}
