@@ -3,7 +3,6 @@
 
 ghost use Rattle.std.specs.Prelude.{◌≡◌};
 ghost use Rattle.scope.specs.declared.machine.Csrs.{Csrs};
-ghost use Rattle.scope.specs.declared.traps.Args.{Args};
 ghost use Rattle.scope.specs.Decided.{call_effect};
 ghost use Rattle.scope.specs.Ecalls.{ecall_effect};
 

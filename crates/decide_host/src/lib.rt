@@ -1,16 +1,9 @@
 // What the host's own calls do to a record: setup, entry, registers, page table, interrupts, IPI results.
 #![tactic(auto)]
 
-ghost use Rattle.std.specs.Prelude.{◌≡◌, eqb};
+ghost use Rattle.std.specs.Prelude.{◌≡◌};
 ghost use Rattle.scope.specs.Host.{entry_csrs, ipi_writes, hvip_bit_of, paging_by, paging_effect, pending_effect, setup_csrs, table_csrs, write_effect};
-ghost use Rattle.isa_types.specs.Pick.{pick};
-ghost use Rattle.isa_consts.specs.Csr.{vseip, vssip, vstip};
-ghost use Rattle.isa_consts.specs.Traps.{supervisor_soft, supervisor_timer};
 ghost use Rattle.isa_registers.specs.Bits.{with_bits};
-ghost use Rattle.scope.specs.declared.machine.Writes.TheVariants as writes;
-ghost use Rattle.scope.specs.declared.traps.Error.TheVariants as error;
-ghost use Rattle.scope.specs.Record.{pended};
-ghost use Rattle.scope.specs.Refusals.{done_of, refused_of};
 
 use isa_types::GuestPhysAddr;
 use scope::{Csrs, Effect, Error, GuestCsrs, HsCsrs, IpiAbi, Waiting, Writes};

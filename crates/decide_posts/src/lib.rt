@@ -1,7 +1,7 @@
 // A row of posts, folded over hvip up to the first that is refused. 01, Which shape goes where; 02, W4.
 #![tactic(auto)]
 
-ghost use Rattle.std.specs.Prelude.{◌≡◌, ◌<◌, ◌-◌, ◌^◌, length};
+ghost use Rattle.std.specs.Prelude.{◌≡◌, ◌<◌, ◌-◌, ◌^◌};
 ghost use Rattle.decide_posts.specs.Fold.{applied_by, begun_by, fold_of, given_of};
 
 use scope::{Error, Post, Posted};

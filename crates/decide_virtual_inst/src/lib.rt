@@ -1,13 +1,10 @@
 // A virtual-instruction trap: the guest's CSR instruction on stimecmp, in its six forms.
 #![tactic(auto)]
 
-ghost use Rattle.std.specs.Prelude.{◌≡◌, eqb};
+ghost use Rattle.std.specs.Prelude.{◌≡◌};
 ghost use Rattle.scope.specs.VirtualInstruction.{stimecmp_word, stimecmp_stval, stimecmp_by};
 ghost use Rattle.decide_virtual_inst.specs.Straight.{timer_of};
-ghost use Rattle.isa_types.specs.Pick.{pick};
-ghost use Rattle.isa_consts.specs.Csr.{stimecmp, system_opcode};
-ghost use Rattle.isa_fields.specs.Fields.{funct3_field, rd_field, rs1_field};
-ghost use Rattle.scope.specs.declared.decided.Stimecmp.TheVariants as csr;
+ghost use Rattle.isa_consts.specs.Csr.{stimecmp};
 
 use scope::Stimecmp;
 

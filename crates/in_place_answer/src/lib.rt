@@ -4,13 +4,11 @@
 
 ghost use Rattle.std.specs.Prelude.{◌≡◌};
 ghost use Rattle.isa_fields.specs.Fields.{rs1_field};
-ghost use Rattle.isa_decoder.specs.Length.{fetched_of};
 ghost use Rattle.scope.specs.declared.hosts.HostCall.TheVariants as host_call;
 ghost use Rattle.scope.specs.declared.machine.Waiting.TheVariants as waiting;
-ghost use Rattle.scope.specs.Record.{ecall_ask_number, value_of, waiting_ask, applied};
+ghost use Rattle.scope.specs.Record.{ecall_ask_number, value_of, applied};
 ghost use Rattle.scope.specs.VirtualInstruction.{stimecmp_effect, stimecmp_word};
-ghost use Rattle.scope.specs.GuestPageFault.{mmio_of};
-ghost use Rattle.scope.specs.Answers.{fetch_effect, word_effect};
+ghost use Rattle.scope.specs.Answers.{fetch_effect};
 ghost use Rattle.scope.specs.Calls.{called_of};
 ghost use Rattle.scope.specs.OneTrap.{answer_for, fetch_of};
 ghost use Rattle.in_place_record.specs.Steps.{Laid, Settled, trap_leaves};
