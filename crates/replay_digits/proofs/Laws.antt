@@ -156,9 +156,9 @@ eight_at_lem s at h =
     ))
 
 -- eight bytes as the library reads them
-pub eight_of : (l : List ℕ) → length l ≡ 8 → from_le_bytes w64 l ≡ of_bytes l
+pub le_eight : (l : List ℕ) → length l ≡ 8 → from_le_bytes w64 l ≡ of_bytes l
 unfolding of_bytes
-eight_of l n =
+le_eight l n =
     let e : of_bytes l ≡ of_bytes (eight_at l 0) = ap of_bytes (sym (take_all 8 l (omega arith)) ∙ eight_at_lem l 0 (omega arith)) in
     omega (arith, e)
 
@@ -170,7 +170,7 @@ module _ (s : List ℕ) (halves : List (List ℕ)) (none : List ℕ) (x : ℕ) (
       f
       ∙ ap (λ (h : List (List ℕ)). from_le_bytes w64 (get_or h k none)) (e ∙ ap (λ (l : ℕ). first_chunks 8 (l / 8) s) n)
       ∙ ap (from_le_bytes w64) p
-      ∙ eight_of part m
+      ∙ le_eight part m
 
   pub half_first : x ≡ from_le_bytes w64 (get_or halves 0 none) → x ≡ of_bytes (take 8 (drop 0 s))
   half_first f = half_of 0 (take 8 s) refl (length-take-le 8 s (omega arith)) f
