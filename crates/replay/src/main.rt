@@ -60,11 +60,7 @@ fn replay_all<R: Print, F: Read + Drop>(rt: &R, input: F) -> Result<(), Failed> 
 }
 
 // Piece by piece. Nothing says that the input ends, so the loop has a bound: 2^64 - 1 reads.
-fn read_all<R: Print, F: Read + Drop>(
-    rt: &R,
-    replay: &mut Replay,
-    input: F,
-) -> Result<(), Failed> {
+fn read_all<R: Print, F: Read + Drop>(rt: &R, replay: &mut Replay, input: F) -> Result<(), Failed> {
     let mut file = input;
     let mut buffer = [0u8; 65536];
     let mut out = [0u8; 65536];

@@ -1,6 +1,6 @@
 -- Laws of eight digits in one number: the bytes of spread_of are a number's last eight digits, and eight and eight are all sixteen.
 use Rattle.std.specs.Prelude.{ℕ, ◌+◌, ◌-◌, ◌*◌, ◌/◌, ◌%◌, ◌≤◌, ◌<◌, Bool, true, false, List, [], ◌∷◌, ◌++◌, ◌≡◌, refl, drop, ltb, length, set, take}
-use Rattle.std.proofs.Common.{add_assoc, arith, sym, ap, ◌∙◌, subst, drop-drop, length-set}
+use Rattle.std.proofs.Common.{add_assoc, arith, ap, ◌∙◌, subst, drop-drop, length-set}
 use Rattle.std.proofs.Math.Nat.{div-div-eq-div-mul}
 use Rattle.std.proofs.lemmas.Nat.{and_mask, or_block, or_lt, or_mod}
 use Rattle.std.specs.Int.{to_le_bytes, w64}

@@ -1,11 +1,7 @@
 use Rattle.replay_traps.specs.InPlace.{step_of}
-use Rattle.in_place_record.proofs.Shown.{same}
-use Rattle.replay_scope.specs.Lines.{bytes}
 use Rattle.replay_capture.specs.Laws.{part_fed, fed_high, fed_moves, filled_next, filled_led, written_same, written_end}
-use Prim.Native.Nat.{◌-◌}
 use native.Mathlib.Omega.{arith}
 use mathlib.Core.Path.{◌∙◌}
-use borrow.Author.Rules.{rules}
 use Rattle.replay_capture.proofs.fill.Goals as goal
 
 pub loop-i-smaller : goal.loop-i-smaller

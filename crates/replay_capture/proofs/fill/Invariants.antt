@@ -1,7 +1,6 @@
 use Rattle.replay_traps.specs.InPlace.{state_of}
-use Rattle.replay_scope.specs.Lines.{bytes}
 use Rattle.replay_scope.specs.Output.{state_after, output_of}
-use Prim.Native.Nat.{◌+◌, ◌-◌, ◌≤◌, ◌<◌}
+use Prim.Native.Nat.{◌-◌, ◌≤◌, ◌<◌}
 use mathlib.Core.List.{◌++◌}
 use mathlib.Core.Path.{◌≡◌}
 use lib.ListN.{drop, length, take}

@@ -15,6 +15,6 @@ returns-then-line-eq0 c = simp (sym c.may_end.ensures ∙ c.if-may_end.true, eq-
 pub returns : goal.returns
 unfolding end_gives state_of state_in
 returns c = elim c.else-may_end.branch [
-  else-may_end-via-then-may_end+else-line-eq0 w ↦ simp (sym c.may_end.ensures ∙ w.if-may_end.true, ne_eqb _ _ w.if-line-eq0.false, c.if-progress.false)
+  | else-may_end-via-then-may_end+else-line-eq0 w ↦ simp (sym c.may_end.ensures ∙ w.if-may_end.true, ne_eqb _ _ w.if-line-eq0.false, c.if-progress.false)
   | else-may_end-via-else-may_end w ↦ simp (sym c.may_end.ensures ∙ w.if-may_end.false, c.if-progress.false)
 ]
