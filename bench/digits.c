@@ -13,7 +13,7 @@ typedef unsigned char byte;
 /* As the module passes them. */
 struct slice { byte *at; uint64_t length; };
 struct digits { byte tag; uint64_t number; };
-enum { NUMBER, BAD, UNTOUCHED = 0x5a };
+enum { BAD, NUMBER, UNTOUCHED = 0x5a }; /* None, Some */
 void bench_read(struct digits *, const struct slice *, uint64_t at);
 uint64_t bench_put(const struct slice *key, uint64_t v, const struct slice *out, uint64_t at);
 

@@ -12,7 +12,7 @@ ghost use Rattle.replay_capture.specs.Feeds.{Feeds, Fills};
 use replay_scope::Gives;
 use replay_traps::Replay;
 
-// Where the bytes begin that were not fed, and how much of the buffer is output.
+// Where the bytes begin that were not fed, and how much of the buffer is output: numbers, of which the definition `Fills` speaks.
 #[derive(Clone, Copy)]
 pub struct Filled {
     pub next: usize,

@@ -7,7 +7,8 @@ ghost use Rattle.replay_scope.specs.Lines.{push_of};
 ghost use Rattle.replay_digits.specs.Hex.{digit_in, hex_of};
 ghost use Rattle.replay_digits.specs.Words.{glyphs_of, pack_of, values_of};
 
-// The number of the sixteen digits at a place of a slice.
+// The number of the sixteen digits at a place of a slice. The place is an argument since the promise, which docs/CLAIMS.md has
+// word for word (W3), speaks of it.
 pub fn read(s: &[u8], at: usize) -> Option<u64>
     ensures { result ≡ hex_of (take 16 (drop at s.now)) }
 {

@@ -1,8 +1,10 @@
 -- A line read at once, its digits by the digit reader's promise, is what it is byte by byte.
-use Rattle.std.specs.Prelude.{ℕ, Option, Some, None, suc, ◌+◌, ◌-◌, ◌*◌, ◌≤◌, ◌<◌, Bool, true, false, ◌≡◌, refl, eqb, ltb, drop, get_or, length, take}
+use Rattle.std.specs.Prelude.{ℕ, Option, Some, None, suc, ◌+◌, ◌-◌, ◌*◌, ◌≤◌, ◌<◌, Bool, true, false, ◌&&◌, ◌≡◌, refl, eqb, ltb, nat_eq, drop, get_or, length, take}
 use Rattle.std.proofs.Common.{add-zero, arith, sym, ap, ◌∙◌, subst, add-one, drop_of_length-le, length-append, length-drop, take-append-drop, drop-cons, drop-drop, get_or-drop, length-take-le, eq-eqb, eqb-true, le-ltb, lt-ltb, ne_eqb}
 use mathlib.Core.List.{List, [], ◌∷◌, ◌++◌, append_assoc, append-nil, foldl}
 use Rattle.std.proofs.Math.Seq.{get_or-append_seam}
+use Rattle.std.proofs.lemmas.Bool.{eqb-false}
+use Rattle.std.specs.List.{starts_with}
 use Rattle.isa_types.specs.Pick.{and, pick}
 use Rattle.replay_digits.specs.Hex.{digit_in, digit_of, hex_of}
 use Rattle.replay_scope.specs.declared.Got.{Got}
@@ -166,6 +168,16 @@ spelled_four keys i s r h =
 -- the key stands there
 pub spelled_key : (key s : List ℕ) → 17 ≤ length s → length key ≤ length s - 17 → begins key s ≡ true → Spelled key s (Some (length key))
 spelled_key key s h k b = (refl, omega arith, b)
+
+-- the library's test is whether they begin with it
+eqb_both : (x b : ℕ) (t u : Bool) → eqb b x ≡ u → nat_eq x b && t ≡ and (eqb b x) t
+eqb_both x b t true e = rw (e, eq-eqb x b (sym (eqb-true b x e)))
+eqb_both x b t false e = rw (e, ne_eqb x b (λ h. eqb-false b x e (sym h)))
+
+pub begins_starts : (key s : List ℕ) → starts_with nat_eq s key ≡ begins key s
+begins_starts [] s = refl
+begins_starts (x ∷ key) [] = refl
+begins_starts (x ∷ key) (b ∷ s) = rw (begins_starts key s) (eqb_both x b (begins key s) (eqb b x) refl)
 
 -- a byte that is a digit, and one that is none
 digit_by : (t : Bool) (n d : ℕ) → ltb n 16 ≡ t → pick t (Some n) None ≡ Some d → (n ≡ d) × (ltb d 16 ≡ true)

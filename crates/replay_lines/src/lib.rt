@@ -3,14 +3,14 @@
 // only one that the slice's end cuts, that began in the slice before, or that has a byte that does not fit.
 #![tactic(auto)]
 
-ghost use Rattle.std.specs.Prelude.{◌≡◌, ◌≤◌, IfSome, length};
+ghost use Rattle.std.specs.Prelude.{◌≡◌, IfSome, length};
 ghost use Rattle.std.specs.Fn.{FnOnceReturnsAt};
 ghost use Rattle.replay_scope.specs.Lines.{four_at, header_key, key_of, line_of};
-ghost use Rattle.replay_lines.specs.Read.{Read, Spelled, begins as begins_with};
+ghost use Rattle.replay_lines.specs.Read.{Read, Spelled};
 
 use replay_scope::{Got, Line, Place};
 
-// What was read of a line, and where the bytes after it begin.
+// What was read of a line, and where the bytes after it begin: a number, of which the definition `Read` speaks.
 #[derive(Clone, Copy)]
 pub struct Part {
     pub got: Got,
@@ -77,7 +77,7 @@ fn with_header_key<R, F: FnOnce(&[u8]) -> R>(i: usize, f: F) -> R
     }
 }
 
-// The key of the line of a general register: the four bytes at i * 4.
+// The key of the line of a general register: the four bytes at i * 4, as the definition `register_keys` has them, in one text.
 fn register_key(keys: &[u8], i: usize) -> &[u8]
     requires { length keys.now ≡ 124 }
     ensures { result.now ≡ four_at keys.now i }
@@ -101,21 +101,7 @@ fn spell(key: &[u8], s: &[u8]) -> Option<usize>
     if s.len() - 17 < n {
         return None;
     }
-    if begins(key, s) { Some(n) } else { None }
-}
-
-// Whether the bytes begin with the key. A loop of its own, since it is compiled for each key: tried `starts_with` and `==` of
-// slices, whose comparison is a call for each line, and the program takes 6 and 9 % more instructions.
-fn begins(key: &[u8], s: &[u8]) -> bool
-    requires { length key.now ≤ length s.now }
-    ensures { result ≡ begins_with key.now s.now }
-{
-    for (i, k) in key.iter().enumerate() {
-        if s[i] != *k {
-            return false;
-        }
-    }
-    true
+    if s.starts_with(key) { Some(n) } else { None }
 }
 
 // Reads on byte by byte.

@@ -7,7 +7,8 @@ ghost use Rattle.replay_output.specs.Eight.{spread_of};
 ghost use Rattle.replay_output.specs.Put.{Put, PutLine};
 
 // Writes a line's text at a place of the buffer, and says where it ends. The other bytes stay. Where the line has no
-// room nothing is written, and the place itself is given.
+// room nothing is written, and the place itself is given. The place is an argument since the promise, `PutLine`, speaks of it and
+// of the bytes on both sides.
 pub fn put(key: &[u8], v: u64, out: &mut [u8], at: usize) -> usize
     ensures { PutLine out.old at key.now v result out.new }
 {

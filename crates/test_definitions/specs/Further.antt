@@ -1,5 +1,5 @@
 -- What no list runs, by document 01's own words and the numbers of the published Rust: one table, computed by the checker.
-use Rattle.std.specs.Prelude.{ℕ, ◌+◌, Bool, true, false, List, [], ◌∷◌, ◌++◌, eqb, T, replicate}
+use Rattle.std.specs.Prelude.{ℕ, Option, Some, None, ◌+◌, Bool, true, false, List, [], ◌∷◌, ◌++◌, eqb, T, replicate}
 use Rattle.isa_types.specs.Pick.{and}
 use Rattle.scope.specs.OneTrap.{abi_number, access_number, answer_number, ask_number, exit_number, fetch_number, flag_of, width_bytes, answer_values, ask_values, exit_values, fetch_value}
 use Rattle.scope.specs.Refusals.{error_number, refusal, refuses}
