@@ -10,12 +10,18 @@
 
 typedef unsigned char byte;
 
-/* As the module passes them. */
+/* As the module passes them: a slice as where it is and its length, an Option as its tag and its value. */
 struct slice { byte *at; uint64_t length; };
 struct digits { byte tag; uint64_t number; };
-enum { NUMBER, BAD, UNTOUCHED = 0x5a };
-void bench_read(struct digits *, const struct slice *, uint64_t at);
-uint64_t bench_put(const struct slice *key, uint64_t v, const struct slice *out, uint64_t at);
+enum { BAD, NUMBER, UNTOUCHED = 0x5a }; /* None, Some */
+struct digits compiled_read(const byte *s, uint64_t length, uint64_t at);
+uint64_t compiled_put(const byte *key, uint64_t key_length, uint64_t v, byte *out, uint64_t length, uint64_t at);
+
+static void bench_read(struct digits *to, const struct slice *s, uint64_t at) { *to = compiled_read(s->at, s->length, at); }
+
+static uint64_t bench_put(const struct slice *key, uint64_t v, const struct slice *out, uint64_t at) {
+    return compiled_put(key->at, key->length, v, out->at, out->length, at);
+}
 
 /* The rule of the reader: sixteen bytes, each of '0' to '9' or 'a' to 'f', the first digit in front. All else is no number. */
 __attribute__((noinline)) static void rule(struct digits *to, const struct slice *s, uint64_t at) {

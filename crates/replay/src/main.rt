@@ -2,21 +2,16 @@
 // (01, Replay program). It only reads, feeds and writes: crate replay_capture says what comes out.
 #![tactic(auto)]
 
-ghost use Rattle.std.specs.Prelude.{◌≤◌, length};
-
-use replay_scope::Progress;
+use replay_traps::Replay;
 use std::env::{Env, FillError};
 use std::fs::{File, Files};
-use std::io::Read;
+use std::io::{self, Read};
 
-// How a part of the work went, and the progress after it.
+// What stops a replay.
 #[derive(Drop)]
-struct Went {
-    progress: Progress,
-    // The next piece may come.
-    on: bool,
-    // A read or a write failed, and standard error says so.
-    failed: bool,
+enum Failed {
+    Read(io::Error),
+    Write(io::Error),
 }
 
 fn main(rt: HostRuntime) {
@@ -44,113 +39,64 @@ fn replay_file<R: Files + Print + Eprint>(rt: &R, name: &str) {
     }
 }
 
-// The whole capture, and its end unless something failed.
+// The whole capture; standard error says what failed.
 fn replay<R: Print + Eprint, F: Read + Drop>(rt: &R, input: F, name: &str) {
-    let w = read_all(rt, input, name);
-    if w.failed {
-        return;
+    match replay_all(rt, input) {
+        Ok(()) => {}
+        Err(Failed::Read(e)) => {
+            let _ = eprintln!(rt; "{name}: {e}");
+        }
+        Err(Failed::Write(e)) => {
+            let _ = eprintln!(rt; "standard output: {e}");
+        }
     }
-    let p = w.progress;
-    finish(rt, p);
+}
+
+// The same, and its end unless something failed.
+fn replay_all<R: Print, F: Read + Drop>(rt: &R, input: F) -> Result<(), Failed> {
+    let mut replay = replay_order::begin();
+    read_all(rt, &mut replay, input)?;
+    finish(rt, &replay)
 }
 
 // Piece by piece. Nothing says that the input ends, so the loop has a bound: 2^64 - 1 reads.
-fn read_all<R: Print + Eprint, F: Read + Drop>(rt: &R, input: F, name: &str) -> Went {
+fn read_all<R: Print, F: Read + Drop>(rt: &R, replay: &mut Replay, input: F) -> Result<(), Failed> {
     let mut file = input;
-    let mut record = [0u64; 58];
-    let mut w = Went {
-        progress: replay_order::begin(&mut record),
-        on: true,
-        failed: false,
-    };
     let mut buffer = [0u8; 65536];
     let mut out = [0u8; 65536];
-    let mut turns = u64::MAX;
-    while turns > 0 && w.on {
-        let p = w.progress;
-        w = read_some(rt, p, &mut record, &mut file, name, &mut buffer, &mut out);
-        turns -= 1;
+    for _ in 0..u64::MAX {
+        let n = file.read(&mut buffer).map_err(Failed::Read)?;
+        if n == 0 {
+            break;
+        }
+        feed(rt, replay, &buffer[..n], &mut out)?;
     }
-    w
+    Ok(())
 }
 
-// One read, fed.
-fn read_some<R: Print + Eprint, F: Read>(
+// Feeds a piece, and writes what it gives.
+fn feed<R: Print>(
     rt: &R,
-    p: Progress,
-    record: &mut [u64; 58],
-    file: &mut F,
-    name: &str,
-    buffer: &mut [u8; 65536],
+    replay: &mut Replay,
+    piece: &[u8],
     out: &mut [u8; 65536],
-) -> Went {
-    match file.read(buffer) {
-        Ok(0) => Went {
-            progress: p,
-            on: false,
-            failed: false,
-        },
-        Ok(n) => feed(rt, p, record, buffer, n, out),
-        Err(e) => {
-            let _ = eprintln!(rt; "{name}: {e}");
-            Went {
-                progress: p,
-                on: false,
-                failed: true,
-            }
-        }
+) -> Result<(), Failed> {
+    let mut rest = piece;
+    while !rest.is_empty() {
+        let f = replay_capture::fill(replay, rest, out);
+        rest = &rest[f.next..];
+        say(rt, &out[..f.end])?;
     }
-}
-
-// Feeds the first n bytes, and writes what they give.
-fn feed<R: Print + Eprint>(
-    rt: &R,
-    p: Progress,
-    record: &mut [u64; 58],
-    bytes: &[u8],
-    n: usize,
-    out: &mut [u8; 65536],
-) -> Went
-    requires { n ≤ length bytes.now }
-{
-    let mut q = p;
-    let mut i = 0;
-    while i < n {
-        let f = replay_capture::fill(q, record, &bytes[i..n], out);
-        let e = f.end;
-        q = f.progress;
-        i += f.next;
-        if !say(rt, out, e) {
-            return Went {
-                progress: q,
-                on: false,
-                failed: true,
-            };
-        }
-    }
-    Went {
-        progress: q,
-        on: true,
-        failed: false,
-    }
+    Ok(())
 }
 
 // What the end of the capture gives.
-fn finish<R: Print + Eprint>(rt: &R, p: Progress) {
+fn finish<R: Print>(rt: &R, replay: &Replay) -> Result<(), Failed> {
     let mut out = [0u8; 84];
-    let e = replay_capture::write(replay_order::end(p), &mut out);
-    say(rt, &out, e);
+    let end = replay_capture::write(replay_order::end(replay), &mut out);
+    say(rt, &out[..end])
 }
 
-// Writes the first n bytes to standard output, and answers whether that went well.
-fn say<R: Print + Eprint>(rt: &R, bytes: &[u8], n: usize) -> bool
-    requires { n ≤ length bytes.now }
-{
-    match rt.write_all(&bytes[..n]) {
-        Ok(()) => true,
-        Err(e) => {
-            let _ = eprintln!(rt; "standard output: {e}");
-            false
-        }
-    }
+fn say<R: Print>(rt: &R, bytes: &[u8]) -> Result<(), Failed> {
+    rt.write_all(bytes).map_err(Failed::Write)
 }

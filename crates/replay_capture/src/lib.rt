@@ -1,39 +1,29 @@
 // A capture replayed: its bytes are fed to a state in pieces, and what they give is written to a buffer
 // (01, Replay program). Its meaning is one definition, replay_of in replay_scope's specs/Output.antt, from all bytes to
-// all output; the record lies in 58 lent words.
+// all output; the record lies in place as 58 words.
 #![tactic(auto)]
 
 ghost use Rattle.std.specs.Prelude.{◌≡◌, ◌+◌, ◌≤◌, length};
 ghost use Rattle.replay_output.specs.Put.{Put};
 ghost use Rattle.replay_scope.specs.Output.{text_of};
-ghost use Rattle.replay_traps.specs.InPlace.{state_in, step_in};
+ghost use Rattle.replay_traps.specs.InPlace.{state_of, step_of};
 ghost use Rattle.replay_capture.specs.Feeds.{Feeds, Fills};
 
-use replay_scope::{Gives, Progress};
-use replay_traps::Next;
+use replay_scope::Gives;
+use replay_traps::Replay;
 
-// A step over the first bytes of a slice, and where the bytes after them begin.
-#[derive(Clone, Copy)]
-pub struct Fed {
-    pub turn: Next,
-    pub next: usize,
-}
-
-// The later progress after the first bytes of a slice, where the bytes after them begin, and how much of the buffer is
-// output.
+// Where the bytes begin that were not fed, and how much of the buffer is output: numbers, of which the definition `Fills` speaks.
 #[derive(Clone, Copy)]
 pub struct Filled {
-    pub progress: Progress,
     pub next: usize,
     pub end: usize,
 }
 
 // Feeds bytes, and writes what they give to the buffer, until the bytes are over or the buffer has no room for another
 // trap. A buffer of 84 bytes or more takes some of them.
-pub fn fill(p: Progress, r: &mut [u64; 58], bytes: &[u8], out: &mut [u8]) -> Filled
-    ensures { Fills (state_in r.old p) bytes.now (length out.old) out.new (state_in r.new result.progress) result.next result.end }
+pub fn fill(replay: &mut Replay, bytes: &[u8], out: &mut [u8]) -> Filled
+    ensures { Fills (state_of replay.old) bytes.now (length out.old) out.new (state_of replay.new) result.next result.end }
 {
-    let mut q = p;
     let mut i: usize = 0;
     let mut e: usize = 0;
     while i < bytes.len() {
@@ -43,42 +33,22 @@ pub fn fill(p: Progress, r: &mut [u64; 58], bytes: &[u8], out: &mut [u8]) -> Fil
         if out.len() - 84 < e {
             break;
         }
-        let f = feed(q, r, &bytes[i..]);
-        i += f.next;
-        let turn = f.turn;
-        let g = turn.gives;
-        e = put(g, out, e);
-        q = turn.progress;
+        let (gives, n) = feed(replay, &bytes[i..]);
+        i += n;
+        e = put(gives, out, e);
     }
-    Filled {
-        progress: q,
-        next: i,
-        end: e,
-    }
+    Filled { next: i, end: e }
 }
 
-// Feeds bytes to the end of a line or of the bytes.
-fn feed(p: Progress, r: &mut [u64; 58], bytes: &[u8]) -> Fed
-    ensures { Feeds (state_in r.old p) bytes.now (step_in r.new result.turn) result.next }
+// Feeds bytes to the end of a line or of the bytes: what they give, and how many they are.
+fn feed(replay: &mut Replay, bytes: &[u8]) -> (Gives, usize)
+    ensures { Feeds (state_of replay.old) bytes.now (step_of replay.new result.0) result.1 }
 {
-    if p.over {
-        let turn = Next {
-            progress: p,
-            gives: Gives::Nothing,
-        };
-        return Fed {
-            turn,
-            next: bytes.len(),
-        };
+    if replay.progress.over {
+        return (Gives::Nothing, bytes.len());
     }
-    let line = p.line;
-    let part = replay_lines::read(line, bytes);
-    let g = part.got;
-    let turn = replay_order::take(p, r, g);
-    Fed {
-        turn,
-        next: part.next,
-    }
+    let part = replay_lines::read(replay.progress.line, bytes);
+    (replay_order::take(replay, part.got), part.next)
 }
 
 // Writes what was given at the buffer's start, and says where it ends: a trap's four lines are 84 bytes.

@@ -1,15 +1,15 @@
 -- The digit reader: sixteen bytes, eight at a time, are what hex_of says of them byte by byte.
-use Rattle.std.specs.Prelude.{ℕ, suc, ◌+◌, ◌-◌, ◌*◌, ◌%◌, ◌^◌, ◌≤◌, ◌<◌, Bool, true, false, ◌≡◌, refl, eqb, drop, get_or, length, take}
+use Rattle.std.specs.Prelude.{ℕ, Option, Some, None, suc, ◌+◌, ◌-◌, ◌*◌, ◌/◌, ◌%◌, ◌^◌, ◌≤◌, ◌<◌, Bool, true, false, ◌≡◌, refl, eqb, drop, get_or, length, take}
 use Rattle.std.proofs.Math.Numerals.{unary_clauses}
-use Rattle.std.proofs.Common.{arith, sym, ap, ◌∙◌, subst, drop-cons, take_all, length-drop, length-take, take-append-drop, eq-eqb, eqb-true, lt-ltb, ne_eqb}
+use Rattle.std.proofs.Common.{arith, sym, ap, ◌∙◌, subst, drop-cons, take_all, length-drop, length-take, length-take-le, take-append-drop, eq-eqb, eqb-true, le-ltb, lt-ltb, ne_eqb}
 use mathlib.Core.List.{List, [], ◌∷◌, ◌++◌, foldl, foldl-append}
 use Rattle.std.proofs.lemmas.Bool.{eqb-false}
+use Rattle.std.specs.Int.{from_le_bytes, w64}
+use Rattle.std.specs.Simd.{first_chunks}
 use Rattle.isa_types.specs.Pick.{pick}
 use Rattle.replay_scope.specs.Lines.{nibble_of, push_of}
 use Rattle.replay_scope.specs.TableLaws.{tabled, tabled_at}
-use Rattle.replay_digits.specs.declared.Digits.{Digits}
-use Rattle.replay_digits.specs.declared.Digits.TheVariants as digits
-use Rattle.replay_digits.specs.Hex.{digit_of, hex_of}
+use Rattle.replay_digits.specs.Hex.{digit_in, digit_of, hex_of}
 use Rattle.replay_digits.specs.Words.{glyph_by, glyphs_of, of_bytes, pack_of, value_by, values_of}
 use Rattle.replay_digits.proofs.WordLaws.{Bytes, each, eight, eight_bytes, eight_digits, glyphs_each, pack_below, pack_eight, values_each}
 
@@ -32,7 +32,7 @@ digit_not : (b : ℕ) → b < 256 → (glyph_by (value_by b) ≡ b → ⊥) → 
 digit_not b h e = sym (read_by_lem b h) ∙ ap (λ (t : Bool). pick t (value_by b % 16) 16) (ne_eqb _ _ e)
 
 -- after a byte that is no digit, none follows
-bad_digits : (l : List ℕ) → foldl digit_of digits.Bad l ≡ digits.Bad
+bad_digits : (l : List ℕ) → foldl digit_of None l ≡ None
 unfolding digit_of
 bad_digits [] = refl
 bad_digits (b ∷ l) = bad_digits l
@@ -41,11 +41,11 @@ bad_digits (b ∷ l) = bad_digits l
 abbrev push_by : ℕ → ℕ → ℕ
 push_by v b = push_of v (value_by b % 16)
 
-one_digit : (v b : ℕ) → nibble_of b ≡ value_by b % 16 → digit_of (digits.Number v) b ≡ digits.Number (push_by v b)
+one_digit : (v b : ℕ) → nibble_of b ≡ value_by b % 16 → digit_of (Some v) b ≡ Some (push_by v b)
 unfolding digit_of
 one_digit v b e = let h : value_by b % 16 < 16 = omega arith in rw e (rw (lt-ltb _ _ h))
 
-no_digit : (v b : ℕ) → nibble_of b ≡ 16 → digit_of (digits.Number v) b ≡ digits.Bad
+no_digit : (v b : ℕ) → nibble_of b ≡ 16 → digit_of (Some v) b ≡ None
 unfolding digit_of
 no_digit v b e = rw e
 
@@ -61,24 +61,24 @@ abbrev again : List ℕ → ℕ
 again l = each (λ b. glyph_by (value_by b)) l
 
 -- every byte is
-fold_digits : (l : List ℕ) (v : ℕ) → Bytes l → again l ≡ of_bytes l → foldl digit_of (digits.Number v) l ≡ digits.Number (foldl push_by v l)
+fold_digits : (l : List ℕ) (v : ℕ) → Bytes l → again l ≡ of_bytes l → foldl digit_of (Some v) l ≡ Some (foldl push_by v l)
 unfolding of_bytes
 fold_digits [] v h e = refl
 fold_digits (b ∷ l) v h e =
     let s : (glyph_by (value_by b) ≡ b) × (again l ≡ of_bytes l) = last_byte _ _ _ b (glyph_byte (value_by b)) h.0 e in
-    ap (λ (d : Digits). foldl digit_of d l) (one_digit v b (digit_is b h.0 s.0)) ∙ fold_digits l (push_by v b) h.1 s.1
+    ap (λ (d : Option ℕ). foldl digit_of d l) (one_digit v b (digit_is b h.0 s.0)) ∙ fold_digits l (push_by v b) h.1 s.1
 
 -- or one is not
 bad_by : (b : ℕ) (l : List ℕ) (v : ℕ) → b < 256 → (again (b ∷ l) ≡ of_bytes (b ∷ l) → ⊥) → (t : Bool) → eqb (glyph_by (value_by b)) b ≡ t
-    → ((again l ≡ of_bytes l → ⊥) → foldl digit_of (digits.Number (push_by v b)) l ≡ digits.Bad) → foldl digit_of (digits.Number v) (b ∷ l) ≡ digits.Bad
+    → ((again l ≡ of_bytes l → ⊥) → foldl digit_of (Some (push_by v b)) l ≡ None) → foldl digit_of (Some v) (b ∷ l) ≡ None
 unfolding of_bytes
 bad_by b l v h n true e on =
     let g : glyph_by (value_by b) ≡ b = eqb-true _ _ e in
-    ap (λ (d : Digits). foldl digit_of d l) (one_digit v b (digit_is b h g)) ∙ on (λ r. n (rw (g, r)))
+    ap (λ (d : Option ℕ). foldl digit_of d l) (one_digit v b (digit_is b h g)) ∙ on (λ r. n (rw (g, r)))
 bad_by b l v h n false e on =
-    ap (λ (d : Digits). foldl digit_of d l) (no_digit v b (digit_not b h (eqb-false _ _ e))) ∙ bad_digits l
+    ap (λ (d : Option ℕ). foldl digit_of d l) (no_digit v b (digit_not b h (eqb-false _ _ e))) ∙ bad_digits l
 
-fold_bad : (l : List ℕ) (v : ℕ) → Bytes l → (again l ≡ of_bytes l → ⊥) → foldl digit_of (digits.Number v) l ≡ digits.Bad
+fold_bad : (l : List ℕ) (v : ℕ) → Bytes l → (again l ≡ of_bytes l → ⊥) → foldl digit_of (Some v) l ≡ None
 unfolding of_bytes
 fold_bad [] v h n = absurd (n refl)
 fold_bad (b ∷ l) v h n = bad_by b l v h.0 n (eqb (glyph_by (value_by b)) b) refl (fold_bad l (push_by v b) h.1)
@@ -125,15 +125,15 @@ module _ (a b c d e f g h : ℕ) (w : Bytes (eight a b c d e f g h)) where
       (eight_bytes (value_byte a) (value_byte b) (value_byte c) (value_byte d) (value_byte e) (value_byte f) (value_byte g) (value_byte h))
 
   eight_number : (v : ℕ) → v < 2 ^ 32 → glyphs_of (values_of (of_bytes all)) ≡ of_bytes all
-      → foldl digit_of (digits.Number v) all ≡ digits.Number (v * 0x100000000 + pack_of (values_of (of_bytes all)))
+      → foldl digit_of (Some v) all ≡ Some (v * 0x100000000 + pack_of (values_of (of_bytes all)))
   eight_number v i s =
       fold_digits all v w (sym again_is ∙ s)
-      ∙ ap digits.Number
+      ∙ ap Some
       (push_eight v (value_by a % 16) (value_by b % 16) (value_by c % 16) (value_by d % 16) (value_by e % 16) (value_by f % 16) (value_by g % 16) (value_by h % 16) i
       (value_digit a) (value_digit b) (value_digit c) (value_digit d) (value_digit e) (value_digit f) (value_digit g) (value_digit h)
       ∙ ap (λ (n : ℕ). v * 0x100000000 + n) (sym packed_is))
 
-  eight_bad : (v : ℕ) → (glyphs_of (values_of (of_bytes all)) ≡ of_bytes all → ⊥) → foldl digit_of (digits.Number v) all ≡ digits.Bad
+  eight_bad : (v : ℕ) → (glyphs_of (values_of (of_bytes all)) ≡ of_bytes all → ⊥) → foldl digit_of (Some v) all ≡ None
   eight_bad v n = fold_bad all v w (λ e. n (again_is ∙ e))
 
 -- the eight bytes at a place of a slice
@@ -155,25 +155,30 @@ eight_at_lem s at h =
       drop-cons s (suc (suc (suc (suc (suc (suc (suc at))))))) 0 (omega arith),
     ))
 
-four_at_lem : (s : List ℕ) (at : ℕ) → at + 4 ≤ length s → take 4 (drop at s) ≡ get_or s at 0 ∷ get_or s (at + 1) 0 ∷ get_or s (at + 2) 0 ∷ get_or s (at + 3) 0 ∷ []
-four_at_lem s at h =
-    simp unary_clauses
-    (rw (
-      drop-cons s at 0 (omega arith),
-      drop-cons s (suc at) 0 (omega arith),
-      drop-cons s (suc (suc at)) 0 (omega arith),
-      drop-cons s (suc (suc (suc at))) 0 (omega arith),
-    ))
-
--- four bytes as a number, and eight
-pub four_of : (s : List ℕ) (at : ℕ) → at + 4 ≤ length s
-    → of_bytes (take 4 (drop at s)) ≡ get_or s at 0 + get_or s (at + 1) 0 * 0x100 + get_or s (at + 2) 0 * 0x10000 + get_or s (at + 3) 0 * 0x1000000
+-- eight bytes as the library reads them
+pub le_eight : (l : List ℕ) → length l ≡ 8 → from_le_bytes w64 l ≡ of_bytes l
 unfolding of_bytes
-four_of s at h = rw (four_at_lem s at h) (omega arith)
+le_eight l n =
+    let e : of_bytes l ≡ of_bytes (eight_at l 0) = ap of_bytes (sym (take_all 8 l (omega arith)) ∙ eight_at_lem l 0 (omega arith)) in
+    omega (arith, e)
 
-pub eight_of : (s : List ℕ) (at : ℕ) → at + 8 ≤ length s → of_bytes (take 8 (drop at s)) ≡ of_bytes (take 4 (drop at s)) + of_bytes (take 4 (drop (at + 4) s)) * 0x100000000
-unfolding of_bytes
-eight_of s at h = rw (eight_at_lem s at h, four_at_lem s at (omega arith), four_at_lem s (at + 4) (omega arith)) (omega arith)
+-- the one eight of sixteen bytes, and the other
+module _ (s : List ℕ) (halves : List (List ℕ)) (none : List ℕ) (x : ℕ) (n : length s ≡ 16) (e : halves ≡ first_chunks 8 (length s / 8) s) where
+  half_of : (k : ℕ) → (part : List ℕ) → get_or (take 8 s ∷ take 8 (drop 8 s) ∷ []) k none ≡ part → length part ≡ 8
+      → x ≡ from_le_bytes w64 (get_or halves k none) → x ≡ of_bytes part
+  half_of k part p m f =
+      f
+      ∙ ap (λ (h : List (List ℕ)). from_le_bytes w64 (get_or h k none)) (e ∙ ap (λ (l : ℕ). first_chunks 8 (l / 8) s) n)
+      ∙ ap (from_le_bytes w64) p
+      ∙ le_eight part m
+
+  pub half_first : x ≡ from_le_bytes w64 (get_or halves 0 none) → x ≡ of_bytes (take 8 (drop 0 s))
+  half_first f = half_of 0 (take 8 s) refl (length-take-le 8 s (omega arith)) f
+
+  pub half_second : x ≡ from_le_bytes w64 (get_or halves 1 none) → x ≡ of_bytes (take 8 (drop 8 s))
+  half_second f =
+      let d : length (drop 8 s) ≡ length s - 8 = length-drop 8 s in
+      half_of 1 (take 8 (drop 8 s)) refl (length-take-le 8 (drop 8 s) (omega arith)) f
 
 -- sixteen bytes, first the one eight of them, then the other
 module _ (s : List ℕ) (n : length s ≡ 16) (w : (k : ℕ) → get_or s k 0 < 256) where
@@ -187,11 +192,11 @@ module _ (s : List ℕ) (n : length s ≡ 16) (w : (k : ℕ) → get_or s k 0 < 
       ∙ ap (λ (l : List ℕ). l ++ drop 8 s) (eight_at_lem s 0 (omega arith))
       ∙ ap (λ (l : List ℕ). eight_at s 0 ++ l) (sym (take_all 8 (drop 8 s) (omega arith)) ∙ eight_at_lem s 8 (omega arith))
 
-  hex_two : hex_of s ≡ foldl digit_of (foldl digit_of (digits.Number 0) (eight_at s 0)) (eight_at s 8)
+  hex_two : hex_of s ≡ foldl digit_of (foldl digit_of (Some 0) (eight_at s 0)) (eight_at s 8)
   unfolding hex_of
   hex_two =
       simp (eq-eqb _ _ n)
-      (ap (foldl digit_of (digits.Number 0)) both ∙ foldl-append digit_of (digits.Number 0) (eight_at s 0) (eight_at s 8))
+      (ap (foldl digit_of (Some 0)) both ∙ foldl-append digit_of (Some 0) (eight_at s 0) (eight_at s 8))
 
   -- the digits of eight of them are found as the code finds them: x is their number, v the values of its bytes, g the digits of those
   module _ (at x v g : ℕ) (i : at + 8 ≤ length s) (e : x ≡ of_bytes (take 8 (drop at s))) (f : v ≡ values_of x) (d : g ≡ glyphs_of v) where
@@ -205,39 +210,39 @@ module _ (s : List ℕ) (n : length s ≡ 16) (w : (k : ℕ) → get_or s k 0 < 
     at_other : (g ≡ x → ⊥) → glyphs_of (values_of (of_bytes (eight_at s at))) ≡ of_bytes (eight_at s at) → ⊥
     at_other n q = n (d ∙ ap glyphs_of f ∙ subst (λ (z : ℕ). glyphs_of (values_of z) ≡ z) (sym at_is) q)
 
-    at_number : (u : ℕ) → u < 2 ^ 32 → g ≡ x → foldl digit_of (digits.Number u) (eight_at s at) ≡ digits.Number (u * 0x100000000 + pack_of v)
+    at_number : (u : ℕ) → u < 2 ^ 32 → g ≡ x → foldl digit_of (Some u) (eight_at s at) ≡ Some (u * 0x100000000 + pack_of v)
     at_number u h q =
         eight_number _ _ _ _ _ _ _ _ (at_bytes at) u h (at_same q)
-        ∙ ap (λ (z : ℕ). digits.Number (u * 0x100000000 + pack_of z)) (ap values_of (sym at_is) ∙ sym f)
+        ∙ ap (λ (z : ℕ). Some (u * 0x100000000 + pack_of z)) (ap values_of (sym at_is) ∙ sym f)
 
-    at_bad : (u : ℕ) → (g ≡ x → ⊥) → foldl digit_of (digits.Number u) (eight_at s at) ≡ digits.Bad
+    at_bad : (u : ℕ) → (g ≡ x → ⊥) → foldl digit_of (Some u) (eight_at s at) ≡ None
     at_bad u n = eight_bad _ _ _ _ _ _ _ _ (at_bytes at) u (at_other n)
 
   module _ (x v g : ℕ) (e : x ≡ of_bytes (take 8 (drop 0 s))) (f : v ≡ values_of x) (d : g ≡ glyphs_of v) where
     -- one of the first eight is no digit
-    pub hex_first : (g ≡ x → ⊥) → digits.Bad ≡ hex_of s
+    pub hex_first : (g ≡ x → ⊥) → None ≡ hex_of s
     hex_first q =
         sym (hex_two
-        ∙ ap (λ (r : Digits). foldl digit_of r (eight_at s 8)) (at_bad 0 x v g (omega arith) e f d 0 q)
+        ∙ ap (λ (r : Option ℕ). foldl digit_of r (eight_at s 8)) (at_bad 0 x v g (omega arith) e f d 0 q)
         ∙ bad_digits (eight_at s 8))
 
-    first : g ≡ x → hex_of s ≡ foldl digit_of (digits.Number (pack_of v)) (eight_at s 8)
+    first : g ≡ x → hex_of s ≡ foldl digit_of (Some (pack_of v)) (eight_at s 8)
     first q =
         let z : 0 * 0x100000000 + pack_of v ≡ pack_of v = omega arith in
         hex_two
-        ∙ ap (λ (r : Digits). foldl digit_of r (eight_at s 8)) (at_number 0 x v g (omega arith) e f d 0 (omega arith) q ∙ ap digits.Number z)
+        ∙ ap (λ (r : Option ℕ). foldl digit_of r (eight_at s 8)) (at_number 0 x v g (omega arith) e f d 0 (omega arith) q ∙ ap Some z)
 
     module _ (y u h : ℕ) (i : y ≡ of_bytes (take 8 (drop 8 s))) (j : u ≡ values_of y) (k : h ≡ glyphs_of u) where
       -- one of the others is none
-      pub hex_second : g ≡ x → (h ≡ y → ⊥) → digits.Bad ≡ hex_of s
+      pub hex_second : g ≡ x → (h ≡ y → ⊥) → None ≡ hex_of s
       hex_second q r = sym (first q ∙ at_bad 8 y u h (omega arith) i j k (pack_of v) r)
 
       -- all are digits
-      pub hex_number : g ≡ x → h ≡ y → digits.Number (pack_of v * 0x100000000 + pack_of u) ≡ hex_of s
+      pub hex_number : g ≡ x → h ≡ y → Some (pack_of v * 0x100000000 + pack_of u) ≡ hex_of s
       hex_number q r = sym (first q ∙ at_number 8 y u h (omega arith) i j k (pack_of v) (pack_below v) r)
 
 -- bytes that are fewer than sixteen
-pub hex_short : (l : List ℕ) (at : ℕ) → length l < at + 16 → digits.Bad ≡ hex_of (take 16 (drop at l))
+pub hex_short : (l : List ℕ) (at : ℕ) → length l < at + 16 → None ≡ hex_of (take 16 (drop at l))
 unfolding hex_of
 hex_short l at h =
     let n : (length (take 16 (drop at l)) ≡ 16 → ⊥) =
@@ -251,3 +256,28 @@ hex_short l at h =
 -- the part of a slice from a place to sixteen bytes on
 pub hex_part : (l : List ℕ) (at : ℕ) → hex_of (take (at + 16 - at) (drop at l)) ≡ hex_of (take 16 (drop at l))
 hex_part l at = let n : at + 16 - at ≡ 16 = omega arith in ap (λ (k : ℕ). hex_of (take k (drop at l))) n
+
+-- a byte as a digit, by the tests of the code
+pub number_in : (b n : ℕ) → 48 ≤ b → b < 58 → n ≡ b - 48 → Some n ≡ digit_in b
+unfolding digit_in nibble_of
+number_in b n h i e =
+    let k : b - 48 < 16 = omega arith in
+    rw (e, le-ltb b 48 h, lt-ltb b 58 i) (rw (lt-ltb _ _ k))
+
+pub letter_in : (b n : ℕ) → 97 ≤ b → b < 103 → n ≡ b - 87 → Some n ≡ digit_in b
+unfolding digit_in nibble_of
+letter_in b n h i e =
+    let k : b - 87 < 16 = omega arith in
+    rw (e, le-ltb b 48 (omega arith), le-ltb b 58 (omega arith), le-ltb b 97 h, lt-ltb b 103 i) (rw (lt-ltb _ _ k))
+
+pub none_low : (b : ℕ) → b < 48 → None ≡ digit_in b
+unfolding digit_in nibble_of
+none_low b h = rw (lt-ltb b 48 h)
+
+pub none_between : (b : ℕ) → 58 ≤ b → b < 97 → None ≡ digit_in b
+unfolding digit_in nibble_of
+none_between b h i = rw (le-ltb b 48 (omega arith), le-ltb b 58 h, lt-ltb b 97 i)
+
+pub none_high : (b : ℕ) → 103 ≤ b → None ≡ digit_in b
+unfolding digit_in nibble_of
+none_high b h = rw (le-ltb b 48 (omega arith), le-ltb b 58 (omega arith), le-ltb b 97 (omega arith), le-ltb b 103 h)

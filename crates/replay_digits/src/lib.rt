@@ -2,74 +2,45 @@
 // what they are, and who calls it knows nothing of how it finds that out.
 #![tactic(auto)]
 
-ghost use Rattle.std.specs.Prelude.{◌≡◌, ◌+◌, ◌≤◌, ◌<◌, drop, length, take};
-ghost use Rattle.replay_scope.specs.Lines.{nibble_of, push_of};
-ghost use Rattle.replay_digits.specs.Hex.{hex_of};
-ghost use Rattle.replay_digits.specs.Words.{glyphs_of, of_bytes, pack_of, values_of};
+ghost use Rattle.std.specs.Prelude.{◌≡◌, drop, length, take};
+ghost use Rattle.replay_scope.specs.Lines.{push_of};
+ghost use Rattle.replay_digits.specs.Hex.{digit_in, hex_of};
+ghost use Rattle.replay_digits.specs.Words.{glyphs_of, pack_of, values_of};
 
-// What sixteen bytes are as hex digits.
-#[derive(Clone, Copy)]
-pub enum Digits {
-    Number(u64),
-    Bad,
-}
-
-// The number of the sixteen digits at a place of a slice.
-pub fn read(s: &[u8], at: usize) -> Digits
+// The number of the sixteen digits at a place of a slice. The place is an argument since the promise, which docs/CLAIMS.md has
+// word for word (W3), speaks of it.
+pub fn read(s: &[u8], at: usize) -> Option<u64>
     ensures { result ≡ hex_of (take 16 (drop at s.now)) }
 {
     if s.len() < at {
-        return Digits::Bad;
+        return None;
     }
     if s.len() - at < 16 {
-        return Digits::Bad;
+        return None;
     }
     let e = at + 16;
     sixteen(&s[at..e])
 }
 
-// The same of a slice that has just these, eight at a time: their values are found as if every byte were a digit, and
-// then the digits with these values must be the bytes that were read.
-fn sixteen(s: &[u8]) -> Digits
+// The same of a slice that has just these, eight at a time, each eight as one number by one load, the first of them the
+// lowest: their values are found as if every byte were a digit, and then the digits with these values must be the bytes that
+// were read.
+fn sixteen(s: &[u8]) -> Option<u64>
     requires { length s.now ≡ 16 }
     ensures { result ≡ hex_of s.now }
 {
-    let a = eight(s, 0);
+    let (halves, _) = s.as_chunks::<8>();
+    let a = u64::from_le_bytes(halves[0]);
     let h = values(a);
     if glyphs(h) != a {
-        return Digits::Bad;
+        return None;
     }
-    let b = eight(s, 8);
+    let b = u64::from_le_bytes(halves[1]);
     let l = values(b);
     if glyphs(l) != b {
-        return Digits::Bad;
+        return None;
     }
-    Digits::Number(pack(h) * 0x100000000 + pack(l))
-}
-
-// Eight bytes as one number, the first of them the lowest: one load.
-fn eight(s: &[u8], at: usize) -> u64
-    requires { at + 8 ≤ length s.now }
-    ensures { result ≡ of_bytes (take 8 (drop at s.now)) }
-{
-    four(s, at) + four(s, at + 4) * 0x100000000
-}
-
-// The same of four.
-fn four(s: &[u8], at: usize) -> u64
-    requires { at + 4 ≤ length s.now }
-    ensures { (result ≡ of_bytes (take 4 (drop at s.now))) × (result < 0x100000000) }
-{
-    let i = at + 1;
-    let j = at + 2;
-    let k = at + 3;
-    wide(s[at]) + wide(s[i]) * 0x100 + wide(s[j]) * 0x10000 + wide(s[k]) * 0x1000000
-}
-
-fn wide(d: u8) -> u64
-    ensures { (result ≡ d) × (result < 256) }
-{
-    d as u64
+    Some(pack(h) * 0x100000000 + pack(l))
 }
 
 // The values of eight digits; of a byte that is no digit, some number below 32.
@@ -97,23 +68,15 @@ fn pack(v: u64) -> u64
     (fours * 65536 + fours / 0x100000000) % 0x100000000
 }
 
-// A byte as a lowercase hex digit; 16 if it is none.
-pub fn nibble(b: u8) -> u64
-    ensures { result ≡ nibble_of b }
+// A byte as a lowercase hex digit.
+pub fn nibble(b: u8) -> Option<u64>
+    ensures { result ≡ digit_in b }
 {
-    if b < 48 {
-        return 16;
+    match b {
+        48..=57 => Some(u64::from(b - 48)),
+        97..=102 => Some(u64::from(b - 87)),
+        _ => None,
     }
-    if b < 58 {
-        return (b - 48) as u64;
-    }
-    if b < 97 {
-        return 16;
-    }
-    if b < 103 {
-        return (b - 87) as u64;
-    }
-    16
 }
 
 // One digit more behind a number, in 64 bits; of d its low four.

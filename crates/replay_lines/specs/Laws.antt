@@ -21,6 +21,10 @@ pub taken_end : (key s : List ℕ) (a w i : ℕ) → length s ≤ i → taken_of
 unfolding taken_of
 taken_end key s a w i h = rw (drop_of_length-le s h)
 
+pub taken_all : (key s : List ℕ) (a w i : ℕ) → length s ≤ i → taken_of key a w (drop i s) ≡ record { got = got.More a w; left = drop (length s) s }
+unfolding taken_of
+taken_all key s a w i h = let k : length s ≤ length s = omega arith in rw (drop_of_length-le s h, drop_of_length-le s k)
+
 -- the four bytes from i * 4 up to i * 4 + 4
 pub read_four : (keys : List ℕ) (i at v : ℕ) (s : List ℕ) (r : Part) → Read (take (i * 4 + 4 - i * 4) (drop (i * 4) keys)) at v s r → Read (four_at keys i) at v s r
 read_four keys i at v s r h =

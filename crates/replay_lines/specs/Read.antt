@@ -1,6 +1,6 @@
 -- What the line reader promises: the bytes of a slice taken one by one, to the line's end, to one that does not fit, or
 -- to the slice's end.
-use Rattle.std.specs.Prelude.{ℕ, ◌+◌, ◌≤◌, ◌<◌, Bool, true, false, List, [], ◌∷◌, ◌≡◌, eqb, drop, length}
+use Rattle.std.specs.Prelude.{ℕ, Option, IfSome, ◌+◌, ◌≤◌, ◌<◌, Bool, true, false, List, [], ◌∷◌, ◌≡◌, eqb, drop, length}
 use Rattle.isa_types.specs.Pick.{and}
 use Rattle.replay_scope.specs.declared.Got.{Got}
 use Rattle.replay_scope.specs.declared.Got.TheVariants as got
@@ -35,6 +35,6 @@ begins [] l = true
 begins (x ∷ key) [] = false
 begins (x ∷ key) (b ∷ l) = and (eqb b x) (begins key l)
 
--- if it is not 0, r is the length of the key, with which the bytes begin, and they are long enough for its line
-abbrev pub Spelled : List ℕ → List ℕ → ℕ → Type 0
-Spelled key s r = 0 < r → (r ≡ length key) × (r + 17 ≤ length s) × (begins key s ≡ true)
+-- if there is one, the number is the length of the key, with which the bytes begin, and they are long enough for its line
+abbrev pub Spelled : List ℕ → List ℕ → Option ℕ → Type 0
+Spelled key s r = IfSome r (λ n. (n ≡ length key) × (n + 17 ≤ length s) × (begins key s ≡ true))

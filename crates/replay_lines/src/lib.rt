@@ -3,14 +3,14 @@
 // only one that the slice's end cuts, that began in the slice before, or that has a byte that does not fit.
 #![tactic(auto)]
 
-ghost use Rattle.std.specs.Prelude.{◌≡◌, ◌+◌, ◌≤◌, length};
+ghost use Rattle.std.specs.Prelude.{◌≡◌, IfSome, length};
+ghost use Rattle.std.specs.Fn.{FnOnceReturnsAt};
 ghost use Rattle.replay_scope.specs.Lines.{four_at, header_key, key_of, line_of};
-ghost use Rattle.replay_lines.specs.Read.{Read, Spelled, begins as begins_with};
+ghost use Rattle.replay_lines.specs.Read.{Read, Spelled};
 
-use replay_digits::Digits;
 use replay_scope::{Got, Line, Place};
 
-// What was read of a line, and where the bytes after it begin.
+// What was read of a line, and where the bytes after it begin: a number, of which the definition `Read` speaks.
 #[derive(Clone, Copy)]
 pub struct Part {
     pub got: Got,
@@ -22,184 +22,108 @@ pub struct Part {
 pub fn read(line: Line, s: &[u8]) -> Part
     ensures { Read (key_of line.place) line.at line.value s.now result }
 {
-    let place = line.place;
-    let at = line.at;
-    let v = line.value;
-    if at == 0 {
-        if v == 0 {
-            let n = spell(place, s);
-            if 0 < n {
-                let e = n + 16;
-                if s[e] == 10 {
-                    let d = replay_digits::read(s, n);
-                    match d {
-                        Digits::Number(w) => {
-                            return Part {
-                                got: Got::Whole(w),
-                                next: n + 17,
-                            };
-                        }
-                        Digits::Bad => {}
-                    }
-                }
-            }
+    let Line { place, at, value } = line;
+    if at == 0 && value == 0 {
+        if let Some(part) = whole(place, s) {
+            return part;
         }
     }
-    scan_at(place, at, v, s)
+    with_key(place, |key| scan(key, at, value, s))
 }
 
-// How long the key is, if the bytes begin with it and are long enough for the line; else 0.
-fn spell(place: Place, s: &[u8]) -> usize
-    ensures { Spelled (key_of place) s.now result }
+// A line that lies whole at the slice's front.
+fn whole(place: Place, s: &[u8]) -> Option<Part>
+    ensures { IfSome result (λ p. Read (key_of place) 0 0 s.now p) }
+{
+    let n = with_key(place, |key| spell(key, s))?;
+    if s[n + 16] != 10 {
+        return None;
+    }
+    let w = replay_digits::read(s, n)?;
+    Some(Part {
+        got: Got::Whole(w),
+        next: n + 17,
+    })
+}
+
+// What f makes of the key of a line. Each key stands at a call of its own, so that what f does is compiled for it.
+fn with_key<R, F: FnOnce(&[u8]) -> R>(place: Place, f: F) -> R
+    requires { F.IsAlwaysCallable f }
+    ensures { FnOnceReturnsAt F.FnOnce f (key_of place) result }
 {
     match place {
-        Place::Header(i) => spell_header(i, s),
-        Place::Scause => spell_by(b"scause=", s),
-        Place::Stval => spell_by(b"stval=", s),
-        Place::Htval => spell_by(b"htval=", s),
-        Place::Htinst => spell_by(b"htinst=", s),
-        Place::Word => spell_by(b"word=", s),
-        Place::More => spell_by(b"more=", s),
+        Place::Header(i) => with_header_key(i, f),
+        Place::Scause => f(b"scause="),
+        Place::Stval => f(b"stval="),
+        Place::Htval => f(b"htval="),
+        Place::Htinst => f(b"htinst="),
+        Place::Word => f(b"word="),
+        Place::More => f(b"more="),
     }
 }
 
-// The same for line i of the header.
-fn spell_header(i: usize, s: &[u8]) -> usize
-    ensures { Spelled (header_key i) s.now result }
+// The same of line i of the header.
+fn with_header_key<R, F: FnOnce(&[u8]) -> R>(i: usize, f: F) -> R
+    requires { F.IsAlwaysCallable f }
+    ensures { FnOnceReturnsAt F.FnOnce f (header_key i) result }
 {
     match i {
-        0 => spell_by(b"sepc=", s),
-        1 => spell_by(b"vstimecmp=", s),
-        _ => spell_register(
+        0 => f(b"sepc="),
+        1 => f(b"vstimecmp="),
+        _ => f(register_key(
             b"x01=x02=x03=x04=x05=x06=x07=x08=x09=x10=x11=x12=x13=x14=x15=x16=x17=x18=x19=x20=x21=x22=x23=x24=x25=x26=x27=x28=x29=x30=x31=",
             i - 2,
-            s,
-        ),
+        )),
     }
 }
 
-// The same for the line of a general register, whose key is the four bytes at i * 4.
-fn spell_register(keys: &[u8], i: usize, s: &[u8]) -> usize
+// The key of the line of a general register: the four bytes at i * 4, as the definition `register_keys` has them, in one text.
+fn register_key(keys: &[u8], i: usize) -> &[u8]
     requires { length keys.now ≡ 124 }
-    ensures { Spelled (four_at keys.now i) s.now result }
+    ensures { result.now ≡ four_at keys.now i }
 {
     if i < 31 {
         let a = i * 4;
         let e = a + 4;
-        return spell_by(&keys[a..e], s);
+        return &keys[a..e];
     }
-    0
+    &keys[..0]
 }
 
-// The same by the key.
-fn spell_by(key: &[u8], s: &[u8]) -> usize
+// How long the key is, if the bytes begin with it and are long enough for the line.
+fn spell(key: &[u8], s: &[u8]) -> Option<usize>
     ensures { Spelled key.now s.now result }
 {
     let n = key.len();
     if s.len() < 17 {
-        return 0;
+        return None;
     }
     if s.len() - 17 < n {
-        return 0;
+        return None;
     }
-    if begins(key, s) {
-        return n;
-    }
-    0
-}
-
-// Whether the bytes begin with the key.
-fn begins(key: &[u8], s: &[u8]) -> bool
-    requires { length key.now ≤ length s.now }
-    ensures { result ≡ begins_with key.now s.now }
-{
-    let mut i: usize = 0;
-    while i < key.len() {
-        if s[i] != key[i] {
-            return false;
-        }
-        i += 1;
-    }
-    true
+    if s.starts_with(key) { Some(n) } else { None }
 }
 
 // Reads on byte by byte.
-fn scan_at(place: Place, at: usize, v: u64, s: &[u8]) -> Part
-    ensures { Read (key_of place) at v s.now result }
-{
-    match place {
-        Place::Header(i) => scan_header(i, at, v, s),
-        Place::Scause => scan(b"scause=", at, v, s),
-        Place::Stval => scan(b"stval=", at, v, s),
-        Place::Htval => scan(b"htval=", at, v, s),
-        Place::Htinst => scan(b"htinst=", at, v, s),
-        Place::Word => scan(b"word=", at, v, s),
-        Place::More => scan(b"more=", at, v, s),
-    }
-}
-
-// The same for line i of the header.
-fn scan_header(i: usize, at: usize, v: u64, s: &[u8]) -> Part
-    ensures { Read (header_key i) at v s.now result }
-{
-    match i {
-        0 => scan(b"sepc=", at, v, s),
-        1 => scan(b"vstimecmp=", at, v, s),
-        _ => scan_register(
-            b"x01=x02=x03=x04=x05=x06=x07=x08=x09=x10=x11=x12=x13=x14=x15=x16=x17=x18=x19=x20=x21=x22=x23=x24=x25=x26=x27=x28=x29=x30=x31=",
-            i - 2,
-            at,
-            v,
-            s,
-        ),
-    }
-}
-
-// The same for the line of a general register.
-fn scan_register(keys: &[u8], i: usize, at: usize, v: u64, s: &[u8]) -> Part
-    requires { length keys.now ≡ 124 }
-    ensures { Read (four_at keys.now i) at v s.now result }
-{
-    if i < 31 {
-        let a = i * 4;
-        let e = a + 4;
-        return scan(&keys[a..e], at, v, s);
-    }
-    scan(&keys[..0], at, v, s)
-}
-
-// The same by the key.
 fn scan(key: &[u8], at: usize, v: u64, s: &[u8]) -> Part
     ensures { Read key.now at v s.now result }
 {
     let mut a = at;
     let mut w = v;
-    let mut i: usize = 0;
-    while i < s.len() {
-        let g = line(key, a, w, s[i]);
-        i += 1;
-        match g {
-            Got::More(b, x) => {
-                a = b;
+    for (i, b) in s.iter().enumerate() {
+        let got = line(key, a, w, *b);
+        match got {
+            Got::More(c, x) => {
+                a = c;
                 w = x;
             }
-            Got::Whole(x) => {
-                return Part {
-                    got: Got::Whole(x),
-                    next: i,
-                };
-            }
-            Got::Unfit => {
-                return Part {
-                    got: Got::Unfit,
-                    next: i,
-                };
-            }
+            Got::Whole(_) => return Part { got, next: i + 1 },
+            Got::Unfit => return Part { got, next: i + 1 },
         }
     }
     Part {
         got: Got::More(a, w),
-        next: i,
+        next: s.len(),
     }
 }
 
@@ -214,11 +138,10 @@ fn line(key: &[u8], at: usize, v: u64, b: u8) -> Got
         return Got::Unfit;
     }
     if at - key.len() < 16 {
-        let d = replay_digits::nibble(b);
-        if d < 16 {
-            return Got::More(at + 1, replay_digits::push(v, d));
-        }
-        return Got::Unfit;
+        return match replay_digits::nibble(b) {
+            Some(d) => Got::More(at + 1, replay_digits::push(v, d)),
+            None => Got::Unfit,
+        };
     }
     if b == 10 {
         return Got::Whole(v);

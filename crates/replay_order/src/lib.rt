@@ -1,22 +1,23 @@
-// The order of a capture's lines, and what each does (01, Replay program): a state between two bytes, whose record lies in
-// 58 lent words, takes what was read of its line.
+// The order of a capture's lines, and what each does (01, Replay program): a replay between two bytes takes what was read of
+// its line.
 #![tactic(auto)]
 
 ghost use Rattle.std.specs.Prelude.{◌≡◌};
 ghost use Rattle.in_place_record.specs.View.{view_of};
-ghost use Rattle.replay_scope.specs.Output.{after_header, begun, end_gives, followed_by, got_of, headed_of, keeping, line_does, may_end, read_to};
-ghost use Rattle.replay_traps.specs.InPlace.{state_in, step_in};
+ghost use Rattle.replay_scope.specs.Output.{after_header, begun, end_gives, got_of, headed_of, line_does, may_end};
+ghost use Rattle.replay_traps.specs.InPlace.{state_of, step_of};
 
 use isa_types::GuestPhysAddr;
 use replay_scope::{Gives, Got, Kept, Line, Place, Progress};
-use replay_traps::Next;
+use replay_traps::Replay;
 
 // Before the first byte: a zero record after setup.
-pub fn begin(r: &mut [u64; 58]) -> Progress
-    ensures { state_in r.new result ≡ begun }
+pub fn begin() -> Replay
+    ensures { state_of result ≡ begun }
 {
-    in_place_host_calls::new(r, 0, 0);
-    in_place_host_calls::setup(r);
+    let mut record = [0u64; 58];
+    in_place_host_calls::new(&mut record, 0, 0);
+    in_place_host_calls::setup(&mut record);
     let line = Line {
         place: Place::Header(0),
         at: 0,
@@ -28,133 +29,87 @@ pub fn begin(r: &mut [u64; 58]) -> Progress
         htval: 0,
         word: 0,
     };
-    Progress {
+    let progress = Progress {
         line,
         number: 1,
         kept,
         exit: 0,
         over: false,
-    }
+    };
+    Replay { progress, record }
 }
 
 // What a reading of the line gave.
-pub fn take(p: Progress, r: &mut [u64; 58], g: Got) -> Next
-    ensures { step_in r.new result ≡ got_of (state_in r.old p) g }
+pub fn take(replay: &mut Replay, g: Got) -> Gives
+    ensures { step_of replay.new result ≡ got_of (state_of replay.old) g }
 {
     match g {
-        Got::More(at, value) => Next {
-            progress: go_on(p, at, value),
-            gives: Gives::Nothing,
-        },
-        Got::Whole(n) => {
-            let line = p.line;
-            let place = line.place;
-            do_line(place, p, r, n)
+        Got::More(at, value) => {
+            replay.progress.line.at = at;
+            replay.progress.line.value = value;
+            Gives::Nothing
         }
-        Got::Unfit => replay_traps::unfit(p, r),
+        Got::Whole(n) => {
+            let place = replay.progress.line.place;
+            do_line(replay, place, n)
+        }
+        Got::Unfit => replay.unfit(),
     }
 }
 
 // What the end of the capture gives: nothing where a trap may begin, else the missing line.
-pub fn end(p: Progress) -> Gives
-    ensures { result ≡ end_gives p }
+pub fn end(replay: &Replay) -> Gives
+    ensures { result ≡ end_gives (state_of replay.now).progress }
 {
-    if p.over {
+    let progress = replay.progress;
+    if progress.over {
         return Gives::Nothing;
     }
-    let line = p.line;
-    let place = line.place;
-    if may_end(place) {
-        if line.at == 0 {
-            return Gives::Nothing;
-        }
-        return Gives::Bad { number: p.number };
+    let line = progress.line;
+    if may_end(line.place) && line.at == 0 {
+        return Gives::Nothing;
     }
-    Gives::Bad { number: p.number }
+    Gives::Bad {
+        number: progress.number,
+    }
 }
 
 // Whether a capture may end before the line at this place.
 fn may_end(place: Place) -> bool
     ensures { result ≡ may_end place }
 {
-    match place {
-        Place::Header(_) => false,
-        Place::Scause => true,
-        Place::Stval => false,
-        Place::Htval => false,
-        Place::Htinst => false,
-        Place::Word => false,
-        Place::More => false,
-    }
-}
-
-// More is read of the same line.
-fn go_on(p: Progress, at: usize, value: u64) -> Progress
-    ensures { result ≡ read_to p at value }
-{
-    let old = p.line;
-    let place = old.place;
-    let kept = p.kept;
-    let line = Line { place, at, value };
-    Progress {
-        line,
-        number: p.number,
-        kept,
-        exit: p.exit,
-        over: p.over,
-    }
+    matches!(place, Place::Scause)
 }
 
 // The number n of the line at each place.
-fn do_line(place: Place, p: Progress, r: &mut [u64; 58], n: u64) -> Next
-    ensures { step_in r.new result ≡ line_does place (state_in r.old p) n }
+fn do_line(replay: &mut Replay, place: Place, n: u64) -> Gives
+    ensures { step_of replay.new result ≡ line_does place (state_of replay.old) n }
 {
-    let mut kept = p.kept;
     match place {
         Place::Header(i) => {
-            head(r, i, n);
-            Next {
-                progress: replay_traps::follow(p, after_header(i)),
-                gives: Gives::Nothing,
-            }
+            head(&mut replay.record, i, n);
+            replay.follow(after_header(i));
         }
         Place::Scause => {
-            kept.scause = n;
-            keep(p, kept, Place::Stval)
+            replay.progress.kept.scause = n;
+            replay.follow(Place::Stval);
         }
         Place::Stval => {
-            kept.stval = n;
-            keep(p, kept, Place::Htval)
+            replay.progress.kept.stval = n;
+            replay.follow(Place::Htval);
         }
         Place::Htval => {
-            kept.htval = n;
-            keep(p, kept, Place::Htinst)
+            replay.progress.kept.htval = n;
+            replay.follow(Place::Htinst);
         }
-        Place::Htinst => replay_traps::start(p, r, n),
+        Place::Htinst => return replay.start(n),
         Place::Word => {
-            kept.word = n;
-            keep(p, kept, Place::More)
+            replay.progress.kept.word = n;
+            replay.follow(Place::More);
         }
-        Place::More => replay_traps::pair(p, r, n),
+        Place::More => return replay.pair(n),
     }
-}
-
-// These numbers are kept, and the line at the place follows.
-fn keep(p: Progress, kept: Kept, place: Place) -> Next
-    ensures { (result.progress ≡ followed_by (keeping p kept) place) × (result.gives ≡ Gives.Nothing) }
-{
-    let line = p.line;
-    let q = Progress {
-        line,
-        number: p.number,
-        kept,
-        exit: p.exit,
-        over: p.over,
-    };
-    Next {
-        progress: replay_traps::follow(q, place),
-        gives: Gives::Nothing,
-    }
+    Gives::Nothing
 }
 
 // Behind line i of the header: its next line, or behind the last the first trap.

@@ -1,14 +1,16 @@
 -- Laws of eight digits in one number: the bytes of spread_of are a number's last eight digits, and eight and eight are all sixteen.
-use Rattle.std.specs.Prelude.{ℕ, ◌+◌, ◌*◌, ◌/◌, ◌%◌, ◌≤◌, ◌<◌, Bool, true, false, List, [], ◌∷◌, ◌++◌, ◌≡◌, refl, ltb, length, set}
-use Rattle.std.proofs.Common.{add_assoc, arith, ap, ◌∙◌, length-set}
+use Rattle.std.specs.Prelude.{ℕ, ◌+◌, ◌-◌, ◌*◌, ◌/◌, ◌%◌, ◌≤◌, ◌<◌, Bool, true, false, List, [], ◌∷◌, ◌++◌, ◌≡◌, refl, drop, ltb, length, set, take}
+use Rattle.std.proofs.Common.{add_assoc, arith, ap, ◌∙◌, subst, drop-drop, length-set}
 use Rattle.std.proofs.Math.Nat.{div-div-eq-div-mul}
 use Rattle.std.proofs.lemmas.Nat.{and_mask, or_block, or_lt, or_mod}
+use Rattle.std.specs.Int.{to_le_bytes, w64}
 use Rattle.std.specs.Int.Bits.{and_zero_r, bit_and, bit_or, or_zero_l, or_zero_r}
-use Rattle.replay_scope.specs.Lines.{glyph, last_digits, sixteen}
+use borrow.Rule.Slice.PartMut.{put_mid}
+use Rattle.replay_scope.specs.Lines.{glyph, last_digits, line_text, sixteen}
 use Rattle.replay_digits.specs.Words.{glyphs_of, of_bytes}
 use Rattle.replay_digits.proofs.WordLaws.{Bytes, ands, and_bytes, glyphs_eight}
-use Rattle.replay_output.specs.Put.{put_at}
-use Rattle.replay_output.specs.PutLaws.{put_none, put_one, put_put}
+use Rattle.replay_output.specs.Put.{Put, put_at}
+use Rattle.replay_output.specs.PutLaws.{line_put, put_length, put_none, put_one, put_put}
 use Rattle.replay_output.specs.Eight.{bytes_of, spread_of}
 
 -- the bytes of the number that a list of bytes makes are the list
@@ -164,3 +166,29 @@ pub digits_put : (out mid late : List ℕ) (at v : ℕ) → at + 16 ≤ length o
     → late ≡ put_at out at (sixteen v)
 unfolding sixteen
 digits_put out mid late at v h f g = two_put out mid late at (last_digits 8 (v / 0x100000000)) (last_digits 8 v) (omega arith) f g ∙ ap (put_at out at) (simp div-div-eq-div-mul)
+
+-- the bytes that the library makes of a number are its eight lowest
+le_bytes : (w : ℕ) → to_le_bytes w64 w ≡ bytes_of 8 w
+unfolding bytes_of
+le_bytes w = simp div-div-eq-div-mul
+
+-- so those of a number's last eight digits are these digits
+pub eight_is : (v u w : ℕ) (l : List ℕ) → u ≡ spread_of v → w ≡ glyphs_of u → l ≡ to_le_bytes w64 w → l ≡ last_digits 8 v
+eight_is v u w l e f g = g ∙ le_bytes w ∙ rw (f, e) (eight_digits_lem v)
+
+-- a part that is copied is a text that is written
+pub part_put : (out : List ℕ) (at e : ℕ) (l t : List ℕ) → l ≡ t → e ≡ at + length t → put_mid at (e - at) out l ≡ put_at out at t
+unfolding put_at
+part_put out at e l t f n =
+    let k : at + (e - at) ≡ at + length t = omega arith in
+    ap (put_mid at (e - at) out) f ∙ ap (λ (r : List ℕ). take at out ++ (t ++ r)) (drop-drop (e - at) at out ∙ ap (λ (i : ℕ). drop i out) k)
+
+-- a key, eight digits, eight more and LF are a line
+pub parts_put : (out o₁ o₂ o₃ : List ℕ) (at v : ℕ) (key : List ℕ) → at + length key + 17 ≤ length out → o₁ ≡ put_at out at key
+    → o₂ ≡ put_at o₁ (at + length key) (last_digits 8 (v / 0x100000000)) → o₃ ≡ put_at o₂ (at + length key + 8) (last_digits 8 v)
+    → Put out at (line_text key v) (at + length key + 8 + 8 + 1) (set o₃ (at + length key + 8 + 8) 10)
+parts_put out o₁ o₂ o₃ at v key h e f g =
+    let m : length o₁ ≡ length out = ap length e ∙ put_length out at key (omega arith) in
+    let n : at + length key + 16 ≡ at + length key + 8 + 8 = omega arith in
+    subst (λ (i : ℕ). Put out at (line_text key v) (i + 1) (set o₃ i 10)) n
+    (line_put out o₁ o₃ at v key h e (digits_put o₁ o₂ o₃ (at + length key) v (omega arith) f g))

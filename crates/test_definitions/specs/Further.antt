@@ -1,5 +1,5 @@
 -- What no list runs, by document 01's own words and the numbers of the published Rust: one table, computed by the checker.
-use Rattle.std.specs.Prelude.{ℕ, ◌+◌, Bool, true, false, List, [], ◌∷◌, ◌++◌, eqb, T, replicate}
+use Rattle.std.specs.Prelude.{ℕ, Option, Some, None, ◌+◌, Bool, true, false, List, [], ◌∷◌, ◌++◌, eqb, T, replicate}
 use Rattle.isa_types.specs.Pick.{and}
 use Rattle.scope.specs.OneTrap.{abi_number, access_number, answer_number, ask_number, exit_number, fetch_number, flag_of, width_bytes, answer_values, ask_values, exit_values, fetch_value}
 use Rattle.scope.specs.Refusals.{error_number, refusal, refuses}
@@ -29,8 +29,6 @@ use Rattle.replay_scope.specs.Lines.{bytes, line_of, nibble_of, push_of}
 use Rattle.replay_digits.specs.Hex.{digit_of, hex_of}
 use Rattle.replay_lines.specs.Read.{Taken, begins, taken_of}
 use Rattle.replay_output.specs.Put.{put_at}
-use Rattle.replay_digits.specs.declared.Digits.{Digits}
-use Rattle.replay_digits.specs.declared.Digits.TheVariants as digits
 use Rattle.replay_scope.specs.declared.Got.{Got}
 use Rattle.replay_scope.specs.declared.Got.TheVariants as got
 
@@ -83,9 +81,9 @@ got_numbers (got.More at v) = 0 ∷ at ∷ v ∷ []
 got_numbers (got.Whole v) = 1 ∷ v ∷ []
 got_numbers got.Unfit = 2 ∷ []
 
-unfoldable digit_numbers : Digits → List ℕ
-digit_numbers (digits.Number v) = 1 ∷ v ∷ []
-digit_numbers digits.Bad = 2 ∷ []
+unfoldable digit_numbers : Option ℕ → List ℕ
+digit_numbers (Some v) = 1 ∷ v ∷ []
+digit_numbers None = 2 ∷ []
 
 unfoldable taken : Taken → List ℕ
 taken t = got_numbers t.got ++ t.left

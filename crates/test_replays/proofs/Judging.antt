@@ -1,5 +1,5 @@
 -- Output that agrees with the expected one in all of its bytes is the replay of the capture.
-use Rattle.std.proofs.Common.{◌≡◌, ℕ, ◌+◌, ◌-◌, ◌≤◌, List, [], ◌++◌, length, take, drop, sym, ap, ◌∙◌, subst, append-nil, arith, length-drop, take-append-drop, drop_of_length-le, length-take-le, take_all}
+use Rattle.std.proofs.Common.{◌≡◌, ℕ, ◌-◌, ◌≤◌, List, [], ◌++◌, length, take, drop, sym, ap, ◌∙◌, subst, append-nil, arith, length-drop, take-append-drop, drop_of_length-le, length-take-le, take_all}
 use Rattle.replay_output.specs.Put.{Put}
 use Rattle.replay_output.specs.PutLaws.{put_front}
 use Rattle.replay_capture.specs.Feeds.{Fills}

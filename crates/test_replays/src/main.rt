@@ -73,9 +73,8 @@ fn judge(capture: &[u8], expected: &[u8]) -> Result<(), Differs>
     ensures { Judged capture.now expected.now result }
 {
     let mut out = [0u8; 65536];
-    let mut record = [0u64; 58];
-    let p = replay_order::begin(&mut record);
-    let f = replay_capture::fill(p, &mut record, capture, &mut out);
+    let mut replay = replay_order::begin();
+    let f = replay_capture::fill(&mut replay, capture, &mut out);
     let e = f.end;
     if f.next < capture.len() {
         return Err(Differs(e));
@@ -84,9 +83,8 @@ fn judge(capture: &[u8], expected: &[u8]) -> Result<(), Differs>
     if n < e {
         return Err(Differs(n));
     }
-    let q = f.progress;
     let mut last = [0u8; 84];
-    let k = replay_capture::write(replay_order::end(q), &mut last);
+    let k = replay_capture::write(replay_order::end(&replay), &mut last);
     let m = agree(&last[..k], &expected[e..]);
     if m < k {
         return Err(Differs(std::num::wrapping_add_usize(e, m)));

@@ -1,23 +1,18 @@
-use borrow.Author.Tests.{lt-ltb, lt-leb, le-ltb, le-leb}
-use Rattle.replay_scope.specs.Lines.{nibble_of}
+use native.Mathlib.Omega.{arith}
+use Rattle.replay_digits.proofs.Laws.{letter_in, none_between, none_high, none_low, number_in}
 use Rattle.replay_digits.proofs.nibble.Goals as goal
 
-pub returns-then-b-lt48 : goal.returns-then-b-lt48
-unfolding nibble_of
-returns-then-b-lt48 c = simp (lt-ltb _ _ c.if-b-lt48.true, lt-leb _ _ c.if-b-lt48.true)
+pub returns-in-48-to-57 : goal.returns-in-48-to-57
+returns-in-48-to-57 c = number_in _ _ (omega arith) (omega arith) c.from.ensures
 
-pub returns-then-b-lt58 : goal.returns-then-b-lt58
-unfolding nibble_of
-returns-then-b-lt58 c = simp (lt-ltb _ _ c.if-b-lt58.true, lt-leb _ _ c.if-b-lt58.true, le-ltb _ _ c.if-b-lt48.false, le-leb _ _ c.if-b-lt48.false)
+pub returns-in-97-to-102 : goal.returns-in-97-to-102
+returns-in-97-to-102 c = letter_in _ _ (omega arith) (omega arith) c.from-in-97-to-102.ensures
 
-pub returns-then-b-lt97 : goal.returns-then-b-lt97
-unfolding nibble_of
-returns-then-b-lt97 c = simp (lt-ltb _ _ c.if-b-lt97.true, lt-leb _ _ c.if-b-lt97.true, le-ltb _ _ c.if-b-lt58.false, le-leb _ _ c.if-b-lt58.false, le-ltb _ _ c.if-b-lt48.false, le-leb _ _ c.if-b-lt48.false)
+pub returns-in_default : goal.returns-in_default
+returns-in_default c = none_low _ (omega arith)
 
-pub returns-then-b-lt103 : goal.returns-then-b-lt103
-unfolding nibble_of
-returns-then-b-lt103 c = simp (lt-ltb _ _ c.if-b-lt103.true, lt-leb _ _ c.if-b-lt103.true, le-ltb _ _ c.if-b-lt97.false, le-leb _ _ c.if-b-lt97.false, le-ltb _ _ c.if-b-lt58.false, le-leb _ _ c.if-b-lt58.false, le-ltb _ _ c.if-b-lt48.false, le-leb _ _ c.if-b-lt48.false)
+pub returns-in_default-2 : goal.returns-in_default-2
+returns-in_default-2 c = none_between _ (omega arith) (omega arith)
 
-pub returns : goal.returns
-unfolding nibble_of
-returns c = simp (le-ltb _ _ c.if-b-lt103.false, le-leb _ _ c.if-b-lt103.false, le-ltb _ _ c.if-b-lt97.false, le-leb _ _ c.if-b-lt97.false, le-ltb _ _ c.if-b-lt58.false, le-leb _ _ c.if-b-lt58.false, le-ltb _ _ c.if-b-lt48.false, le-leb _ _ c.if-b-lt48.false)
+pub returns-in_default-3 : goal.returns-in_default-3
+returns-in_default-3 c = none_high _ (omega arith)

@@ -1,42 +1,27 @@
-use mathlib.Core.Path.{refl}
-use Rattle.replay_lines.specs.Laws.{taken_next, taken_end}
-use Prim.Native.Nat.{◌-◌}
-use mathlib.Core.Path.{sym, ◌∙◌}
-use native.Mathlib.Omega.{arith}
-use borrow.Author.Rules.{rules}
+use Rattle.std.proofs.Common.{arith, sym, ◌∙◌}
+use Rattle.replay_lines.specs.Laws.{taken_all, taken_next}
 use Rattle.replay_lines.proofs.scan.Goals as goal
 
-pub loop-i-init : goal.loop-i-init
-loop-i-init c = (search rules, refl)
-
 pub loop-i-preserved : goal.loop-i-preserved
-loop-i-preserved c = (
-  search rules,
-  c.loop-i.invariant.1
-      ∙ taken_next _ _ _ _ _ _ c.loop-i-test.true (sym c.line-g.ensures ∙ c.in-More.is),
-)
+loop-i-preserved c = c.loop-i.invariant ∙ taken_next _ _ _ _ _ _ c.loop-i-test.true (sym c.line-got.ensures ∙ c.in-More.is)
 
 pub returns-in-Whole : goal.returns-in-Whole
-returns-in-Whole c = record {
+returns-in-Whole c = rw c.in-Whole.is (record {
   high = omega arith;
   moves = λ h. omega arith;
-  reads =
-      c.loop-i.invariant.1
-      ∙ taken_next _ _ _ _ _ _ c.loop-i-test.true (sym c.line-g.ensures ∙ c.in-Whole.is);
-}
+  reads = c.loop-i.invariant ∙ taken_next _ _ _ _ _ _ c.loop-i-test.true (sym c.line-got.ensures ∙ c.in-Whole.is);
+})
 
 pub returns-in-Unfit : goal.returns-in-Unfit
-returns-in-Unfit c = record {
+returns-in-Unfit c = rw c.in-Unfit.is (record {
   high = omega arith;
   moves = λ h. omega arith;
-  reads =
-      c.loop-i.invariant.1
-      ∙ taken_next _ _ _ _ _ _ c.loop-i-test.true (sym c.line-g.ensures ∙ c.in-Unfit.is);
-}
+  reads = c.loop-i.invariant ∙ taken_next _ _ _ _ _ _ c.loop-i-test.true (sym c.line-got.ensures ∙ c.in-Unfit.is);
+})
 
 pub returns : goal.returns
 returns c = record {
   high = omega arith;
-  moves = λ h. omega arith;
-  reads = c.loop-i.invariant.1 ∙ taken_end _ _ _ _ _ c.loop-i-test.false;
+  moves = λ h. h;
+  reads = c.loop-i.invariant ∙ taken_all _ _ _ _ _ c.loop-i-test.false;
 }

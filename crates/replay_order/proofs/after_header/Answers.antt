@@ -1,11 +1,11 @@
-use borrow.Author.Tests.{lt-ltb, lt-leb, le-ltb, le-leb}
+use borrow.Author.Tests.{lt-ltb, le-ltb}
 use Rattle.replay_scope.specs.Output.{after_header}
 use Rattle.replay_order.proofs.after_header.Goals as goal
 
 pub returns-then-i-lt32 : goal.returns-then-i-lt32
 unfolding after_header
-returns-then-i-lt32 c = simp (lt-ltb _ _ c.if-i-lt32.true, lt-leb _ _ c.if-i-lt32.true)
+returns-then-i-lt32 c = simp (lt-ltb _ _ c.if-i-lt32.true)
 
 pub returns : goal.returns
 unfolding after_header
-returns c = simp (le-ltb _ _ c.if-i-lt32.false, le-leb _ _ c.if-i-lt32.false)
+returns c = simp (le-ltb _ _ c.if-i-lt32.false)
