@@ -32,9 +32,9 @@ one_more : (i : ℕ) → suc i ≡ i + 1
 one_more i = omega arith
 
 -- a turn leaves the same to be folded
-pub turned : (s r : Row) (ps : List Post) (i : ℕ) → i < length ps → r ≡ post_taken s (get_or ps i no_post) → fold_of s (drop i ps) ≡ fold_of r (drop (i + 1) ps)
+pub turn : (s r : Row) (ps : List Post) (i : ℕ) → i < length ps → r ≡ post_taken s (get_or ps i no_post) → fold_of s (drop i ps) ≡ fold_of r (drop (i + 1) ps)
 unfolding fold_of
-turned s r ps i l e =
+turn s r ps i l e =
     ap (fold_of s) (begins ps i l) ∙ ap (λ (u : Row). fold_of u (drop (suc i) ps)) (sym e) ∙ ap (λ (k : ℕ). fold_of r (drop k ps)) (one_more i)
 
 -- and nothing at the end

@@ -38,13 +38,13 @@ pub fn with_hvip(csrs: Csrs, hvip: u64) -> Csrs
     c
 }
 
-// A general register, of the 32 that words begin with; x0 reads 0. No jump hangs on which of the 32 it is.
+// A general register, of those that words begin with; x0 reads 0, and so does one that isn't there. No jump hangs on which of the 32 it
+// is.
 #[tactic(auto, unfolding(scope::specs::Record::value_of))]
 pub fn register<const N: usize>(x: &[u64; N], i: usize) -> u64
-    requires { 32 ≤ N }
     ensures { result ≡ value_of x.now i }
 {
-    if i < 32 {
+    if i < 32 && i < N {
         return isa_types::select(i == 0, 0, x[i]);
     }
     0
@@ -60,23 +60,22 @@ pub struct Ecall {
 
 impl Ecall {
     // The call that a guest's registers make, which words begin with: a7, a6, and a0 to a5.
-    #[tactic(auto, unfolding(scope::specs::Classes::arguments_of))]
+    #[tactic(auto, unfolding(scope::specs::Classes::arguments_of, scope::specs::Record::value_of))]
     pub fn of<const N: usize>(x: &[u64; N]) -> Ecall
-        requires { 32 ≤ N }
         ensures eid { result.eid ≡ get_or x.now 17 0 }
         ensures fid { result.fid ≡ get_or x.now 16 0 }
         ensures args { result.args ≡ arguments_of x.now }
     {
         Ecall {
-            eid: x[17],
-            fid: x[16],
+            eid: register(x, 17),
+            fid: register(x, 16),
             args: Args {
-                a0: x[10],
-                a1: x[11],
-                a2: x[12],
-                a3: x[13],
-                a4: x[14],
-                a5: x[15],
+                a0: register(x, 10),
+                a1: register(x, 11),
+                a2: register(x, 12),
+                a3: register(x, 13),
+                a4: register(x, 14),
+                a5: register(x, 15),
             },
         }
     }

@@ -1,6 +1,6 @@
 -- A turn takes a post; the rest is folded from what it leaves. A row that was stopped stays.
 use Rattle.std.proofs.Common.{◌∙◌, sym}
-use Rattle.decide_posts.specs.FoldLaws.{at_end, going, stopped, turned, within}
+use Rattle.decide_posts.specs.FoldLaws.{at_end, going, stopped, turn, within}
 use Rattle.decide_posts.proofs.fold.Goals as goal
 
 pub loop-p-preserved : goal.loop-p-preserved
@@ -8,7 +8,7 @@ loop-p-preserved c =
     rw (c.apply-row.ensures, c.line_of.ensures)
     (record {
       folds =
-          sym (turned c.loop-p.row _ c.args.posts.now c.loop-p.p-index c.loop-p-test.true (going c.loop-p.row _ (sym c.if-is_some.ensures)))
+          sym (turn c.loop-p.row _ c.args.posts.now c.loop-p.p-index c.loop-p-test.true (going c.loop-p.row _ (sym c.if-is_some.ensures)))
           ∙ c.loop-p.invariant.folds;
       applies = within c.loop-p.row _ _ c.loop-p.invariant.applies;
     })
