@@ -28,13 +28,16 @@ pub struct AnswerWords {
 }
 
 // The answer of three words, read with no record in sight.
-pub fn answer_words(a: &[u64; 3]) -> AnswerWords
-    ensures { result ≡ answer_words a.now }
-{
-    AnswerWords {
-        ask: a[0],
-        word: a[1],
-        more: a[2],
+impl From<&[u64; 3]> for AnswerWords {
+    ghost from_gives = { λ a w. w ≡ answer_words a.now };
+
+    #[tactic(auto, unfolding(crate::specs::Words::answer_words))]
+    fn from(a: &[u64; 3]) -> AnswerWords {
+        AnswerWords {
+            ask: a[0],
+            word: a[1],
+            more: a[2],
+        }
     }
 }
 

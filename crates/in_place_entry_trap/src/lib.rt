@@ -6,6 +6,8 @@
 ghost use Rattle.in_place_record.specs.View.{Made};
 ghost use Rattle.in_place_entry_trap.specs.Calls.{answer_call, start_call};
 
+use in_place_answer::AnswerWords;
+
 // Starts a trap. t: scause, stval, htval, htinst, room.
 #[unsafe(no_mangle)]
 pub extern "C" fn vcpu_start(r: &mut [u64; 58], t: &[u64; 5], out: &mut [u64; 8]) -> u64
@@ -21,5 +23,5 @@ pub extern "C" fn vcpu_answer(r: &mut [u64; 58], a: &[u64; 3], out: &mut [u64; 8
     ensures { Made r.old (answer_call a.now) r.new out.new result }
 {
     *out = [0u64; 8];
-    in_place_answer::answer(r, out, in_place_answer::answer_words(a))
+    in_place_answer::answer(r, out, AnswerWords::from(a))
 }

@@ -8,4 +8,4 @@ use Rattle.in_place_entry_trap.proofs.vcpu_answer.Goals as goal
 
 pub returns : goal.returns
 unfolding answer_call trap_leaves waiting_left
-returns c = cleared (host_call.Answer _) (λ o. refl) (rw c.answer_words.ensures at c.answer.ensures)
+returns c = cleared (host_call.Answer _) (λ o. refl) (rw c.from.ensures at c.answer.ensures)
