@@ -7,8 +7,7 @@ ghost use Rattle.scope.specs.VirtualInstruction.{ask_fetch_of, missed_effect, st
 
 use isa_types::{GuestPhysAddr, GuestVirtAddr};
 use scope::{
-    Access, Ask, Csrs, Effect, Error, Event, Exit, Fault, Fetch, Missed, Reply, Stimecmp, Waiting,
-    Writes,
+    Access, Ask, Csrs, Effect, Error, Event, Exit, Fault, Missed, Stimecmp, Waiting, Writes,
 };
 
 // A load's number arrives: cut, extended, written.

@@ -8,7 +8,7 @@ ghost use Rattle.scope.specs.Record.{moved};
 ghost use Rattle.scope.specs.Refusals.{finished_of};
 
 use decide_record::Ecall;
-use scope::{Answered, Ask, Csrs, EcallAsk, Effect, Event, Exit, Reply, SbiCall, Waiting, Writes};
+use scope::{Answered, Ask, Csrs, EcallAsk, Effect, Event, Exit, SbiCall, Waiting, Writes};
 
 // The effect of a call on the record.
 #[tactic(auto, unfolding(scope::specs::Decided::call_effect, scope::specs::Ecalls::forward_effect))]

@@ -4,7 +4,7 @@
 ghost use Rattle.std.specs.Prelude.{◌≡◌, replicate};
 ghost use Rattle.scope.specs.Calls.{called_of, gpr_reply};
 
-use scope::{Answer, HostCall, Outcome, Reply, Vcpu};
+use scope::{HostCall, Outcome, Reply, Vcpu};
 
 // Makes the call on a record that is handed over by value.
 #[tactic(auto, unfolding(scope::specs::Calls::called_of, scope::specs::Calls::base_of, scope::specs::Calls::effect_of, scope::specs::Record::applied, scope::specs::Record::stored, scope::specs::Record::counted, scope::specs::Record::bumped, scope::specs::Record::event_number, scope::specs::Record::no_args, scope::specs::Record::listed, scope::specs::Refusals::leaves_of, scope::specs::Refusals::done_of))]
