@@ -1,7 +1,7 @@
 // The parts of a vCPU record, read and changed: sepc, the timer, hvip, a register, the ask that waits. Both entries use them.
 #![tactic(auto)]
 
-ghost use Rattle.std.specs.Prelude.{◌≡◌, ◌≤◌, get_or};
+ghost use Rattle.std.specs.Prelude.{◌≡◌, get_or};
 ghost use Rattle.scope.specs.Calls.{fitted, print_count, printable};
 ghost use Rattle.scope.specs.Classes.{arguments_of};
 ghost use Rattle.scope.specs.Record.{is_idle, moved, pended, timed, value_of, waiting_ask, ecall_ask_number};

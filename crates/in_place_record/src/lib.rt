@@ -5,7 +5,7 @@
 // struct of the two loans would be taken apart at each of these calls, and twice as long in each promise (`l.r.old`, `l.out.old`).
 #![tactic(auto)]
 
-ghost use Rattle.std.specs.Prelude.{◌≡◌, length};
+ghost use Rattle.std.specs.Prelude.{◌≡◌};
 ghost use Rattle.in_place_record.specs.Rows.{complete_word, complete_words, give_words, moved_words, put_word};
 
 use scope::Waiting;
@@ -114,13 +114,6 @@ pub const SECOND: usize = 56;
 
 pub const THIRD: usize = 57;
 
-// That 58 words are 58: proofs call it for its promise, and no code is left of it.
-pub fn sized(r: &[u64; 58]) -> usize
-    ensures { length r.now ≡ 58 }
-{
-    count(r)
-}
-
 // Writes a general register. x0's slot gets back what it held, so that no jump hangs on the register.
 pub fn put(r: &mut [u64; 58], i: usize, n: u64)
     ensures { r.new ≡ put_word r.old i n }
@@ -145,12 +138,6 @@ pub fn complete(r: &mut [u64; 58], w: Waiting, n: u64) -> u64
         }
         _ => ReplyWord::BadState as u64,
     }
-}
-
-fn count(s: &[u64]) -> usize
-    ensures { result ≡ length s.now }
-{
-    s.len()
 }
 
 // sepc moves on.

@@ -3,7 +3,7 @@
 // all output; the record lies in place as 58 words.
 #![tactic(auto)]
 
-ghost use Rattle.std.specs.Prelude.{◌≡◌, ◌+◌, ◌≤◌, length};
+ghost use Rattle.std.specs.Prelude.{◌+◌, ◌≤◌, length};
 ghost use Rattle.replay_output.specs.Put.{Put};
 ghost use Rattle.replay_scope.specs.Output.{text_of};
 ghost use Rattle.replay_traps.specs.InPlace.{state_of, step_of};

@@ -126,7 +126,6 @@ fn after_header(i: usize) -> Place
 fn head(r: &mut [u64; 58], i: usize, n: u64)
     ensures { view_of r.new ≡ headed_of (view_of r.old) i n }
 {
-    in_place_record::sized(r);
     if i == 0 {
         in_place_host_calls::set_entry(r, GuestPhysAddr(n));
         return;

@@ -99,7 +99,6 @@ impl Replay {
     fn settled(&mut self, exit: u64, idle: bool) -> Gives
         ensures { idle ≡ is_idle (view_of self.old.record).waiting → step_of self.new result ≡ settled_by (view_of self.old.record) (saying self.old.progress exit) }
     {
-        in_place_record::sized(&self.record);
         self.progress.exit = exit;
         if idle {
             self.follow(Place::Scause);

@@ -5,7 +5,7 @@ use Rattle.replay_traps.proofs.Replay.settled.Goals as goal
 
 pub returns-then-idle : goal.returns-then-idle
 unfolding saying
-returns-then-idle c = λ i. trap_over (saying c.args.self.now.progress c.args.exit) _ _ _ _ c.sized.ensures c.follow.ensures.1 c.follow.ensures.0 (rw c.follow.ensures.1 refl) c.if-idle.true i
+returns-then-idle c = λ i. trap_over (saying c.args.self.now.progress c.args.exit) _ _ _ _ c.told-self c.follow.ensures.1 c.follow.ensures.0 (rw c.follow.ensures.1 refl) c.if-idle.true i
 
 pub returns : goal.returns
 unfolding saying
