@@ -5,8 +5,8 @@
 ghost use Rattle.scope.specs.Words.{call_by};
 ghost use Rattle.in_place_record.specs.View.{Done};
 
-use words_numbers::FromNumber;
 use scope::{IpiAbi, IpiCompletion};
+use words_numbers::FromNumber;
 
 // Sets or clears a pending interrupt of the guest; level 0 clears.
 #[unsafe(no_mangle)]

@@ -6,9 +6,7 @@ pub mod hosts;
 pub mod machine;
 pub mod traps;
 
-pub use decided::{
-    Answered, Class, Fault, IpiCompletion, Missed, SbiCall, Stimecmp,
-};
+pub use decided::{Answered, Class, Fault, IpiCompletion, Missed, SbiCall, Stimecmp};
 pub use hosts::{HostCall, Post, Posted};
 pub use machine::{
     Csrs, EcallAsk, Effect, Event, GuestCsrs, HsCsrs, Outcome, Record, RowOutcome, Vcpu, VsCsrs,
