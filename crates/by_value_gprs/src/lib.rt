@@ -6,7 +6,7 @@ ghost use Rattle.scope.specs.declared.hosts.HostCall.TheVariants as host_call;
 ghost use Rattle.scope.specs.Calls.{called_of, gpr_reply};
 ghost use Rattle.by_value_gprs.specs.Given.{reply_of};
 
-use scope::{Error, Outcome, Vcpu, Writes};
+use scope::{Error, Outcome, Vcpu};
 
 // Reads a general register.
 #[tactic(auto, unfolding(scope::specs::Calls::gpr_reply))]
@@ -31,6 +31,6 @@ pub fn set_gpr(v: Vcpu, index: usize, value: u64) -> Outcome
 pub fn set_return_value(v: Vcpu, value: u64) -> Outcome
     ensures { result ≡ called_of v (host_call.SetReturnValue value) }
 {
-    let e = decide_effects::done(v.csrs, Writes::One(10, value), v.waiting);
+    let e = decide_host::return_effect(v.csrs, v.waiting, value);
     by_value_apply::unless_asking(v, e)
 }

@@ -5,8 +5,7 @@ ghost use Rattle.std.specs.Prelude.{true, ◌≡◌};
 ghost use Rattle.scope.specs.declared.hosts.HostCall.TheVariants as host_call;
 ghost use Rattle.scope.specs.Calls.{called_of};
 
-use scope::{IpiAbi, IpiCompletion, Outcome, Vcpu, Writes};
-use words_numbers::Numbered;
+use scope::{IpiAbi, IpiCompletion, Outcome, Vcpu};
 
 // Sets or clears a pending interrupt of the guest, by the host's vector.
 pub fn set_virtual_interrupt_pending(v: Vcpu, vector: u64, pending: bool) -> Outcome
@@ -34,8 +33,7 @@ pub fn set_vseip_level(v: Vcpu, asserted: bool) -> Outcome
 pub fn latch_hvip(v: Vcpu, bits: u64) -> Outcome
     ensures { result ≡ called_of v (host_call.LatchHvip bits) }
 {
-    let latched = decide_record::with_hvip(v.csrs, v.csrs.hs.hvip | bits);
-    let e = decide_effects::done(latched, Writes::Keep, v.waiting);
+    let e = decide_host::latch_effect(v.csrs, v.waiting, bits);
     by_value_apply::unless_asking(v, e)
 }
 
@@ -43,7 +41,6 @@ pub fn latch_hvip(v: Vcpu, bits: u64) -> Outcome
 pub fn complete_ipi(v: Vcpu, abi: IpiAbi, completion: IpiCompletion) -> Outcome
     ensures { result ≡ called_of v (host_call.CompleteIpi abi completion) }
 {
-    let writes = decide_host::ipi_writes(abi, completion.number());
-    let e = decide_effects::done(v.csrs, writes, v.waiting);
+    let e = decide_host::ipi_effect(v.csrs, v.waiting, abi, completion);
     by_value_apply::unless_asking(v, e)
 }

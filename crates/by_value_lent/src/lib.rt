@@ -12,7 +12,8 @@ pub struct Given {
     pub args: [u64; 6],
 }
 
-// Makes the call on the host's record where it lies.
+// Makes the call on the host's record where it lies. (The same three lines stand in by_value_posts and the entries over words, each over its
+// own outcome: with the call as a closure they would be three again.)
 pub fn call_in_place(v: &mut Vcpu, c: HostCall) -> Given
     ensures { Stored v.old c v.new result }
 {

@@ -6,7 +6,7 @@ ghost use Rattle.scope.specs.declared.hosts.HostCall.TheVariants as host_call;
 ghost use Rattle.scope.specs.Calls.{new_of, called_of};
 
 use isa_types::GuestPhysAddr;
-use scope::{Csrs, Outcome, Vcpu, Waiting, Writes};
+use scope::{Csrs, Outcome, Vcpu, Waiting};
 
 // A record of zeros but for what a guest finds at its start: a0 is its hart, a1 where the device tree lies.
 #[tactic(auto, unfolding(scope::specs::Calls::new_of))]
@@ -28,7 +28,7 @@ pub fn new(hart_id: u64, dtb_addr: u64) -> Vcpu
 pub fn setup(v: Vcpu) -> Outcome
     ensures { result ≡ called_of v host_call.Setup }
 {
-    let e = decide_effects::done(decide_host::setup_csrs(v.csrs), Writes::Keep, v.waiting);
+    let e = decide_host::setup_effect(v.csrs, v.waiting);
     by_value_apply::unless_asking(v, e)
 }
 
@@ -36,8 +36,7 @@ pub fn setup(v: Vcpu) -> Outcome
 pub fn set_entry(v: Vcpu, entry: GuestPhysAddr) -> Outcome
     ensures { result ≡ called_of v (host_call.SetEntry entry) }
 {
-    let csrs = decide_host::entry_csrs(v.csrs, entry);
-    let e = decide_effects::done(csrs, Writes::Keep, v.waiting);
+    let e = decide_host::entry_effect(v.csrs, v.waiting, entry);
     by_value_apply::unless_asking(v, e)
 }
 

@@ -9,7 +9,7 @@ ghost use Rattle.scope.specs.Decided.{answered_effect};
 use isa_types::GuestPhysAddr;
 use scope::{Answered, EcallAsk, IpiRequest};
 
-// What an answer's two numbers do to the ecall that waits.
+// What an answer's two numbers do to the ecall that waits. They come apart, as ecall_answer takes them: each row reads one, both or none.
 #[tactic(auto, unfolding(scope::specs::Decided::answered_effect, scope::specs::Ecalls::ecall_answer))]
 pub fn decide(a: EcallAsk, word: u64, more: u64) -> Answered
     ensures { (c : Csrs) → answered_effect c result ≡ ecall_answer c a word more }
@@ -38,7 +38,7 @@ fn mask(q: Option<IpiRequest>) -> Answered
     }
 }
 
-// DBCN fid 0, ask 3.
+// DBCN fid 0, ask 3. (copied_out has the same test and another end: two rows of 01, two definitions.)
 #[tactic(auto, unfolding(scope::specs::Decided::answered_effect, scope::specs::Ecalls::copied_effect))]
 fn copied(count: u64, got: u64) -> Answered
     ensures { (c : Csrs) → answered_effect c result ≡ copied_effect c count got }

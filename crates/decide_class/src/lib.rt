@@ -16,9 +16,7 @@ pub fn class_of(scause: u64) -> Class
         isa_consts::VIRTUAL_INST => Class::VirtualInstruction,
         isa_consts::LOAD_GUEST_PAGE_FAULT => Class::PageFault(Access::Read),
         isa_consts::STORE_GUEST_PAGE_FAULT => Class::PageFault(Access::Write),
-        isa_consts::S_SOFT => Class::Interrupt,
-        isa_consts::S_TIMER => Class::Interrupt,
-        isa_consts::S_EXT => Class::Interrupt,
+        isa_consts::S_SOFT | isa_consts::S_TIMER | isa_consts::S_EXT => Class::Interrupt,
         _ if isa_consts::is_known_cause(scause) => Class::NotHandled,
         _ => Class::Unknown,
     }

@@ -23,7 +23,7 @@ pub fn dbcn(e: Ecall, room: u64) -> SbiCall
     }
 }
 
-// The checks that console write and read share.
+// The checks that console write and read share; `write` tells the two, as in console_effect and span_effect.
 #[tactic(auto, unfolding(scope::specs::Decided::call_effect, scope::specs::Ecalls::console_effect, scope::specs::Ecalls::lesser_of))]
 fn console(write: bool, a: Args, room: u64) -> SbiCall
     ensures { (c : Csrs) (eid fid : ℕ) → call_effect c eid fid a result ≡ console_effect c write a room }

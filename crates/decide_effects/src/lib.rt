@@ -1,4 +1,5 @@
-// How a call ends: an effect for each kind of end, built in one place. scope/specs/Refusals.antt defines them.
+// How a call ends: an effect for each kind of end, built in one place. scope/specs/Refusals.antt defines them, of the CSRs and of what waits
+// apart: most ends keep the one and change the other, so that a struct of the two would be taken apart at each call.
 #![tactic(auto)]
 
 ghost use Rattle.std.specs.Prelude.{◌≡◌, eqb};

@@ -40,18 +40,16 @@ pub fn inject(c: Csrs, cause: u64, addr: GuestVirtAddr) -> Csrs
     let guest = GuestCsrs {
         sepc: c.vs.vstvec / 4 * 4,
         sstatus,
-        hstatus: c.guest.hstatus,
+        ..c.guest
     };
     let vs = VsCsrs {
         vsstatus,
-        vstvec: c.vs.vstvec,
         vsepc: c.guest.sepc,
         vscause: cause,
         vstval: addr.0,
-        vstimecmp: c.vs.vstimecmp,
+        ..c.vs
     };
-    let hs = c.hs;
-    Csrs { guest, vs, hs }
+    Csrs { guest, vs, ..c }
 }
 
 // vsstatus as the hardware leaves it on a trap into the guest's supervisor mode.

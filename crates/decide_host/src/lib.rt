@@ -2,11 +2,17 @@
 #![tactic(auto)]
 
 ghost use Rattle.std.specs.Prelude.{◌≡◌};
+ghost use Rattle.std.specs.Int.Bits.{bit_or};
+ghost use Rattle.scope.specs.declared.machine.Writes.TheVariants as writes;
+ghost use Rattle.scope.specs.Ecalls.{completion_number};
+ghost use Rattle.scope.specs.Record.{pended};
+ghost use Rattle.scope.specs.Refusals.{done_of};
 ghost use Rattle.scope.specs.Host.{entry_csrs, ipi_writes, hvip_bit_of, paging_by, paging_effect, pending_effect, setup_csrs, table_csrs, write_effect};
 ghost use Rattle.isa_registers.specs.Bits.{with_bits};
 
 use isa_types::GuestPhysAddr;
-use scope::{Csrs, Effect, Error, GuestCsrs, HsCsrs, IpiAbi, Waiting, Writes};
+use scope::{Csrs, Effect, Error, GuestCsrs, HsCsrs, IpiAbi, IpiCompletion, Waiting, Writes};
+use words_numbers::Numbered;
 
 // The CSRs that a guest starts with.
 #[tactic(auto, unfolding(scope::specs::Host::setup_csrs))]
@@ -14,19 +20,21 @@ pub fn setup_csrs(c: Csrs) -> Csrs
     ensures { result ≡ setup_csrs c }
 {
     let guest = GuestCsrs {
-        sepc: c.guest.sepc,
         sstatus: isa_consts::SETUP_SSTATUS,
         hstatus: isa_consts::SETUP_HSTATUS,
+        ..c.guest
     };
-    let timed = decide_record::with_timer(c, isa_consts::NO_TIMER);
-    let vs = timed.vs;
     let hs = HsCsrs {
         hie: isa_consts::SETUP_HIE,
         hvip: 0,
         hgeie: 0,
-        hgatp: c.hs.hgatp,
+        ..c.hs
     };
-    Csrs { guest, vs, hs }
+    Csrs {
+        guest,
+        hs,
+        ..decide_record::with_timer(c, isa_consts::NO_TIMER)
+    }
 }
 
 // sepc is the entry.
@@ -37,6 +45,44 @@ pub fn entry_csrs(c: Csrs, entry: GuestPhysAddr) -> Csrs
     let mut n = c;
     n.guest.sepc = entry.0;
     n
+}
+
+// The effect of each of the host's calls, unless an ask waits; by_value_* and in_place_host_calls do it.
+
+// The state that a guest starts with.
+pub fn setup_effect(c: Csrs, w: Waiting) -> Effect
+    ensures { result ≡ done_of (setup_csrs c) writes.Keep w }
+{
+    decide_effects::done(setup_csrs(c), Writes::Keep, w)
+}
+
+// Where the guest starts.
+pub fn entry_effect(c: Csrs, w: Waiting, entry: GuestPhysAddr) -> Effect
+    ensures { result ≡ done_of (entry_csrs c entry) writes.Keep w }
+{
+    decide_effects::done(entry_csrs(c, entry), Writes::Keep, w)
+}
+
+// Writes a0.
+pub fn return_effect(c: Csrs, w: Waiting, value: u64) -> Effect
+    ensures { result ≡ done_of c (writes.One 10 value) w }
+{
+    decide_effects::done(c, Writes::One(10, value), w)
+}
+
+// Latches pending bits that the hardware raised.
+pub fn latch_effect(c: Csrs, w: Waiting, bits: u64) -> Effect
+    ensures { result ≡ done_of (pended c (bit_or c.hs.hvip bits)) writes.Keep w }
+{
+    let latched = decide_record::with_hvip(c, c.hs.hvip | bits);
+    decide_effects::done(latched, Writes::Keep, w)
+}
+
+// Gives the guest the result of an IPI request.
+pub fn ipi_effect(c: Csrs, w: Waiting, abi: IpiAbi, completion: IpiCompletion) -> Effect
+    ensures { result ≡ done_of c (ipi_writes abi (completion_number completion)) w }
+{
+    decide_effects::done(c, ipi_writes(abi, completion.number()), w)
 }
 
 // Writes a general register.
@@ -50,7 +96,7 @@ pub fn write_effect(c: Csrs, w: Waiting, index: usize, value: u64) -> Effect
     decide_effects::refused(c, w, Error::InvalidInput)
 }
 
-// Sets the guest-stage page table.
+// Sets the guest-stage page table: the three numbers of one call of C's.
 #[tactic(auto, unfolding(scope::specs::Host::paging_effect))]
 pub fn paging_effect(c: Csrs, w: Waiting, levels: u64, mode: u64, root: u64) -> Effect
     ensures { result ≡ paging_effect c w levels mode root }
@@ -75,7 +121,7 @@ pub fn pending_effect(c: Csrs, w: Waiting, vector: u64, on: bool) -> Effect
     decide_effects::done(decide_record::with_hvip(c, hvip), Writes::Keep, w)
 }
 
-// The bit of hvip that a vector stands for, or 0. In a row of posts the next vector is not foretold, so the three are chosen from and
+// The bit of hvip that a vector stands for, or 0: an Option would bring a jump. In a row of posts the next vector is not foretold, so the three are chosen from and
 // not branched on.
 pub fn line_of(vector: u64) -> u64
     ensures { result ≡ hvip_bit_of vector }

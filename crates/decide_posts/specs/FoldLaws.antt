@@ -42,19 +42,10 @@ pub at_end : (s : Row) (ps : List Post) (i : ℕ) → length ps ≤ i → fold_o
 unfolding fold_of
 at_end s ps i l = ap (fold_of s) (drop_of_length-le ps {i = i} l)
 
--- a word as a test
-tested_by : (n : ℕ) (t : Bool) → eqb n 0 ≡ t → not (eqb n 0) ≡ tested n
-unfolding tested flag_of
-tested_by n true h = rw h refl
-tested_by n false h = rw h refl
-
-pub is_tested : (n : ℕ) → not (eqb n 0) ≡ tested n
-is_tested n = tested_by n (eqb n 0) refl
-
 -- a turn of a row that goes on
-pub going : (s : Row) (p : Post) → is_some s.refusal ≡ false → applied_by s (hvip_bit_of p.vector) (not (eqb p.level 0)) ≡ post_taken s p
+pub going : (s : Row) (p : Post) → is_some s.refusal ≡ false → applied_by s (hvip_bit_of p.vector) (tested p.level) ≡ post_taken s p
 unfolding post_taken
-going s p h = rw (h, is_tested p.level) refl
+going s p h = rw h refl
 
 -- no more are applied than were looked at
 one_at_most_by : (s : Row) (line : ℕ) (on t : Bool) → eqb line 0 ≡ t → (applied_by s line on).applied ≤ s.applied + 1

@@ -2,10 +2,11 @@
 #![tactic(auto)]
 
 ghost use Rattle.std.specs.Prelude.{◌≡◌, ◌<◌, ◌-◌, ◌^◌};
+ghost use Rattle.scope.specs.Record.{waiting_ask};
 ghost use Rattle.decide_posts.specs.Fold.{applied_by, begun_by, fold_of, given_of};
 
-use scope::{Error, Post, Posted};
-use words_numbers::Numbered;
+use scope::{Error, Post, Posted, Waiting};
+use words_numbers::{FromNumber, Numbered};
 
 // How far a row has come: hvip, how many posts were applied, and the refusal that stopped it.
 #[derive(Clone, Copy)]
@@ -34,10 +35,10 @@ impl Row {
 
 // Before the first post: while an ask waits the row is refused as a whole.
 #[tactic(auto, unfolding(crate::specs::Fold::begun_by))]
-pub fn begin(hvip: u64, ask: u64) -> Row
-    ensures { result ≡ begun_by hvip ask }
+pub fn begin(hvip: u64, w: Waiting) -> Row
+    ensures { result ≡ begun_by hvip (waiting_ask w) }
 {
-    let refusal = if ask == 0 {
+    let refusal = if decide_record::ask_of(w) == 0 {
         None
     } else {
         Some(Error::BadState)
@@ -59,7 +60,11 @@ pub fn fold(s: Row, posts: &[Post]) -> Row
         if row.refusal.is_some() {
             break;
         }
-        row = apply(row, decide_host::line_of(p.vector), p.level != 0);
+        row = apply(
+            row,
+            decide_host::line_of(p.vector),
+            bool::from_number(p.level),
+        );
     }
     row
 }
@@ -72,9 +77,8 @@ fn apply(s: Row, line: u64, on: bool) -> Row
 {
     if line == 0 {
         return Row {
-            hvip: s.hvip,
-            applied: s.applied,
             refusal: Some(Error::InvalidInput),
+            ..s
         };
     }
     Row {

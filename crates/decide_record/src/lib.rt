@@ -18,7 +18,8 @@ pub fn advance(csrs: Csrs, by: u64) -> Csrs
     c
 }
 
-// The guest's timer is set.
+// The guest's timer is set. (This, with_hvip and the like of decide_host write one field each, each by its own definition: a closure for the
+// field would be no plainer.)
 #[tactic(auto, unfolding(scope::specs::Record::timed))]
 pub fn with_timer(csrs: Csrs, deadline: u64) -> Csrs
     ensures { result ≡ timed csrs deadline }
@@ -81,7 +82,7 @@ impl Ecall {
     }
 }
 
-// The number of the ask that waits; 0 where none does.
+// The number of the ask that waits; 0 where none does: 01's number, as waiting_ask has it, which an answer's own is held against.
 #[tactic(auto, unfolding(scope::specs::Record::waiting_ask))]
 pub fn ask_of(w: Waiting) -> u64
     ensures { result ≡ waiting_ask w }
@@ -136,7 +137,7 @@ fn fit(n: u64, length: u64) -> u64
     0
 }
 
-// The n of ask 4, where it waits.
+// The n of ask 4, where it waits, else 0: print_count says so, and C is told so many bytes.
 #[tactic(auto, unfolding(scope::specs::Calls::print_count, scope::specs::Calls::asked_count))]
 pub fn print_count(w: Waiting) -> u64
     ensures { result ≡ print_count w }

@@ -1,4 +1,5 @@
-// A virtual-instruction trap: the guest's CSR instruction on stimecmp, in its six forms.
+// A virtual-instruction trap: the guest's CSR instruction on stimecmp, in its six forms. The old timer and rs1's content are two numbers here,
+// as stimecmp_by takes them.
 #![tactic(auto)]
 
 ghost use Rattle.std.specs.Prelude.{◌≡◌};

@@ -103,7 +103,8 @@ fn answered(number: u64, r: &mut [u64; 58], out: &mut [u64; 8], e: EcallAsk, a: 
     ReplyWord::WrongAnswer as u64
 }
 
-// The fetch of a CSR instruction gave its word, or its fault is handled.
+// The fetch of a CSR instruction gave its word, or its fault is handled. (This and mmio_fetched differ in what they call with the word: as a
+// closure that would take the record and the reply along, and its promise would be longer than the function.)
 fn csr_fetched(r: &mut [u64; 58], out: &mut [u64; 8], a: AnswerWords) -> u64
     ensures { Laid (trap_leaves r.old) out.old (applied (view_of r.old) (fetch_effect (view_of r.old).x (view_of r.old).csrs waiting.FetchCsr (fetch_of a.word a.more))) r.new out.new result }
 {

@@ -1,4 +1,7 @@
-// A virtual instruction, a guest page fault, a failed fetch and an answer, each done on the lent words once it is decided.
+// A virtual instruction, a guest page fault, a failed fetch and an answer, each done on the lent words once it is decided. by_value_classes
+// and by_value_ecall do the same decisions by value, as effects: here only the words that change are written, which is what the entry for
+// cost is for (docs/COST.md), and a trait over both would have each row stated twice, as an effect and as words. Likewise in in_place_ecall,
+// in_place_answer, in_place_start and in_place_host_calls, beside their namesakes by value.
 #![tactic(auto)]
 
 ghost use Rattle.scope.specs.GuestPageFault.{mmio_of};
@@ -10,17 +13,17 @@ ghost use Rattle.in_place_record.specs.Rows.{Leaves, answered_left, csr_left, fa
 use in_place_record::{ReplyWord, WaitingKind};
 use isa_decoder::Trapped;
 use isa_types::GuestPhysAddr;
-use scope::{Access, Answered, Fault, Missed, Stimecmp};
+use scope::{Access, Answered, Event, Fault, Missed, Stimecmp};
 use words_numbers::Numbered;
 
 // Does a virtual instruction.
-#[tactic(auto, unfolding(in_place_record::specs::Rows::csr_left))]
+#[tactic(auto, unfolding(in_place_record::specs::Rows::csr_left, scope::specs::Record::event_number))]
 pub fn do_csr(r: &mut [u64; 58], out: &mut [u64; 8], d: Stimecmp) -> u64
     ensures { Leaves (csr_left r.old out.old d) r.new out.new result }
 {
     match d {
         Stimecmp::Illegal => {
-            in_place_write::bump(r, 2);
+            in_place_write::bump(r, Event::IllegalInsn);
             r[in_place_record::KIND] = WaitingKind::Idle as u64;
             ReplyWord::Unsupported as u64
         }
@@ -126,7 +129,7 @@ pub fn do_mmio(
 }
 
 // Does a failed fetch.
-#[tactic(auto, unfolding(in_place_record::specs::Rows::missed_left))]
+#[tactic(auto, unfolding(in_place_record::specs::Rows::missed_left, scope::specs::OneTrap::access_number))]
 pub fn do_missed(r: &mut [u64; 58], out: &mut [u64; 8], d: Missed) -> u64
     ensures { Leaves (missed_left r.old out.old d) r.new out.new result }
 {
@@ -138,7 +141,7 @@ pub fn do_missed(r: &mut [u64; 58], out: &mut [u64; 8], d: Missed) -> u64
         }
         Missed::Nested(addr) => {
             out[0] = addr.0;
-            out[1] = 4;
+            out[1] = Access::Execute.number();
             r[in_place_record::KIND] = WaitingKind::Idle as u64;
             ReplyWord::NestedPageFault as u64
         }

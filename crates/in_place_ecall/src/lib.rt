@@ -100,7 +100,8 @@ pub fn do_call(r: &mut [u64; 58], out: &mut [u64; 8], d: SbiCall) -> u64
     }
 }
 
-// The reply has no number; `kind` waits, or nothing does.
+// The reply has no number; `kind` waits, or nothing does. Here and below the two come as numbers, since the promise speaks of the numbers, and
+// each caller's are constants.
 fn waits(r: &mut [u64; 58], kind: u64, word: u64) -> u64
     ensures { (r.new ≡ set r.old 54 kind) × (result ≡ word) }
 {
@@ -163,7 +164,7 @@ fn forward(r: &mut [u64; 58], out: &mut [u64; 8], event: Event) -> u64
     out[0] = r[in_place_record::A7];
     out[1] = r[in_place_record::A6];
     in_place_read::six(r, out);
-    in_place_write::bump(r, event.number() as usize);
+    in_place_write::bump(r, event);
     r[in_place_record::KIND] = WaitingKind::Forward as u64;
     ReplyWord::Forward as u64
 }

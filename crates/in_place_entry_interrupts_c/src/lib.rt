@@ -1,5 +1,6 @@
 // The entry for cost, interrupts and IPI results, as a static library that hosts in C and Rust link.
-// Each export calls the function of its name in in_place_entry_interrupts, and promises what that promises.
+// Each export calls the function of its name in in_place_entry_interrupts, and promises what that promises. Both crates stand: no crate can depend
+// on a static library, and the theorems and programs above depend on that one.
 #![tactic(auto)]
 
 ghost use Rattle.scope.specs.Words.{call_by};

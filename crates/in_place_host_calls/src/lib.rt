@@ -15,27 +15,20 @@ ghost use Rattle.in_place_record.specs.View.{view_of};
 
 use in_place_record::ReplyWord;
 use isa_types::GuestPhysAddr;
-use scope::{Csrs, Effect, IpiAbi, IpiCompletion, Waiting, Writes};
-use words_numbers::Numbered;
+use scope::{Csrs, Effect, IpiAbi, IpiCompletion, Waiting};
 
 // The state that a guest starts with.
 pub fn setup(r: &mut [u64; 58]) -> u64
     ensures { Settled (host_leaves r.old) (called_of (view_of r.old) host_call.Setup) r.new result }
 {
-    unless_asking(
-        r,
-        |c, w| decide_effects::done(decide_host::setup_csrs(c), Writes::Keep, w),
-    )
+    unless_asking(r, |c, w| decide_host::setup_effect(c, w))
 }
 
 // Where the guest starts.
 pub fn set_entry(r: &mut [u64; 58], entry: GuestPhysAddr) -> u64
     ensures { Settled (host_leaves r.old) (called_of (view_of r.old) (host_call.SetEntry entry)) r.new result }
 {
-    unless_asking(
-        r,
-        |c, w| decide_effects::done(decide_host::entry_csrs(c, entry), Writes::Keep, w),
-    )
+    unless_asking(r, |c, w| decide_host::entry_effect(c, w, entry))
 }
 
 // Sets the guest-stage page table.
@@ -79,7 +72,7 @@ pub fn set_gpr(r: &mut [u64; 58], index: usize, value: u64) -> u64
 pub fn set_return_value(r: &mut [u64; 58], value: u64) -> u64
     ensures { Settled (host_leaves r.old) (called_of (view_of r.old) (host_call.SetReturnValue value)) r.new result }
 {
-    unless_asking(r, |c, w| decide_effects::done(c, Writes::One(10, value), w))
+    unless_asking(r, |c, w| decide_host::return_effect(c, w, value))
 }
 
 // Sets or clears a pending interrupt of the guest.
@@ -93,24 +86,14 @@ pub fn set_pending(r: &mut [u64; 58], vector: u64, level: bool) -> u64
 pub fn latch_hvip(r: &mut [u64; 58], bits: u64) -> u64
     ensures { Settled (host_leaves r.old) (called_of (view_of r.old) (host_call.LatchHvip bits)) r.new result }
 {
-    unless_asking(
-        r,
-        |c, w| decide_effects::done(
-            decide_record::with_hvip(c, c.hs.hvip | bits),
-            Writes::Keep,
-            w,
-        ),
-    )
+    unless_asking(r, |c, w| decide_host::latch_effect(c, w, bits))
 }
 
 // Gives the guest the result of an IPI request.
 pub fn complete_ipi(r: &mut [u64; 58], abi: IpiAbi, completion: IpiCompletion) -> u64
     ensures { Settled (host_leaves r.old) (called_of (view_of r.old) (host_call.CompleteIpi abi completion)) r.new result }
 {
-    unless_asking(
-        r,
-        |c, w| decide_effects::done(c, decide_host::ipi_writes(abi, completion.number()), w),
-    )
+    unless_asking(r, |c, w| decide_host::ipi_effect(c, w, abi, completion))
 }
 
 // Writes the effect of a host's own call, made of the CSRs and of what waits; while an ask waits the call is refused.

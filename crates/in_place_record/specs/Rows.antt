@@ -4,7 +4,6 @@ use Rattle.std.specs.Prelude.{ℕ, ◌+◌, false, List, ◌≡◌, get_or, set,
 use Rattle.isa_types.specs.Pick.{pick, wrapped}
 use Rattle.scope.specs.OneTrap.{abi_number, access_number, flag_of, width_bytes}
 use Rattle.scope.specs.declared.traps.Access.{Access}
-use Rattle.scope.specs.declared.traps.Args.{Args}
 use Rattle.isa_types.specs.declared.GuestPhysAddr.{GuestPhysAddr}
 use Rattle.isa_consts.specs.Csr.{vssip, vstip}
 use Rattle.isa_registers.specs.Bits.{spvp_of, with_bits}

@@ -1,8 +1,9 @@
-// A vCPU record as 58 lent words, and writes that change it where it lies; in_place_read reads it,
-// in_place_write has the other writes. specs/View.antt gives the words their meaning; specs/Rows.antt says what each decision
-// does to them, and proofs/EachRow.antt and proofs/Laws.antt that this is the effect of the same decision.
+// A vCPU record as 58 lent words, and writes that change it where it lies; in_place_read reads it, in_place_write has the other writes.
+// specs/View.antt gives the words their meaning; specs/Rows.antt says what each decision does to them, and proofs/EachRow.antt and
+// proofs/Laws.antt that this is the effect of the same decision.
 // The record and the eight words of a reply go side by side, as C lends them: about half of the functions take the record alone, and a
-// struct of the two loans would be taken apart at each of these calls, and twice as long in each promise (`l.r.old`, `l.out.old`).
+// struct of the two loans would be taken apart at each of these calls. The 58 words are an array and no struct with methods, since C lends the
+// array and every promise speaks of its list.
 #![tactic(auto)]
 
 ghost use Rattle.std.specs.Prelude.{◌≡◌};
@@ -11,7 +12,8 @@ ghost use Rattle.in_place_record.specs.Rows.{complete_word, complete_words, give
 use scope::Waiting;
 
 // What a call returns, as `reply_word` of scope/specs/ReplyWords.antt has it: an exit's number, 0x20 and an ask's, done or a value, 0x100
-// and a refusal's. The functions return the number, since the exported ones hand that very word to C.
+// and a refusal's. The functions return the number: their promises (`Laid`, `Settled`, `Leaves`) speak of the word that C gets. These two
+// enums have their numbers beside their names since they are those words; the types of scope have them in specs alone.
 #[derive(Clone, Copy)]
 pub enum ReplyWord {
     Nothing = 0,

@@ -2,10 +2,12 @@
 #![tactic(auto)]
 
 ghost use Rattle.std.specs.Prelude.{◌≡◌};
+ghost use Rattle.scope.specs.Record.{event_number};
 ghost use Rattle.in_place_record.specs.Rows.{bump_words, inject_words, pair_words, step_words, timer_words};
 
 use in_place_record::WaitingKind;
-use scope::Csrs;
+use scope::{Csrs, Event};
+use words_numbers::Numbered;
 
 // Nothing waits, and sepc moves on.
 #[tactic(auto, unfolding(in_place_record::specs::Rows::step_words))]
@@ -28,7 +30,7 @@ pub fn pair(r: &mut [u64; 58], e: u64, v: u64)
 }
 
 // The timer's pending bit is cleared, the timer set, and counted.
-#[tactic(auto, unfolding(in_place_record::specs::Rows::timer_words))]
+#[tactic(auto, unfolding(in_place_record::specs::Rows::timer_words, scope::specs::Record::event_number))]
 pub fn timer(r: &mut [u64; 58], deadline: u64)
     ensures { r.new ≡ timer_words r.old deadline }
 {
@@ -38,18 +40,16 @@ pub fn timer(r: &mut [u64; 58], deadline: u64)
         false,
     );
     r[in_place_record::VSTIMECMP] = deadline;
-    bump(r, 1);
+    bump(r, Event::SetTimer);
 }
 
-// One more in the count of an event's number; 0 is no event.
+// One more in the count of an event; number 0 is no event.
 #[tactic(auto, unfolding(in_place_record::specs::Rows::bump_words, isa_types::specs::Pick::wrapped))]
-pub fn bump(r: &mut [u64; 58], number: usize)
-    ensures { r.new ≡ bump_words r.old number }
+pub fn bump(r: &mut [u64; 58], e: Event)
+    ensures { r.new ≡ bump_words r.old (event_number e) }
 {
-    if number == 0 {
-        return;
-    }
-    if number < 10 {
+    let number = e.number() as usize;
+    if number != 0 && number < 10 {
         let at = number + 44;
         r[at] = r[at].wrapping_add(1);
     }

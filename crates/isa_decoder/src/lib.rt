@@ -10,7 +10,7 @@ ghost use Rattle.isa_decoder.specs.Length.{fetched_of, htinst_of, store_source, 
 
 use isa_types::Width;
 
-// A load or store, whatever its encoding.
+// A load or store, whatever its encoding. Neither is a case and no None: decode_of and the laws over it take three.
 #[derive(Clone, Copy)]
 pub enum Decoded {
     Load {
@@ -25,7 +25,7 @@ pub enum Decoded {
     Neither,
 }
 
-// What htinst or a fetched word says of the instruction that trapped.
+// What htinst or a fetched word says of the instruction that trapped: four outcomes of one rank for htinst_of and fault_of, and no Result.
 #[derive(Clone, Copy)]
 pub enum Trapped {
     // htinst is 0: the word has to be fetched.
@@ -115,7 +115,7 @@ pub fn compressed(word: u64) -> Decoded
     }
 }
 
-// C.LW, C.LD, C.SW, C.SD: bits 2 and 1 of funct3 are 01 in a load and 11 in a store, and its low two bits the width's place, as in a
+// C.LW, C.LD, C.SW, C.SD (quadrant2 has the same tests over other fields, and another rule for a load: two definitions): bits 2 and 1 of funct3 are 01 in a load and 11 in a store, and its low two bits the width's place, as in a
 // 32-bit word. The width is taken before the tests: behind them the compiler knows that two are left, and makes a jump of it.
 fn quadrant0(funct3: u64, prime: usize) -> Decoded
     ensures { result ≡ quadrant0_of funct3 prime }
@@ -166,7 +166,7 @@ fn sp_load(width: Width, rd: usize) -> Decoded
     }
 }
 
-// The register that a store moves; 0, which reads 0, where there is no store.
+// The register that a store moves; 0, which reads 0, where there is no store: store_source says so, and the caller needs no test.
 #[tactic(auto, unfolding(crate::specs::Length::op_source, crate::specs::Length::store_source))]
 pub fn store_source(t: Trapped) -> usize
     ensures { result ≡ store_source t }

@@ -24,7 +24,7 @@ pub fn extend(width: Width, signed: bool, n: u64) -> u64
     // from here on a number stands for a negative one; for an unsigned load no number below the last does
     let negative = isa_types::select(signed, m / 2 + 1, 0xFFFF_FFFF_FFFF_FFFF);
     let above = isa_types::select(low < negative, 0, 0xFFFF_FFFF_FFFF_FFFF - m);
-    std::num::wrapping_add_u64(low, above)
+    low.wrapping_add(above)
 }
 
 // The bits of a width, all set; as constants alone, of which the compiler makes a table and no jump.

@@ -1,4 +1,5 @@
-// The fields of an instruction word: of 32 bits, and of 16.
+// The fields of an instruction word: of 32 bits, and of 16. Each has its name, its definition and its edits; with the two numbers as
+// const parameters a body would be a call in the place of one division and one remainder, which is no plainer.
 #![tactic(auto)]
 
 ghost use Rattle.std.specs.Prelude.{◌≡◌};

@@ -23,7 +23,7 @@ pub fn guest_page_fault_addr(htval: u64, stval: u64) -> GuestPhysAddr
     GuestPhysAddr((htval % 0x4000_0000_0000_0000 * 4) | (stval % 4))
 }
 
-// hedeleg: the exceptions that go straight to the guest.
+// hedeleg: the exceptions that go straight to the guest. A function and no constant, since a constant promises nothing.
 #[tactic(auto, unfolding(crate::specs::Values::delegated_exceptions))]
 pub fn delegated_exception_bits() -> u64
     ensures { result ≡ delegated_exceptions }
@@ -39,7 +39,8 @@ pub fn delegated_interrupt_bits() -> u64
     0x444
 }
 
-// hstatus.SPVP: whether the guest ran in supervisor mode.
+// hstatus.SPVP: whether the guest ran in supervisor mode. (This and sie are a bit each, by its own definition: one line is no plainer as a
+// parameter.)
 #[tactic(auto, unfolding(crate::specs::Bits::spvp_of))]
 pub fn spvp(hstatus: u64) -> bool
     ensures { result ≡ spvp_of hstatus }

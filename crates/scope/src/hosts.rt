@@ -49,7 +49,7 @@ pub enum HostCall {
     },
 }
 
-// One of a row of posts: an interrupt's vector, and its level: 0 clears, any other sets. 02, W4.
+// One of a row of posts: an interrupt's vector, and its level: 0 clears, any other sets. Numbers, since C lends the row. 02, W4.
 #[repr(C)]
 #[derive(Clone, Copy)]
 pub struct Post {
@@ -57,7 +57,7 @@ pub struct Post {
     pub level: u64,
 }
 
-// What a row of posts gives: how many were applied, and the number of the refusal that stopped it, or 0.
+// What a row of posts gives: how many were applied, and the number of the refusal that stopped it, or 0; numbers, since C reads them.
 #[repr(C)]
 #[derive(Clone, Copy)]
 pub struct Posted {

@@ -38,7 +38,8 @@ pub struct Csrs {
     pub hs: HsCsrs,
 }
 
-// The one ask or load that waits, with what its trap still needs.
+// The one ask or load that waits, with what its trap still needs. Idle is a case and no None: is_idle, waiting_ask and the theorems over
+// them take it for one.
 #[derive(Clone, Copy)]
 pub enum Waiting {
     Idle,
@@ -89,7 +90,7 @@ pub struct Vcpu {
     pub waiting: Waiting,
 }
 
-// What is counted, in the order of the nine counts.
+// What is counted, in the order of the nine counts. Quiet is a case and no None: event_number gives it 0.
 #[derive(Clone, Copy)]
 pub enum Event {
     Quiet,
@@ -137,7 +138,7 @@ pub struct RowOutcome {
     pub posted: Posted,
 }
 
-// The record in words: the waiting part is a kind and three numbers.
+// The record in words: the waiting part is a kind and three numbers, since C lays it out.
 #[repr(C)]
 #[derive(Clone, Copy)]
 pub struct Record {

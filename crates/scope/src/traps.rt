@@ -85,7 +85,8 @@ pub enum Ask {
     Forward { eid: u64, fid: u64, args: Args },
 }
 
-// What fetching a guest's instruction gave: its word, or why it could not be had.
+// What fetching a guest's instruction gave: its word, or why it could not be had. Six cases and no Result, since fetch_number numbers the
+// six and missed_of, fetch_effect and the marked cases speak of them.
 #[derive(Clone, Copy)]
 pub enum Fetch {
     Word(u32),
@@ -125,7 +126,7 @@ pub enum Error {
     WrongAnswer,
 }
 
-// What a call gives back beside the record.
+// What a call gives back beside the record. Five cases and no Result, since reply_kind numbers the five, and C reads the number.
 #[derive(Clone, Copy)]
 pub enum Reply {
     // The trap is finished.

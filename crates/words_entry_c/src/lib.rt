@@ -1,5 +1,6 @@
 // The entry over words, one call, as a static library that hosts in C and Rust link.
-// Each export calls the function of its name in words_entry, and promises what that promises.
+// Each export calls the function of its name in words_entry, and promises what that promises. Both crates stand: no crate can depend
+// on a static library, and the theorems and programs above depend on that one.
 #![tactic(auto)]
 
 ghost use Rattle.words_entry.specs.Words.{Exported};

@@ -14,7 +14,8 @@ pub use from_number::FromNumber;
 use isa_types::Width;
 use scope::{Access, Answer, Ask, Error, Event, Exit, IpiAbi, IpiCompletion};
 
-// A value that has a number. A match in each impl, and no discriminants in the enums: what a number is stands in specs alone.
+// A value that has a number. A trait of this crate and not From, since the types are scope's, which holds no code. A match in each impl, and no
+// discriminants in those types: what a number is stands in specs alone.
 pub trait Numbered {
     ghost number_of: { Self → ℕ };
 

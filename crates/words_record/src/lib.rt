@@ -106,7 +106,7 @@ pub fn waiting_of(w: [u64; 4]) -> Waiting
     waiting_by(w[0], w[1], w[2], w[3])
 }
 
-// The same of the four words each, as the entries in place read them.
+// The same of the four words each, as the entries in place read them: a definition of its own, which waiting_of cites.
 #[tactic(auto, unfolding(scope::specs::Words::waiting_by, scope::specs::Words::kind_word, scope::specs::Words::waiting_words, scope::specs::Words::asked_words))]
 pub fn waiting_by(kind: u64, a: u64, b: u64, c: u64) -> Waiting
     ensures { result ≡ waiting_by kind a b c }

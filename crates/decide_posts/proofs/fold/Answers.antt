@@ -5,7 +5,7 @@ use Rattle.decide_posts.proofs.fold.Goals as goal
 
 pub loop-p-preserved : goal.loop-p-preserved
 loop-p-preserved c =
-    rw (c.apply-row.ensures, c.line_of.ensures)
+    rw (c.apply-row.ensures, c.line_of.ensures, c.from_number.ensures)
     (record {
       folds =
           sym (turn c.loop-p.row _ c.args.posts.now c.loop-p.p-index c.loop-p-test.true (going c.loop-p.row _ (sym c.if-is_some.ensures)))
