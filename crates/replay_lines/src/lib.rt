@@ -108,7 +108,9 @@ fn scan(key: &[u8], start: Line, s: &[u8]) -> Part
     ensures { Read key.now start.at start.value s.now result }
 {
     let Line {
-        mut at, mut value, ..
+        mut at,
+        mut value,
+        ..
     } = start;
     for (i, b) in s.iter().enumerate() {
         match line(key, at, value, *b) {
