@@ -8,8 +8,8 @@ ghost use Rattle.replay_digits.specs.Hex.{digit_in, hex_of};
 ghost use Rattle.replay_digits.specs.Words.{glyphs_of, pack_of, values_of};
 
 // The number of the sixteen digits at a place of a slice. The place is an argument since the promise, which docs/CLAIMS.md has
-// word for word (W3), speaks of it. No `u64::from_str_radix`: it takes capitals and a sign too, and digits one by one. So read they
-// took 21 ms of a run where they take 12 (docs/COST.md).
+// word for word (W3), speaks of it. No `u64::from_str_radix`: it takes capitals and a sign too, and digits one by one, as the reader
+// before W3 did, which took 21 ms of a run where this one takes 12 (docs/COST.md).
 pub fn read(s: &[u8], at: usize) -> Option<u64>
     ensures { result ≡ hex_of (take 16 (drop at s.now)) }
 {

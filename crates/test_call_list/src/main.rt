@@ -57,7 +57,7 @@ fn lent(kind: u64) -> [u64; 8] {
 
 // The call: words_call's kinds; 0 writes a word of the record, 15 makes a row of posts. (The kinds are the list's own numbers: an enum
 // of them would need this match again, and that of `lent`, from its names to the calls, behind one from the numbers to its names. So
-// are 0x41, a value, and 0x101, a call that there is not: the library's are held against them, and they are not taken from it.)
+// are 0x41, a value, and 0x101, invalid input: the library's are held against them, and they are not taken from it.)
 fn made(r: &mut [u64; 58], out: &mut [u64; 8], words: [u64; 8]) -> u64 {
     let [kind, a, b, c, d, e, _, _] = words;
     match kind {
