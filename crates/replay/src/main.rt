@@ -2,10 +2,14 @@
 // (01, Replay program). It only reads, feeds and writes: crate replay_capture says what comes out.
 #![tactic(auto)]
 
+use replay_capture::TRAP_TEXT;
 use replay_traps::Replay;
 use std::env::{Env, FillError};
 use std::fs::{File, Files};
 use std::io::{self, Read};
+
+// How many bytes are read at once, and room for output as large.
+const PIECE: usize = 65536;
 
 // What stops a replay.
 #[derive(Drop)]
@@ -62,8 +66,8 @@ fn replay_all<R: Print, F: Read + Drop>(rt: &R, input: F) -> Result<(), Failed> 
 // Piece by piece. Nothing says that the input ends, so the loop has a bound: 2^64 - 1 reads.
 fn read_all<R: Print, F: Read + Drop>(rt: &R, replay: &mut Replay, input: F) -> Result<(), Failed> {
     let mut file = input;
-    let mut buffer = [0u8; 65536];
-    let mut out = [0u8; 65536];
+    let mut buffer = [0u8; PIECE];
+    let mut out = [0u8; PIECE];
     for _ in 0..u64::MAX {
         let n = file.read(&mut buffer).map_err(Failed::Read)?;
         if n == 0 {
@@ -79,7 +83,7 @@ fn feed<R: Print>(
     rt: &R,
     replay: &mut Replay,
     piece: &[u8],
-    out: &mut [u8; 65536],
+    out: &mut [u8; PIECE],
 ) -> Result<(), Failed> {
     let mut rest = piece;
     while !rest.is_empty() {
@@ -92,7 +96,7 @@ fn feed<R: Print>(
 
 // What the end of the capture gives.
 fn finish<R: Print>(rt: &R, replay: &Replay) -> Result<(), Failed> {
-    let mut out = [0u8; 84];
+    let mut out = [0u8; TRAP_TEXT];
     let end = replay_capture::write(replay_order::end(replay), &mut out);
     say(rt, &out[..end])
 }

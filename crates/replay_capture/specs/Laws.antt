@@ -1,6 +1,6 @@
 -- Laws of the replay: a line read at once is its bytes fed in order.
 use Rattle.std.specs.Prelude.{ℕ, ◌+◌, ◌-◌, ◌≤◌, ◌<◌, Bool, true, false, List, [], ◌∷◌, ◌++◌, ◌≡◌, refl, drop, length, take}
-use Rattle.std.proofs.Common.{add-zero, arith, append_assoc, sym, ap, ◌∙◌, subst, lit≤, length-append, length-drop, drop-drop, length-take-le, take_all}
+use Rattle.std.proofs.Common.{add-zero, arith, append_assoc, sym, ap, ◌∙◌, subst, lit≤, length-append, length-drop, drop-drop, take_all}
 use Rattle.isa_types.specs.Pick.{pick}
 use Rattle.replay_lines.specs.declared.Part.{Part}
 use Rattle.replay_lines.specs.Read.{Read, Taken, after, taken_of}
@@ -34,7 +34,7 @@ use Rattle.replay_scope.specs.Output.{
   trap_started,
   unfit_of,
 }
-use Rattle.replay_capture.specs.Feeds.{Feeds, Fills}
+use Rattle.replay_capture.specs.Feeds.{Feeds}
 
 -- what is given takes at most 84 bytes
 pub text_short : (g : Gives) → length (text_of g) ≤ 84
@@ -202,41 +202,24 @@ over_feeds s l e =
       leads = over_led l s e ∙ sym (over_led (drop (length l) l) s e);
     }
 
--- a part to the end is what is left
-pub part_fed : (t : State) (l : List ℕ) (i : ℕ) (d : Step) (j : ℕ) → Feeds t (take (length l - i) (drop i l)) d j → Feeds t (drop i l) d j
-part_fed t l i d j w =
-    let n : length (drop i l) ≡ length l - i = length-drop i l in
-    subst (λ (k : List ℕ). Feeds t k d j) (take_all (length l - i) (drop i l) (omega arith)) w
-
--- a step over what is left of the bytes stays in them
-pub fed_high : (t : State) (l : List ℕ) (i : ℕ) (d : Step) (j : ℕ) → i ≤ length l → Feeds t (drop i l) d j → i + j ≤ length l
-fed_high t l i d j h w =
-    let n : length (drop i l) ≡ length l - i = length-drop i l in
-    omega (arith, w.high)
-
--- and takes some of them
-pub fed_moves : (t : State) (l : List ℕ) (i : ℕ) (d : Step) (j : ℕ) → i < length l → Feeds t (drop i l) d j → 0 < j
-fed_moves t l i d j h w =
-    let n : length (drop i l) ≡ length l - i = length-drop i l in
-    w.moves (omega arith)
+-- what is left of the bytes behind the first of them
+left_next : (l m : List ℕ) (j : ℕ) → length m ≤ length l → j ≤ length m → m ≡ drop (length l - length m) l → drop j m ≡ drop (length l - length (drop j m)) l
+left_next l m j h k e =
+    let n : length (drop j m) ≡ length m - j = length-drop j m in
+    let p : length l - length m + j ≡ length l - length (drop j m) = omega arith in
+    ap (drop j) e ∙ drop-drop j (length l - length m) l ∙ ap (λ (x : ℕ). drop x l) p
 
 -- a step whose output is written behind what was written before
-pub filled_next : (s t : State) (l : List ℕ) (i e : ℕ) (out : List ℕ) (d : Step) (j : ℕ) (z : ℕ) (later : List ℕ)
-    → output_of s l ≡ take e out ++ output_of t (drop i l) → Feeds t (drop i l) d j → e + 84 ≤ length out → Put out e (text_of d.gives) z later
-    → output_of s l ≡ take z later ++ output_of d.state (drop (i + j) l)
-filled_next s t l i e out d j z later p w h q =
+filled_next : (s t : State) (l m : List ℕ) (e : ℕ) (out : List ℕ) (d : Step) (j : ℕ) (z : ℕ) (later : List ℕ)
+    → output_of s l ≡ take e out ++ output_of t m → Feeds t m d j → e + 84 ≤ length out → Put out e (text_of d.gives) z later
+    → output_of s l ≡ take z later ++ output_of d.state (drop j m)
+filled_next s t l m e out d j z later p w h q =
     let n : length (text_of d.gives) ≤ 84 = text_short d.gives in
-    let m : e + length (text_of d.gives) ≤ length out = omega arith in
+    let k : e + length (text_of d.gives) ≤ length out = omega arith in
     p
     ∙ ap (λ (x : List ℕ). take e out ++ x) w.says
-    ∙ sym (append_assoc (take e out) (text_of d.gives) (output_of d.state (drop (j) (drop i l))))
-    ∙ ap (λ (x : List ℕ). x ++ output_of d.state (drop (j) (drop i l))) (sym (put_front out e (text_of d.gives) z later m q))
-    ∙ ap (λ (x : List ℕ). take z later ++ output_of d.state x) (drop-drop (j) i l)
-
--- and the state that it leads to
-pub filled_led : (s t : State) (l : List ℕ) (i : ℕ) (d : Step) (j : ℕ) → state_after s l ≡ state_after t (drop i l) → Feeds t (drop i l) d j
-    → state_after s l ≡ state_after d.state (drop (i + j) l)
-filled_led s t l i d j p w = p ∙ w.leads ∙ ap (state_after d.state) (drop-drop (j) i l)
+    ∙ sym (append_assoc (take e out) (text_of d.gives) (output_of d.state (drop j m)))
+    ∙ ap (λ (x : List ℕ). x ++ output_of d.state (drop j m)) (sym (put_front out e (text_of d.gives) z later k q))
 
 -- writing what was given keeps the buffer's length
 pub written_same : (g : Gives) (out : List ℕ) (e z : ℕ) (later : List ℕ) → e + 84 ≤ length out → Put out e (text_of g) z later → length later ≡ length out
@@ -251,18 +234,27 @@ written_end g out e z later h q =
     let s : length later ≡ length out = written_same g out e z later h q in
     omega (arith, q.ends)
 
--- the length of the part from i up to n
-part_length : (l : List ℕ) (i n : ℕ) → n ≤ length l → length (take (n - i) (drop i l)) ≡ n - i
-part_length l i n h =
-    let k : length (drop i l) ≡ length l - i = length-drop i l in
-    length-take-le (n - i) (drop i l) (omega arith)
+-- between two steps: what is left of the bytes l fed from the state s on, and the output so far
+abbrev pub Filling : State → List ℕ → ℕ → State → List ℕ → ℕ → List ℕ → Type 0
+Filling s l room t left end out =
+    (length left ≤ length l) × (left ≡ drop (length l - length left) l) × (length out ≡ room) × (end ≤ length out) × (0 < end → length left < length l)
+    × (output_of s l ≡ take end out ++ output_of t left) × (state_after s l ≡ state_after t left)
 
--- steps over a part of the bytes stay in it
-pub filled_high : (s : State) (l : List ℕ) (i n room : ℕ) (out : List ℕ) (t : State) (j e : ℕ) → i ≤ n → n ≤ length l → Fills s (take (n - i) (drop i l)) room out t j e → i + j ≤ n
-filled_high s l i n room out t j e h k w = let m : length (take (n - i) (drop i l)) ≡ n - i = part_length l i n k in omega (arith, w.high)
-
--- and take some of it
-pub filled_moves : (s : State) (l : List ℕ) (i n room : ℕ) (out : List ℕ) (t : State) (j e : ℕ) → i < n → n ≤ length l → 84 ≤ room → Fills s (take (n - i) (drop i l)) room out t j e → 0 < j
-filled_moves s l i n room out t j e h k f w =
-    let m : length (take (n - i) (drop i l)) ≡ n - i = part_length l i n k in
-    w.moves (omega arith) f
+-- one step more
+pub filling_next : (s t : State) (l m : List ℕ) (room e : ℕ) (out : List ℕ) (d : Step) (j z : ℕ) (later : List ℕ) → Filling s l room t m e out
+    → 0 < length m → Feeds t m d j → e + 84 ≤ length out → Put out e (text_of d.gives) z later
+    → Filling s l room d.state (take (length m - j) (drop j m)) z later
+filling_next s t l m room e out d j z later f p w h q =
+    let n : length (drop j m) ≡ length m - j = length-drop j m in
+    let k : length m ≤ length l = f.0 in
+    let x : 0 < j = w.moves p in
+    let y : j ≤ length m = w.high in
+    subst (λ (r : List ℕ). Filling s l room d.state r z later) (sym (take_all (length m - j) (drop j m) (omega arith))) (
+      omega arith,
+      left_next l m j k y f.1,
+      written_same d.gives out e z later h q ∙ f.2,
+      written_end d.gives out e z later h q,
+      λ o. omega arith,
+      filled_next s t l m e out d j z later f.5 w h q,
+      f.6 ∙ w.leads,
+    )

@@ -12,6 +12,9 @@ ghost use Rattle.replay_capture.specs.Feeds.{Feeds, Fills};
 use replay_scope::Gives;
 use replay_traps::Replay;
 
+// A trap's four lines.
+pub const TRAP_TEXT: usize = 84;
+
 // Where the bytes begin that were not fed, and how much of the buffer is output: numbers, of which the definition `Fills` speaks.
 #[derive(Clone, Copy)]
 pub struct Filled {
@@ -24,20 +27,20 @@ pub struct Filled {
 pub fn fill(replay: &mut Replay, bytes: &[u8], out: &mut [u8]) -> Filled
     ensures { Fills (state_of replay.old) bytes.now (length out.old) out.new (state_of replay.new) result.next result.end }
 {
-    let mut i: usize = 0;
-    let mut e: usize = 0;
-    while i < bytes.len() {
-        if out.len() < 84 {
+    let mut rest = bytes;
+    let mut end: usize = 0;
+    while !rest.is_empty() {
+        if out.len() < TRAP_TEXT || out.len() - TRAP_TEXT < end {
             break;
         }
-        if out.len() - 84 < e {
-            break;
-        }
-        let (gives, n) = feed(replay, &bytes[i..]);
-        i += n;
-        e = put(gives, out, e);
+        let (gives, n) = feed(replay, rest);
+        rest = &rest[n..];
+        end = put(gives, out, end);
     }
-    Filled { next: i, end: e }
+    Filled {
+        next: bytes.len() - rest.len(),
+        end,
+    }
 }
 
 // Feeds bytes to the end of a line or of the bytes: what they give, and how many they are.
@@ -51,14 +54,14 @@ fn feed(replay: &mut Replay, bytes: &[u8]) -> (Gives, usize)
     (replay_order::take(replay, part.got), part.next)
 }
 
-// Writes what was given at the buffer's start, and says where it ends: a trap's four lines are 84 bytes.
-pub fn write(g: Gives, out: &mut [u8; 84]) -> usize
+// Writes what was given at the buffer's start, and says where it ends.
+pub fn write(g: Gives, out: &mut [u8; TRAP_TEXT]) -> usize
     ensures { Put out.old 0 (text_of g) result out.new }
 {
     put(g, out, 0)
 }
 
-// The same at a place where there is room.
+// The same at a place where there is room: an argument, since the promise, `Put`, speaks of it.
 fn put(g: Gives, out: &mut [u8], at: usize) -> usize
     requires { at + 84 ≤ length out.old }
     ensures { Put out.old at (text_of g) result out.new }

@@ -8,7 +8,8 @@ ghost use Rattle.replay_digits.specs.Hex.{digit_in, hex_of};
 ghost use Rattle.replay_digits.specs.Words.{glyphs_of, pack_of, values_of};
 
 // The number of the sixteen digits at a place of a slice. The place is an argument since the promise, which docs/CLAIMS.md has
-// word for word (W3), speaks of it.
+// word for word (W3), speaks of it. No `u64::from_str_radix`: it takes capitals and a sign too, and digits one by one, as the reader
+// before W3 did, which took 21 ms of a run where this one takes 12 (docs/COST.md).
 pub fn read(s: &[u8], at: usize) -> Option<u64>
     ensures { result ≡ hex_of (take 16 (drop at s.now)) }
 {
@@ -68,13 +69,13 @@ fn pack(v: u64) -> u64
     (fours * 65536 + fours / 0x100000000) % 0x100000000
 }
 
-// A byte as a lowercase hex digit.
+// A byte as a lowercase hex digit. (`char::to_digit` takes capitals too.)
 pub fn nibble(b: u8) -> Option<u64>
     ensures { result ≡ digit_in b }
 {
     match b {
-        48..=57 => Some(u64::from(b - 48)),
-        97..=102 => Some(u64::from(b - 87)),
+        b'0'..=b'9' => Some(u64::from(b - b'0')),
+        b'a'..=b'f' => Some(u64::from(b - b'a' + 10)),
         _ => None,
     }
 }

@@ -5,7 +5,7 @@ use Rattle.replay_scope.specs.declared.Got.{Got}
 use Rattle.replay_scope.specs.declared.Got.TheVariants as got
 use Rattle.replay_scope.specs.Lines.{four_at, line_of}
 use Rattle.replay_lines.specs.declared.Part.{Part}
-use Rattle.replay_lines.specs.Read.{Read, after, taken_of}
+use Rattle.replay_lines.specs.Read.{Read, Taken, after, taken_of}
 
 -- one byte of the slice
 pub taken_next : (key s : List ℕ) (a w i : ℕ) (g : Got) → i < length s → line_of key a w (get_or s i 0) ≡ g
@@ -15,6 +15,12 @@ taken_next key s a w i g h e =
     ap (taken_of key a w) (drop-cons s i 0 h)
     ∙ ap (λ (x : Got). after x (λ b y. taken_of key b y (drop (suc i) s)) (drop (suc i) s)) e
     ∙ ap (λ (n : ℕ). after g (λ b y. taken_of key b y (drop n s)) (drop n s)) (sym (add-one i))
+
+-- what is not `More` ends the reading
+pub ended : (g : Got) (on : ℕ → ℕ → Taken) (l : List ℕ) → ((a w : ℕ) → g ≡ got.More a w → ⊥) → after g on l ≡ record { got = g; left = l }
+ended (got.More a w) on l n = absurd (n a w refl)
+ended (got.Whole w) on l n = refl
+ended got.Unfit on l n = refl
 
 -- no byte is left
 pub taken_end : (key s : List ℕ) (a w i : ℕ) → length s ≤ i → taken_of key a w (drop i s) ≡ record { got = got.More a w; left = drop i s }

@@ -22,13 +22,12 @@ pub struct Part {
 pub fn read(line: Line, s: &[u8]) -> Part
     ensures { Read (key_of line.place) line.at line.value s.now result }
 {
-    let Line { place, at, value } = line;
-    if at == 0 && value == 0 {
-        if let Some(part) = whole(place, s) {
+    if line.at == 0 && line.value == 0 {
+        if let Some(part) = whole(line.place, s) {
             return part;
         }
     }
-    with_key(place, |key| scan(key, at, value, s))
+    with_key(line.place, |key| scan(key, line, s))
 }
 
 // A line that lies whole at the slice's front.
@@ -36,7 +35,7 @@ fn whole(place: Place, s: &[u8]) -> Option<Part>
     ensures { IfSome result (λ p. Read (key_of place) 0 0 s.now p) }
 {
     let n = with_key(place, |key| spell(key, s))?;
-    if s[n + 16] != 10 {
+    if s[n + 16] != b'\n' {
         return None;
     }
     let w = replay_digits::read(s, n)?;
@@ -105,24 +104,25 @@ fn spell(key: &[u8], s: &[u8]) -> Option<usize>
 }
 
 // Reads on byte by byte.
-fn scan(key: &[u8], at: usize, v: u64, s: &[u8]) -> Part
-    ensures { Read key.now at v s.now result }
+fn scan(key: &[u8], start: Line, s: &[u8]) -> Part
+    ensures { Read key.now start.at start.value s.now result }
 {
-    let mut a = at;
-    let mut w = v;
+    let Line {
+        mut at,
+        mut value,
+        ..
+    } = start;
     for (i, b) in s.iter().enumerate() {
-        let got = line(key, a, w, *b);
-        match got {
-            Got::More(c, x) => {
-                a = c;
-                w = x;
+        match line(key, at, value, *b) {
+            Got::More(a, v) => {
+                at = a;
+                value = v;
             }
-            Got::Whole(_) => return Part { got, next: i + 1 },
-            Got::Unfit => return Part { got, next: i + 1 },
+            got => return Part { got, next: i + 1 },
         }
     }
     Part {
-        got: Got::More(a, w),
+        got: Got::More(at, value),
         next: s.len(),
     }
 }
@@ -143,7 +143,7 @@ fn line(key: &[u8], at: usize, v: u64, b: u8) -> Got
             None => Got::Unfit,
         };
     }
-    if b == 10 {
+    if b == b'\n' {
         return Got::Whole(v);
     }
     Got::Unfit

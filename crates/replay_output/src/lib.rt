@@ -36,11 +36,12 @@ fn put_line(key: &[u8], v: u64, out: &mut [u8], at: usize) -> usize
     out[at..a].copy_from_slice(key);
     out[a..b].copy_from_slice(&eight(v / 0x100000000));
     out[b..e].copy_from_slice(&eight(v));
-    out[e] = 10;
+    out[e] = b'\n';
     e + 1
 }
 
-// A number's last eight digits, by one number that has a byte for each.
+// A number's last eight digits, by one number that has a byte for each. No `{:016x}`: it writes digits one by one, as was
+// done before W3, and took 27 ms of a run where this takes 4 (docs/COST.md).
 fn eight(v: u64) -> [u8; 8]
     ensures { result ≡ last_digits 8 v }
 {

@@ -7,7 +7,7 @@ use scope::Vcpu;
 // Where a line stands in a capture.
 #[derive(Clone, Copy)]
 pub enum Place {
-    // Line i of the header, from 0: sepc, vstimecmp, x01 to x31.
+    // Line i of the header, from 0: sepc, vstimecmp, x01 to x31. A number, since `header_key`, `headed_of` and `after_header` speak of it.
     Header(usize),
     // The four lines of a trap.
     Scause,
@@ -56,13 +56,14 @@ pub struct Progress {
     pub kept: Kept,
     // What the trap's `exit` line will say.
     pub exit: u64,
-    // Whether an unfit line was found.
+    // Whether an unfit line was found. A flag beside the line, since `over_at` and `byte_of` speak of both.
     pub over: bool,
 }
 
 // What the output gets.
 #[derive(Clone, Copy)]
 pub enum Gives {
+    // A case and no Option around the two others, since `text_of`, `silent` and the theorems on them speak of it.
     Nothing,
     Trap {
         exit: u64,

@@ -58,14 +58,15 @@ impl Replay {
             stval: kept.stval,
             htval: kept.htval,
             htinst,
-            room: 4096,
+            room: isa_consts::CONSOLE_ROOM,
         };
         let mut out = [0u64; 8];
         let word = in_place_start::start(&mut self.record, &mut out, t);
         self.settle(word)
     }
 
-    // An answer's or load completion's second number.
+    // An answer's or load completion's second number. What is asked stays a number, 0 where nothing is and 1 for a fetch: the
+    // definition `pair_taken` speaks of it.
     pub fn pair(&mut self, more: u64) -> Gives
         ensures { step_of self.new result ≡ pair_taken (state_of self.old) more }
     {
@@ -115,7 +116,7 @@ impl Replay {
 }
 
 // What the `exit` line says after a call, by the word that it returned: an exit's number or an error's, else what was to
-// be said.
+// be said. Its bounds stand bare, since the definition `exit_by` has them, and the word is what the calls return.
 fn said(before: u64, word: u64) -> u64
     ensures { result ≡ exit_by before word }
 {

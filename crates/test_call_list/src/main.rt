@@ -17,6 +17,8 @@ fn main(rt: HostRuntime) {
     named(&rt, 2);
 }
 
+// Runs the list that an argument names. (test_vectors does nearly the same, with the list's name before each text: one function for both
+// would take the printing too, and be a public one that promises nothing.)
 fn named<R: Env + Files + Print + Eprint>(rt: &R, argument: usize) {
     if let Some((_, file)) = open_list(rt, argument, &mut [0; 16]) {
         run(rt, file);
@@ -54,7 +56,8 @@ fn lent(kind: u64) -> [u64; 8] {
 }
 
 // The call: words_call's kinds; 0 writes a word of the record, 15 makes a row of posts. (The kinds are the list's own numbers: an enum
-// of them would need this match again, from its names to the calls, behind one from the numbers to its names.)
+// of them would need this match again, and that of `lent`, from its names to the calls, behind one from the numbers to its names. So
+// are 0x41, a value, and 0x101, invalid input: the library's are held against them, and they are not taken from it.)
 fn made(r: &mut [u64; 58], out: &mut [u64; 8], words: [u64; 8]) -> u64 {
     let [kind, a, b, c, d, e, _, _] = words;
     match kind {
@@ -93,7 +96,7 @@ fn written(r: &mut [u64; 58], i: u64, n: u64) -> u64 {
 
 // The sum of what was given and of the record.
 fn sum(r: &[u64; 58], out: &[u64; 8]) -> u64 {
-    calls::all(calls::all(0, out), r)
+    calls::summed(calls::summed(0, out), r)
 }
 
 fn print<R: Print>(rt: &R, what: &str, n: u32) {

@@ -6,9 +6,10 @@ ghost use Rattle.std.specs.Prelude.{◌<◌};
 use scope::Post;
 use std::array;
 
-// Makes the row in a line's words. The first word given is how many posts were applied.
+// Makes the row in a line's words. The first word given is how many posts were applied. (What it returns is in the list's own numbers:
+// the library's are held against them, so they are not taken from it.)
 pub fn posted(r: &mut [u64; 58], out: &mut [u64; 8], words: [u64; 8]) -> u64 {
-    let posts = all(&words);
+    let posts = posts_of(&words);
     let n = words[1].min(64) as usize;
     let p = in_place_entry_posts::vcpu_post_row(r, &posts[..n]);
     out[0] = p.applied;
@@ -19,7 +20,7 @@ pub fn posted(r: &mut [u64; 58], out: &mut [u64; 8], words: [u64; 8]) -> u64 {
 }
 
 // The 64 posts of the third word to the sixth. Each takes the four lowest bits that are left of its word.
-fn all(words: &[u64; 8]) -> [Post; 64] {
+fn posts_of(words: &[u64; 8]) -> [Post; 64] {
     array::from_fn(|i| post(words[2 + i / 16] >> (4 * (i % 16)) & 15))
 }
 

@@ -6,10 +6,17 @@ ghost use Rattle.std.specs.Prelude.{◌≡◌, ◌≤◌, ◌==◌, length, take
 ghost use Rattle.std.specs.List.{prefix_len, zip};
 ghost use Rattle.test_replays.specs.Judged.{Judged};
 
+use replay_capture::TRAP_TEXT;
 use std::env::{Env, FillError};
 use std::fmt;
 use std::fs::Files;
 use test_lines::files::front_of;
+
+// The longest name of a file.
+const NAME: usize = 4096;
+
+// The longest capture, and the longest output.
+const LONGEST: usize = 65536;
 
 // The first byte of a replay's output, counted from 0, that is another than the expected output's, or that one of the two has not.
 #[derive(Drop)]
@@ -37,9 +44,10 @@ fn is_there<R: Env>(rt: &R, argument: usize) -> bool {
     !matches!(rt.arg(argument, &mut []), Err(FillError::NotPresent))
 }
 
-// Whether the output of the capture that an argument names is the expected one.
+// Whether the output of the capture that an argument names is the expected one. (The program replay reads a name likewise: one function
+// for both would take their texts, and what each does where there is none.)
 fn is_same<R: Env + Files + Print + Eprint>(rt: &R, argument: usize) -> bool {
-    let mut space = [0u8; 4096];
+    let mut space = [0u8; NAME];
     let Ok(n) = rt.arg(argument, &mut space) else {
         let _ = eprintln!(rt; "the name of a capture: File name too long");
         return false;
@@ -55,9 +63,9 @@ fn is_same<R: Env + Files + Print + Eprint>(rt: &R, argument: usize) -> bool {
 
 // Holds the capture's output against the expected one, and says where it differs.
 fn replay<R: Files + Print + Eprint>(rt: &R, name: &str) -> bool {
-    let mut capture = [0; 65536];
+    let mut capture = [0; LONGEST];
     let capture = read(rt, name, ".capture", &mut capture);
-    let mut expected = [0; 65536];
+    let mut expected = [0; LONGEST];
     let expected = read(rt, name, ".replay", &mut expected);
     match judge(capture, expected) {
         Ok(()) => true,
@@ -72,7 +80,7 @@ fn replay<R: Files + Print + Eprint>(rt: &R, name: &str) -> bool {
 fn judge(capture: &[u8], expected: &[u8]) -> Result<(), Differs>
     ensures { Judged capture.now expected.now result }
 {
-    let mut out = [0u8; 65536];
+    let mut out = [0u8; LONGEST];
     let mut replay = replay_order::begin();
     let f = replay_capture::fill(&mut replay, capture, &mut out);
     let e = f.end;
@@ -83,14 +91,14 @@ fn judge(capture: &[u8], expected: &[u8]) -> Result<(), Differs>
     if n < e {
         return Err(Differs(n));
     }
-    let mut last = [0u8; 84];
+    let mut last = [0u8; TRAP_TEXT];
     let k = replay_capture::write(replay_order::end(&replay), &mut last);
     let m = agree(&last[..k], &expected[e..]);
     if m < k {
-        return Err(Differs(std::num::wrapping_add_usize(e, m)));
+        return Err(Differs(e.wrapping_add(m)));
     }
     if k < expected.len() - e {
-        return Err(Differs(std::num::wrapping_add_usize(e, k)));
+        return Err(Differs(e.wrapping_add(k)));
     }
     Ok(())
 }
@@ -109,13 +117,14 @@ fn equal_pairs(a: &[u8], b: &[u8]) -> usize
     a.iter().zip(b).take_while(|(x, y)| x == y).count()
 }
 
-// The front of NAME.capture or NAME.replay, as much as has room. A file that is missing is empty.
+// The front of NAME.capture or NAME.replay, as much as has room. A file that is missing is empty. There is no heap, so the path is put
+// together in an array, with its length beside it: the zip ends where the array does.
 fn read<'a, R: Files + Eprint>(rt: &R, name: &str, kind: &str, space: &'a mut [u8]) -> &'a [u8] {
-    let mut path = [0; 4096];
+    let mut path = [0; NAME];
     for (to, from) in path.iter_mut().zip(name.bytes().chain(kind.bytes())) {
         *to = from;
     }
-    let n = name.len().saturating_add(kind.len()).min(4096);
+    let n = name.len().saturating_add(kind.len()).min(NAME);
     match str::from_utf8(&path[..n]) {
         Ok(path) => front_of(rt, path, space),
         Err(_) => {

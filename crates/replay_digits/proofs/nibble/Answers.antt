@@ -1,4 +1,4 @@
-use native.Mathlib.Omega.{arith}
+use Rattle.std.proofs.Common.{arith, ◌∙◌}
 use Rattle.replay_digits.proofs.Laws.{letter_in, none_between, none_high, none_low, number_in}
 use Rattle.replay_digits.proofs.nibble.Goals as goal
 
@@ -6,7 +6,7 @@ pub returns-in-48-to-57 : goal.returns-in-48-to-57
 returns-in-48-to-57 c = number_in _ _ (omega arith) (omega arith) c.from.ensures
 
 pub returns-in-97-to-102 : goal.returns-in-97-to-102
-returns-in-97-to-102 c = letter_in _ _ (omega arith) (omega arith) c.from-in-97-to-102.ensures
+returns-in-97-to-102 c = letter_in _ _ (omega arith) (omega arith) (c.from-in-97-to-102.ensures ∙ omega arith)
 
 pub returns-in_default : goal.returns-in_default
 returns-in_default c = none_low _ (omega arith)
