@@ -15,6 +15,7 @@ pub fn apply(v: Vcpu, e: Effect) -> Outcome
 {
     let x = stored(v.x, e.writes);
     let counts = counted(v.counts, e.event);
+    // no From: Args is scope's, which holds no code
     let args = [
         e.args.a0, e.args.a1, e.args.a2, e.args.a3, e.args.a4, e.args.a5,
     ];
@@ -35,7 +36,8 @@ pub fn apply(v: Vcpu, e: Effect) -> Outcome
 pub fn unless_asking(v: Vcpu, e: Effect) -> Outcome
     ensures { result ≡ applied v (unless_asking v e) }
 {
-    apply(v, decide_effects::guarded(v.csrs, v.waiting, e))
+    let ask = decide_record::ask_of(v.waiting);
+    apply(v, decide_effects::guarded(ask, v.csrs, v.waiting, e))
 }
 
 // The registers after a write; x0 is never written.

@@ -32,7 +32,7 @@ pub fn post_in_place(v: &mut Vcpu, posts: &[Post]) -> Posted
 fn begun(v: Vcpu) -> Row
     ensures { result ≡ begun_of v }
 {
-    decide_posts::begin(v.csrs.hs.hvip, v.waiting)
+    decide_posts::begin(v.csrs.hs.hvip, decide_record::ask_of(v.waiting))
 }
 
 // The record with hvip as the row leaves it, and what the row gives.

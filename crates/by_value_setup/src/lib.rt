@@ -8,7 +8,8 @@ ghost use Rattle.scope.specs.Calls.{new_of, called_of};
 use isa_types::GuestPhysAddr;
 use scope::{Csrs, Outcome, Vcpu, Waiting};
 
-// A record of zeros but for what a guest finds at its start: a0 is its hart, a1 where the device tree lies.
+// A record of zeros but for what a guest finds at its start: a0 is its hart, a1 where the device tree lies. The numbers of a call, here and
+// below, come one by one, as C gives them.
 #[tactic(auto, unfolding(scope::specs::Calls::new_of))]
 pub fn new(hart_id: u64, dtb_addr: u64) -> Vcpu
     ensures { result ≡ new_of hart_id dtb_addr }

@@ -4,7 +4,7 @@
 
 ghost use Rattle.std.specs.Prelude.{◌≡◌, eqb};
 ghost use Rattle.scope.specs.Refusals.{asking_of, done_of, failed_of, finished_of, refused_of};
-ghost use Rattle.scope.specs.Record.{no_args, waiting_ask};
+ghost use Rattle.scope.specs.Record.{no_args};
 ghost use Rattle.isa_types.specs.Pick.{pick};
 ghost use Rattle.scope.specs.declared.traps.Error.TheVariants as error;
 ghost use Rattle.scope.specs.declared.machine.Event.TheVariants as event;
@@ -65,12 +65,12 @@ pub fn done(csrs: Csrs, writes: Writes, still: Waiting) -> Effect
     }
 }
 
-// The effect, unless an ask waits: then refusal 2.
+// The effect, unless an ask waits: then refusal 2. `ask` is its number, 0 where none waits.
 #[tactic(auto, unfolding(scope::specs::Refusals::refused_of))]
-pub fn guarded(csrs: Csrs, waiting: Waiting, e: Effect) -> Effect
-    ensures { result ≡ pick (eqb (waiting_ask waiting) 0) e (refused_of csrs waiting error.BadState) }
+pub fn guarded(ask: u64, csrs: Csrs, waiting: Waiting, e: Effect) -> Effect
+    ensures { result ≡ pick (eqb ask 0) e (refused_of csrs waiting error.BadState) }
 {
-    if decide_record::ask_of(waiting) == 0 {
+    if ask == 0 {
         return e;
     }
     refused(csrs, waiting, Error::BadState)

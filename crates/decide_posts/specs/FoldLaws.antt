@@ -1,9 +1,8 @@
 -- The fold, turn by turn: what a loop over the row needs.
-use Rattle.std.specs.Prelude.{ℕ, zero, suc, ◌+◌, ◌<◌, ◌≤◌, Bool, true, false, not, List, [], ◌∷◌, ◌≡◌, refl, eqb, is_some, length, get_or, drop}
+use Rattle.std.specs.Prelude.{ℕ, zero, suc, ◌+◌, ◌<◌, ◌≤◌, Bool, true, false, List, [], ◌∷◌, ◌≡◌, refl, eqb, is_some, length, get_or, drop}
 use Rattle.std.proofs.Common.{not-suc-le-zero, le_of_suc-le-suc, le_refl, arith, sym, ap, ◌∙◌, drop_of_length-le}
 use Rattle.scope.specs.declared.hosts.Post.{Post}
 use Rattle.scope.specs.Host.{hvip_bit_of}
-use Rattle.scope.specs.OneTrap.{flag_of}
 use Rattle.scope.specs.Words.{tested}
 use Rattle.decide_posts.specs.declared.Row.{Row}
 use Rattle.decide_posts.specs.Fold.{applied_by, fold_of, post_taken}

@@ -2,10 +2,9 @@
 #![tactic(auto)]
 
 ghost use Rattle.std.specs.Prelude.{◌≡◌, ◌<◌, ◌-◌, ◌^◌};
-ghost use Rattle.scope.specs.Record.{waiting_ask};
 ghost use Rattle.decide_posts.specs.Fold.{applied_by, begun_by, fold_of, given_of};
 
-use scope::{Error, Post, Posted, Waiting};
+use scope::{Error, Post, Posted};
 use words_numbers::{FromNumber, Numbered};
 
 // How far a row has come: hvip, how many posts were applied, and the refusal that stopped it.
@@ -33,12 +32,12 @@ impl Row {
     }
 }
 
-// Before the first post: while an ask waits the row is refused as a whole.
+// Before the first post: while an ask waits the row is refused as a whole. `ask` is its number, as begun_by takes it.
 #[tactic(auto, unfolding(crate::specs::Fold::begun_by))]
-pub fn begin(hvip: u64, w: Waiting) -> Row
-    ensures { result ≡ begun_by hvip (waiting_ask w) }
+pub fn begin(hvip: u64, ask: u64) -> Row
+    ensures { result ≡ begun_by hvip ask }
 {
-    let refusal = if decide_record::ask_of(w) == 0 {
+    let refusal = if ask == 0 {
         None
     } else {
         Some(Error::BadState)

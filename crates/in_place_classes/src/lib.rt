@@ -23,7 +23,7 @@ pub fn do_csr(r: &mut [u64; 58], out: &mut [u64; 8], d: Stimecmp) -> u64
 {
     match d {
         Stimecmp::Illegal => {
-            in_place_write::bump(r, Event::IllegalInsn);
+            in_place_write::bump(r, Event::IllegalInsn.number() as usize);
             r[in_place_record::KIND] = WaitingKind::Idle as u64;
             ReplyWord::Unsupported as u64
         }

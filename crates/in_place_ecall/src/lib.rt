@@ -164,7 +164,7 @@ fn forward(r: &mut [u64; 58], out: &mut [u64; 8], event: Event) -> u64
     out[0] = r[in_place_record::A7];
     out[1] = r[in_place_record::A6];
     in_place_read::six(r, out);
-    in_place_write::bump(r, event);
+    in_place_write::bump(r, event.number() as usize);
     r[in_place_record::KIND] = WaitingKind::Forward as u64;
     ReplyWord::Forward as u64
 }

@@ -23,7 +23,8 @@ pub extern "C" fn vcpu_post_row(r: &mut [u64; 58], posts: &[Post]) -> Posted
 fn begin(r: &[u64; 58]) -> Row
     ensures { result ≡ begun_of (view_of r.now) }
 {
-    decide_posts::begin(r[in_place_record::HVIP], in_place_read::waiting(r))
+    let ask = decide_record::ask_of(in_place_read::waiting(r));
+    decide_posts::begin(r[in_place_record::HVIP], ask)
 }
 
 // The one write of hvip, and what the row gives.

@@ -61,6 +61,7 @@ fn reply_word(p: Reply) -> u64
     }
 }
 
+// A table, and not 0x20 + a.number(), here and below: that the sum fits would first have to be shown, which is no plainer.
 #[tactic(auto, unfolding(scope::specs::OneTrap::ask_number))]
 fn ask_word(a: Ask) -> u64
     ensures { result ≡ 32 + ask_number a }

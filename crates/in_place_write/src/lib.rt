@@ -2,7 +2,6 @@
 #![tactic(auto)]
 
 ghost use Rattle.std.specs.Prelude.{◌≡◌};
-ghost use Rattle.scope.specs.Record.{event_number};
 ghost use Rattle.in_place_record.specs.Rows.{bump_words, inject_words, pair_words, step_words, timer_words};
 
 use in_place_record::WaitingKind;
@@ -40,15 +39,14 @@ pub fn timer(r: &mut [u64; 58], deadline: u64)
         false,
     );
     r[in_place_record::VSTIMECMP] = deadline;
-    bump(r, Event::SetTimer);
+    bump(r, Event::SetTimer.number() as usize);
 }
 
-// One more in the count of an event; number 0 is no event.
+// One more in the count of an event's number; 0 is no event.
 #[tactic(auto, unfolding(in_place_record::specs::Rows::bump_words, isa_types::specs::Pick::wrapped))]
-pub fn bump(r: &mut [u64; 58], e: Event)
-    ensures { r.new ≡ bump_words r.old (event_number e) }
+pub fn bump(r: &mut [u64; 58], number: usize)
+    ensures { r.new ≡ bump_words r.old number }
 {
-    let number = e.number() as usize;
     if number != 0 && number < 10 {
         let at = number + 44;
         r[at] = r[at].wrapping_add(1);

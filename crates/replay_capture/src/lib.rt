@@ -23,7 +23,8 @@ pub struct Filled {
 }
 
 // Feeds bytes, and writes what they give to the buffer, until the bytes are over or the buffer has no room for another
-// trap. A buffer of 84 bytes or more takes some of them.
+// trap. A buffer of 84 bytes or more takes some of them. A loop by hand, here and in the program: how much of the rest is taken the
+// callee says, and an iterator that cuts it there would be no plainer.
 pub fn fill(replay: &mut Replay, bytes: &[u8], out: &mut [u8]) -> Filled
     ensures { Fills (state_of replay.old) bytes.now (length out.old) out.new (state_of replay.new) result.next result.end }
 {

@@ -127,7 +127,7 @@ fn scan(key: &[u8], start: Line, s: &[u8]) -> Part
     }
 }
 
-// One byte more of a line, of which `at` bytes gave the number v.
+// One byte more of a line, of which `at` bytes gave the number v: the parts, as line_of takes them.
 fn line(key: &[u8], at: usize, v: u64, b: u8) -> Got
     ensures { result ≡ line_of key.now at v b }
 {

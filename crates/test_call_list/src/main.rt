@@ -96,7 +96,7 @@ fn written(r: &mut [u64; 58], i: u64, n: u64) -> u64 {
 
 // The sum of what was given and of the record.
 fn sum(r: &[u64; 58], out: &[u64; 8]) -> u64 {
-    calls::summed(calls::summed(0, out), r)
+    calls::all(calls::all(0, out), r)
 }
 
 fn print<R: Print>(rt: &R, what: &str, n: u32) {

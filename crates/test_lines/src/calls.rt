@@ -21,12 +21,12 @@ pub fn spelled(line: &[u8], words: [u64; 8]) -> bool {
 }
 
 // The sum with every word of a part in it.
-pub fn summed(start: u64, part: &[u64]) -> u64 {
-    part.iter().fold(start, |s, word| added(s, *word))
+pub fn all(start: u64, part: &[u64]) -> u64 {
+    part.iter().fold(start, |s, word| one(s, *word))
 }
 
 // The sum with one word in it: turned by 7 bits, the word XORed in, a constant added, and the high bits XORed onto the low.
-fn added(s: u64, word: u64) -> u64 {
+fn one(s: u64, word: u64) -> u64 {
     let z = (s.rotate_left(7) ^ word).wrapping_add(0x9E37_79B9_7F4A_7C15);
     z ^ z >> 29
 }

@@ -82,7 +82,7 @@ impl From<CallWords> for HostCall {
     }
 }
 
-// The answer of this number, from its two values; a number that is no ask's fits none.
+// The answer of this number, from its two values, which come apart as the definition takes them; a number that is no ask's fits none.
 #[tactic(auto, unfolding(scope::specs::OneTrap::answer_for, scope::specs::OneTrap::answer_number))]
 fn answer_for(ask: u64, word: u64, more: u64) -> Answer
     ensures { result ≡ answer_for ask word more }

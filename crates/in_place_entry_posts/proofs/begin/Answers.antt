@@ -4,4 +4,4 @@ use Rattle.in_place_entry_posts.proofs.begin.Goals as goal
 
 pub returns : goal.returns
 unfolding begun_of
-returns c = simp (c.begin.ensures, c.waiting.ensures, hvip_word c.args.r.now c.told-r)
+returns c = simp (c.begin.ensures, c.ask_of-ask.ensures, c.waiting.ensures, hvip_word c.args.r.now c.told-r)
