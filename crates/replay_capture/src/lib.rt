@@ -6,7 +6,7 @@
 ghost use Rattle.std.specs.Prelude.{◌+◌, ◌≤◌, length};
 ghost use Rattle.replay_output.specs.Put.{Put};
 ghost use Rattle.replay_scope.specs.Output.{text_of};
-ghost use Rattle.replay_traps.specs.InPlace.{state_of, step_of};
+ghost use Rattle.replay_traps.specs.InPlace.{state_of, step_with};
 ghost use Rattle.replay_capture.specs.Feeds.{Feeds, Fills};
 
 use replay_scope::Gives;
@@ -46,7 +46,7 @@ pub fn fill(replay: &mut Replay, bytes: &[u8], out: &mut [u8]) -> Filled
 
 // Feeds bytes to the end of a line or of the bytes: what they give, and how many they are.
 fn feed(replay: &mut Replay, bytes: &[u8]) -> (Gives, usize)
-    ensures { Feeds (state_of replay.old) bytes.now (step_of replay.new result.0) result.1 }
+    ensures { Feeds (state_of replay.old) bytes.now (step_with replay.new result.0) result.1 }
 {
     if replay.progress.over {
         return (Gives::Nothing, bytes.len());

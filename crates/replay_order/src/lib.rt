@@ -5,7 +5,7 @@
 ghost use Rattle.std.specs.Prelude.{◌≡◌};
 ghost use Rattle.in_place_record.specs.View.{view_of};
 ghost use Rattle.replay_scope.specs.Output.{after_header, begun, end_gives, got_of, headed_of, line_does, may_end};
-ghost use Rattle.replay_traps.specs.InPlace.{state_of, step_of};
+ghost use Rattle.replay_traps.specs.InPlace.{state_of, step_with};
 
 use isa_types::GuestPhysAddr;
 use replay_scope::{Gives, Got, Kept, Line, Place, Progress};
@@ -41,7 +41,7 @@ pub fn begin() -> Replay
 
 // What a reading of the line gave.
 pub fn take(replay: &mut Replay, g: Got) -> Gives
-    ensures { step_of replay.new result ≡ got_of (state_of replay.old) g }
+    ensures { step_with replay.new result ≡ got_of (state_of replay.old) g }
 {
     match g {
         Got::More(at, value) => {
@@ -83,7 +83,7 @@ fn may_end(place: Place) -> bool
 
 // The number n of the line at each place.
 fn do_line(replay: &mut Replay, place: Place, n: u64) -> Gives
-    ensures { step_of replay.new result ≡ line_does place (state_of replay.old) n }
+    ensures { step_with replay.new result ≡ line_does place (state_of replay.old) n }
 {
     match place {
         Place::Header(i) => {

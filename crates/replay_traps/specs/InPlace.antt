@@ -16,5 +16,5 @@ unfoldable pub state_of : Replay → State
 state_of r = state_in r.record r.progress
 
 -- the step that leaves this replay, and gives that
-unfoldable pub step_of : Replay → Gives → Step
-step_of r g = record { state = state_of r; gives = g }
+unfoldable pub step_with : Replay → Gives → Step
+step_with r g = record { state = state_of r; gives = g }

@@ -32,7 +32,7 @@ use Rattle.replay_scope.specs.declared.Place.TheVariants as place
 use Rattle.replay_scope.specs.declared.Progress.{Progress}
 use Rattle.replay_scope.specs.Output.{exit_said, followed_by, pair_taken, saying, settled_by, settled_of, trap_started, unfit_of}
 use Rattle.replay_traps.specs.declared.Replay.{Replay}
-use Rattle.replay_traps.specs.InPlace.{state_in, state_of, step_of}
+use Rattle.replay_traps.specs.InPlace.{state_in, state_of, step_with}
 
 -- exits are below 0x20 and errors from 0x100 on; between lie an ask, a load's completion and a value
 unfoldable pub exit_by : ℕ → ℕ → ℕ
@@ -102,8 +102,8 @@ settled_by_lem p r word o e f =
 
 -- nothing waits: the trap's four lines are read off the record's words
 pub trap_over : (p : Progress) (r : List ℕ) (t : Replay) (g : Gives) (idle : Bool) → length r ≡ 58 → t.record ≡ r → t.progress ≡ followed_by p place.Scause
-    → g ≡ gives.Trap p.exit (slice_index r 32) (slice_index r 10) (slice_index r 11) → idle ≡ true → idle ≡ is_idle (view_of r).waiting → step_of t g ≡ settled_by (view_of r) p
-unfolding settled_by step_of state_of state_in
+    → g ≡ gives.Trap p.exit (slice_index r 32) (slice_index r 10) (slice_index r 11) → idle ≡ true → idle ≡ is_idle (view_of r).waiting → step_with t g ≡ settled_by (view_of r) p
+unfolding settled_by step_with state_of state_in
 trap_over p r t h idle n s e g i j =
     let k : is_idle (view_of r).waiting ≡ true = sym j ∙ i in
     let a : slice_index_or r 10 0 ≡ slice_index_or (view_of r).x 10 0 = register_word r 10 (lit≤ tt) in
@@ -112,8 +112,8 @@ trap_over p r t h idle n s e g i j =
 
 -- something waits
 pub word_follows : (p : Progress) (r : List ℕ) (t : Replay) (g : Gives) (idle : Bool) → t.record ≡ r → t.progress ≡ followed_by p place.Word → g ≡ gives.Nothing
-    → idle ≡ false → idle ≡ is_idle (view_of r).waiting → step_of t g ≡ settled_by (view_of r) p
-unfolding settled_by step_of state_of state_in
+    → idle ≡ false → idle ≡ is_idle (view_of r).waiting → step_with t g ≡ settled_by (view_of r) p
+unfolding settled_by step_with state_of state_in
 word_follows p r t h idle s e g i j =
     let k : is_idle (view_of r).waiting ≡ false = sym j ∙ i in
     rw (s, k, e, g)
@@ -122,15 +122,15 @@ word_follows p r t h idle s e g i j =
 module _ (p : Progress) (r : List ℕ) (later : List ℕ) (t : Replay) (g : Gives) where
   pub start_stepped : (htinst : ℕ) (leaves : Outcome → List ℕ) (o out : List ℕ) (word : ℕ)
       → Laid leaves o (called_of (view_of r) (host_call.Start (record { scause = p.kept.scause; stval = p.kept.stval; htval = p.kept.htval; htinst = htinst; room = 4096 }))) later out word
-      → ((q : Outcome) → view_of later ≡ q.vcpu → word ≡ reply_word q.reply → step_of t g ≡ settled_of p q)
-      → step_of t g ≡ trap_started (state_in r p) htinst
+      → ((q : Outcome) → view_of later ≡ q.vcpu → word ≡ reply_word q.reply → step_with t g ≡ settled_of p q)
+      → step_with t g ≡ trap_started (state_in r p) htinst
   unfolding trap_started state_in
   start_stepped htinst leaves o out word m on = on _ m.shows m.says
 
   pub load_stepped : (more ask : ℕ) (leaves : Outcome → List ℕ) (word : ℕ) → ask ≡ waiting_ask (view_of r).waiting → ask ≡ 0
       → Settled leaves (called_of (view_of r) (host_call.CompleteLoad p.kept.word)) later word
-      → ((q : Outcome) → view_of later ≡ q.vcpu → word ≡ reply_word q.reply → step_of t g ≡ settled_of p q)
-      → step_of t g ≡ pair_taken (state_in r p) more
+      → ((q : Outcome) → view_of later ≡ q.vcpu → word ≡ reply_word q.reply → step_with t g ≡ settled_of p q)
+      → step_with t g ≡ pair_taken (state_in r p) more
   unfolding pair_taken state_in
   load_stepped more ask leaves word a z m on =
       let e : waiting_ask (view_of r).waiting ≡ 0 = sym a ∙ z in
@@ -140,15 +140,15 @@ module _ (p : Progress) (r : List ℕ) (later : List ℕ) (t : Replay) (g : Give
   pub answer_stepped : (more ask : ℕ) (leaves : Outcome → List ℕ) (o out : List ℕ) (word : ℕ) → ask ≡ waiting_ask (view_of r).waiting → (ask ≢ 0)
       → and (ask == 1) (nat_lt 5 more) ≡ false
       → Laid leaves o (called_of (view_of r) (host_call.Answer (answer_for ask p.kept.word more))) later out word
-      → ((q : Outcome) → view_of later ≡ q.vcpu → word ≡ reply_word q.reply → step_of t g ≡ settled_of p q)
-      → step_of t g ≡ pair_taken (state_in r p) more
+      → ((q : Outcome) → view_of later ≡ q.vcpu → word ≡ reply_word q.reply → step_with t g ≡ settled_of p q)
+      → step_with t g ≡ pair_taken (state_in r p) more
   unfolding pair_taken state_in
   answer_stepped more ask leaves o out word a z n m on =
       on (called_of (view_of r) (host_call.Answer (answer_for ask p.kept.word more))) m.shows m.says ∙ simp (sym a, ne_eqb _ _ z, n)
 
   -- and above 5 the line is unfit
   pub unfit_stepped : (more ask : ℕ) → ask ≡ waiting_ask (view_of r).waiting → ask ≡ 1 → 5 < more
-      → step_of t g ≡ unfit_of (state_in r p) → step_of t g ≡ pair_taken (state_in r p) more
+      → step_with t g ≡ unfit_of (state_in r p) → step_with t g ≡ pair_taken (state_in r p) more
   unfolding pair_taken state_in
   unfit_stepped more ask a i h e =
       let k : waiting_ask (view_of r).waiting ≡ 1 = sym a ∙ i in

@@ -8,7 +8,7 @@ ghost use Rattle.scope.specs.Record.{is_idle};
 ghost use Rattle.in_place_record.specs.View.{view_of};
 ghost use Rattle.scope.specs.ReplyWords.{reply_word};
 ghost use Rattle.replay_scope.specs.Output.{followed_by, pair_taken, saying, settled_by, settled_of, trap_started, unfit_of};
-ghost use Rattle.replay_traps.specs.InPlace.{state_of, step_of};
+ghost use Rattle.replay_traps.specs.InPlace.{state_of, step_with};
 ghost use Rattle.replay_traps.specs.Laws.{exit_by};
 
 use in_place_answer::AnswerWords;
@@ -38,7 +38,7 @@ impl Replay {
 
     // The line is unfit.
     pub fn unfit(&mut self) -> Gives
-        ensures { step_of self.new result ≡ unfit_of (state_of self.old) }
+        ensures { step_with self.new result ≡ unfit_of (state_of self.old) }
     {
         self.progress.line.at = 0;
         self.progress.line.value = 0;
@@ -50,7 +50,7 @@ impl Replay {
 
     // The trap's last number starts it.
     pub fn start(&mut self, htinst: u64) -> Gives
-        ensures { step_of self.new result ≡ trap_started (state_of self.old) htinst }
+        ensures { step_with self.new result ≡ trap_started (state_of self.old) htinst }
     {
         let kept = self.progress.kept;
         let t = Trap {
@@ -68,7 +68,7 @@ impl Replay {
     // An answer's or load completion's second number. What is asked stays a number, 0 where nothing is and 1 for a fetch: the
     // definition `pair_taken` speaks of it.
     pub fn pair(&mut self, more: u64) -> Gives
-        ensures { step_of self.new result ≡ pair_taken (state_of self.old) more }
+        ensures { step_with self.new result ≡ pair_taken (state_of self.old) more }
     {
         let word = self.progress.kept.word;
         let ask = decide_record::ask_of(in_place_read::waiting(&self.record));
@@ -90,7 +90,7 @@ impl Replay {
 
     // After a call on the record, by the word that it returned.
     fn settle(&mut self, word: u64) -> Gives
-        ensures { (o : Outcome) → view_of self.old.record ≡ o.vcpu → word ≡ reply_word o.reply → step_of self.new result ≡ settled_of self.old.progress o }
+        ensures { (o : Outcome) → view_of self.old.record ≡ o.vcpu → word ≡ reply_word o.reply → step_with self.new result ≡ settled_of self.old.progress o }
     {
         let idle = decide_record::is_idle(in_place_read::waiting(&self.record));
         self.settled(said(self.progress.exit, word), idle)
@@ -98,7 +98,7 @@ impl Replay {
 
     // The same: where nothing waits the trap is over, otherwise `word` follows.
     fn settled(&mut self, exit: u64, idle: bool) -> Gives
-        ensures { idle ≡ is_idle (view_of self.old.record).waiting → step_of self.new result ≡ settled_by (view_of self.old.record) (saying self.old.progress exit) }
+        ensures { idle ≡ is_idle (view_of self.old.record).waiting → step_with self.new result ≡ settled_by (view_of self.old.record) (saying self.old.progress exit) }
     {
         self.progress.exit = exit;
         if idle {

@@ -1,7 +1,7 @@
 // What the bytes of a line spell, and whether they are what they should be.
 ghost use Rattle.std.specs.Prelude.{◌≡◌, ◌<◌, ◌++◌, IsTrue, IfSome};
 ghost use Rattle.std.specs.List.{fold};
-ghost use Rattle.test_lines.specs.Digits.{digit_of, with_digit};
+ghost use Rattle.test_lines.specs.Digits.{spelled_digit, with_digit};
 
 use std::fmt;
 use std::fmt::{Display, Write};
@@ -16,7 +16,7 @@ pub fn number(digits: &[u8]) -> u64
 
 // By hand, since `char::to_digit` has no number for the other bytes.
 fn value(digit: u8) -> u64
-    ensures value { result ≡ digit_of digit }
+    ensures value { result ≡ spelled_digit digit }
     ensures bound { result < 16 }
 {
     if digit < b'a' {
