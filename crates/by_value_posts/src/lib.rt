@@ -40,10 +40,9 @@ fn begun(v: Vcpu) -> Row
 fn ended(v: Vcpu, s: Row) -> RowOutcome
     ensures { result ≡ ended_of v s }
 {
+    // before the record is touched: the compiler would copy it for each way that a row can end
+    let posted = s.given();
     let mut vcpu = v;
     vcpu.csrs = decide_record::with_hvip(v.csrs, s.hvip);
-    RowOutcome {
-        vcpu,
-        posted: s.given(),
-    }
+    RowOutcome { vcpu, posted }
 }

@@ -7,7 +7,6 @@ use Rattle.scope.specs.declared.hosts.Posted.{Posted}
 use Rattle.scope.specs.declared.machine.RowOutcome.{RowOutcome}
 use Rattle.scope.specs.declared.machine.Vcpu.{Vcpu}
 use Rattle.scope.specs.declared.traps.Error.TheVariants as error
-use Rattle.scope.specs.declared.traps.Error.{Error}
 use Rattle.scope.specs.Host.{hvip_bit_of}
 use Rattle.scope.specs.Posts.{row_of}
 use Rattle.scope.specs.PostsLaws.{with_hvip}
@@ -19,7 +18,7 @@ use Rattle.decide_posts.specs.declared.Row.{Row}
 -- before the first post; ask is the number of the ask that waits, or 0
 unfoldable pub begun_by : ℕ → ℕ → Row
 begun_by hvip ask =
-    record { hvip = hvip; applied = 0; refusal = pick (eqb ask 0) None (Some error.BadState) }
+    record { hvip = hvip; applied = 0; refusal = pick (eqb ask 0) None (Some (error_number error.BadState)) }
 
 unfoldable pub begun_of : Vcpu → Row
 begun_of v = begun_by v.csrs.hs.hvip (waiting_ask v.waiting)
@@ -27,7 +26,7 @@ begun_of v = begun_by v.csrs.hs.hvip (waiting_ask v.waiting)
 -- one post, by its bit of hvip
 unfoldable pub applied_by : Row → ℕ → Bool → Row
 applied_by s line on =
-    pick (eqb line 0) (record { hvip = s.hvip; applied = s.applied; refusal = Some error.InvalidInput })
+    pick (eqb line 0) (record { hvip = s.hvip; applied = s.applied; refusal = Some (error_number error.InvalidInput) })
     (record { hvip = with_bits s.hvip line on; applied = s.applied + 1; refusal = None })
 
 -- one post; a row that was stopped stays
@@ -40,9 +39,9 @@ fold_of s [] = s
 fold_of s (p ∷ ps) = fold_of (post_taken s p) ps
 
 -- a refusal's number; 0 is none
-unfoldable pub refusal_number : Option Error → ℕ
+unfoldable pub refusal_number : Option ℕ → ℕ
 refusal_number None = 0
-refusal_number (Some e) = error_number e
+refusal_number (Some n) = n
 
 -- what the row gives
 unfoldable pub given_of : Row → Posted

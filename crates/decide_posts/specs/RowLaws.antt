@@ -22,7 +22,7 @@ going h n = record { hvip = h; applied = n; refusal = None }
 
 -- a turn of the fold
 
-turn_refused : (h n : ℕ) (p : Post) → eqb (hvip_bit_of p.vector) 0 ≡ true → post_taken (going h n) p ≡ record { hvip = h; applied = n; refusal = Some error.InvalidInput }
+turn_refused : (h n : ℕ) (p : Post) → eqb (hvip_bit_of p.vector) 0 ≡ true → post_taken (going h n) p ≡ record { hvip = h; applied = n; refusal = Some (error_number error.InvalidInput) }
 unfolding post_taken applied_by
 turn_refused h n p e = rw e
 
@@ -37,7 +37,7 @@ one : (v : Vcpu) (h n : ℕ) (p : Post) (ps : List Post) (t : Bool) → Free v �
 unfolding ended_of refusal_number with_hvip hvip_by pended error_number
 one v h n p ps true f e more =
     post_refused (with_hvip v h) n p ps (still_free v h f) e
-    ∙ sym (ap (ended_of v) (ap (λ (s : Row). fold_of s ps) (turn_refused h n p e) ∙ stopped (record { hvip = h; applied = n; refusal = Some error.InvalidInput }) ps refl))
+    ∙ sym (ap (ended_of v) (ap (λ (s : Row). fold_of s ps) (turn_refused h n p e) ∙ stopped (record { hvip = h; applied = n; refusal = Some (error_number error.InvalidInput) }) ps refl))
 one v h n p ps false f e more =
     post_applied (with_hvip v h) n p ps (still_free v h f) e
     ∙ more (with_bits h (hvip_bit_of p.vector) (tested p.level)) (n + 1)
@@ -50,7 +50,7 @@ rest v h n (p ∷ ps) f = one v h n p ps (eqb (hvip_bit_of p.vector) 0) f refl (
 
 -- the whole row
 
-begun_by_lem : (v : Vcpu) (t : Bool) → eqb (waiting_ask v.waiting) 0 ≡ t → begun_of v ≡ record { hvip = v.csrs.hs.hvip; applied = 0; refusal = pick t None (Some error.BadState) }
+begun_by_lem : (v : Vcpu) (t : Bool) → eqb (waiting_ask v.waiting) 0 ≡ t → begun_of v ≡ record { hvip = v.csrs.hs.hvip; applied = 0; refusal = pick t None (Some (error_number error.BadState)) }
 unfolding begun_of begun_by
 begun_by_lem v t h = rw h
 
@@ -61,7 +61,7 @@ folded_by v ps true h =
     row_free v ps f ∙ rest v v.csrs.hs.hvip 0 ps f ∙ sym (ap (λ (s : Row). ended_of v (fold_of s ps)) (begun_by_lem v true h))
 folded_by v ps false h =
     row_refused v ps h
-    ∙ sym (ap (ended_of v) (ap (λ (s : Row). fold_of s ps) (begun_by_lem v false h) ∙ stopped (record { hvip = v.csrs.hs.hvip; applied = 0; refusal = Some error.BadState }) ps refl))
+    ∙ sym (ap (ended_of v) (ap (λ (s : Row). fold_of s ps) (begun_by_lem v false h) ∙ stopped (record { hvip = v.csrs.hs.hvip; applied = 0; refusal = Some (error_number error.BadState) }) ps refl))
 
 pub folded : (v : Vcpu) (ps : List Post) → posted_of v ps ≡ ended_of v (fold_of (begun_of v) ps)
 folded v ps = folded_by v ps (eqb (waiting_ask v.waiting) 0) refl

@@ -7,23 +7,24 @@ ghost use Rattle.decide_posts.specs.Fold.{applied_by, begun_by, fold_of, given_o
 use scope::{Error, Post, Posted};
 use words_numbers::{FromNumber, Numbered};
 
-// How far a row has come: hvip, how many posts were applied, and the refusal that stopped it.
+// How far a row has come: hvip, how many posts were applied, and the number of the refusal that stopped it. (A number and no Error: a
+// row may have been stopped by any, and the fold leaves it.)
 #[derive(Clone, Copy)]
 pub struct Row {
     pub hvip: u64,
     pub applied: u64,
-    pub refusal: Option<Error>,
+    pub refusal: Option<u64>,
 }
 
 impl Row {
-    // What the row gives: a refusal by its number, and 0 for none.
+    // What the row gives: a refusal's number, and 0 for none.
     #[tactic(auto, unfolding(crate::specs::Fold::given_of, crate::specs::Fold::refusal_number))]
     pub fn given(self) -> Posted
         ensures { result ≡ given_of self }
     {
         let refusal = match self.refusal {
             None => 0,
-            Some(e) => e.number(),
+            Some(number) => number,
         };
         Posted {
             applied: self.applied,
@@ -40,7 +41,7 @@ pub fn begin(hvip: u64, ask: u64) -> Row
     let refusal = if ask == 0 {
         None
     } else {
-        Some(Error::BadState)
+        Some(Error::BadState.number())
     };
     Row {
         hvip,
@@ -76,7 +77,7 @@ fn apply(s: Row, line: u64, on: bool) -> Row
 {
     if line == 0 {
         return Row {
-            refusal: Some(Error::InvalidInput),
+            refusal: Some(Error::InvalidInput.number()),
             ..s
         };
     }

@@ -11,9 +11,9 @@ use scope::{Post, Posted, Record};
 pub extern "C" fn vcpu_call_posts(v: &mut Record, posts: &[Post]) -> Posted
     ensures { ExportedRow v.old posts.now v.new result }
 {
-    let (rec, posted) = post(*v, posts);
-    *v = rec;
-    posted
+    let after = post(*v, posts);
+    *v = after.0;
+    after.1
 }
 
 // The same by value. The words of what waits stay.
