@@ -45,20 +45,23 @@ pub fn unless_asking(v: Vcpu, e: Effect) -> Outcome
 fn stored(x: [u64; 32], w: Writes) -> [u64; 32]
     ensures { result ≡ stored x w }
 {
-    let mut y = x;
     match w {
-        Writes::Keep => {}
+        Writes::Keep => x,
         Writes::One(i, n) => {
             if i != 0 && i < 32 {
+                let mut y = x;
                 y[i] = n;
+                return y;
             }
+            x
         }
         Writes::Pair(a0, a1) => {
+            let mut y = x;
             y[10] = a0;
             y[11] = a1;
+            y
         }
     }
-    y
 }
 
 // One more in the count of an event; number 0 is no event.
@@ -66,10 +69,11 @@ fn stored(x: [u64; 32], w: Writes) -> [u64; 32]
 fn counted(counts: [u64; 9], e: Event) -> [u64; 9]
     ensures { result ≡ counted counts e }
 {
-    let mut k = counts;
     let n = e.number() as usize;
     if n != 0 && n < 10 {
+        let mut k = counts;
         k[n - 1] = k[n - 1].wrapping_add(1);
+        return k;
     }
-    k
+    counts
 }

@@ -2,6 +2,7 @@
 #![tactic(auto)]
 
 ghost use Rattle.std.specs.Prelude.{◌≡◌, get_or};
+ghost use Rattle.scope.specs.Record.{value_of};
 ghost use Rattle.scope.specs.Classes.{arguments_of, start_effect};
 ghost use Rattle.scope.specs.GuestPageFault.{page_fault_of, mmio_of};
 ghost use Rattle.scope.specs.Ecalls.{ecall_effect};
@@ -10,24 +11,26 @@ ghost use Rattle.scope.specs.VirtualInstruction.{virtual_effect};
 use decide_record::Ecall;
 use isa_decoder::Trapped;
 use isa_types::GuestPhysAddr;
-use scope::{Access, Class, Effect, Error, Event, Exit, Trap, Vcpu, Writes};
+use scope::{Access, Class, Csrs, Effect, Error, Event, Exit, Trap, Vcpu, Writes};
 
-// Starts a trap: what each class does, if nothing waits.
+// Starts a trap: what each class does, if nothing waits. The record is taken apart here, and what is called takes its parts: while each
+// took the record, the compiler kept a copy of it for each end of a call, and `vcpu_call` took half as long again.
 #[tactic(auto, unfolding(scope::specs::Classes::start_effect, scope::specs::Classes::class_effect))]
 pub fn start(v: Vcpu, t: Trap) -> Effect
     ensures { result ≡ start_effect v.x v.csrs v.waiting t }
 {
+    let x = v.x;
     let c = v.csrs;
     if !decide_record::is_idle(v.waiting) {
         return decide_effects::refused(c, v.waiting, Error::BadState);
     }
     match decide_class::class_of(t.scause) {
-        Class::Ecall => ecall(v, t.room),
+        Class::Ecall => ecall(x, c, t.room),
         Class::VirtualInstruction => {
-            let rs1 = decide_record::register(&v.x, isa_fields::rs1(t.stval % 0x1_0000_0000));
-            virtual_inst(v, t.stval, rs1)
+            let rs1 = register(x, isa_fields::rs1(t.stval % 0x1_0000_0000));
+            virtual_inst(c, t.stval, rs1)
         }
-        Class::PageFault(access) => page_fault(v, t, access),
+        Class::PageFault(access) => page_fault(x, c, t, access),
         Class::Interrupt => decide_effects::finished(
             c,
             Event::Quiet,
@@ -41,41 +44,52 @@ pub fn start(v: Vcpu, t: Trap) -> Effect
 
 // An SBI call.
 #[tactic(auto, unfolding(scope::specs::Ecalls::ecall_effect))]
-fn ecall(v: Vcpu, room: u64) -> Effect
-    ensures { result ≡ ecall_effect v.csrs (get_or v.x 17 0) (get_or v.x 16 0) (arguments_of v.x) room }
+fn ecall(x: [u64; 32], c: Csrs, room: u64) -> Effect
+    ensures { result ≡ ecall_effect c (get_or x 17 0) (get_or x 16 0) (arguments_of x) room }
 {
-    let e = Ecall::of(&v.x);
-    by_value_ecall::effect(v.csrs, e, decide_ecall::decide(e, room))
+    let e = ecall_of(x);
+    by_value_ecall::effect(c, e, decide_ecall::decide(e, room))
+}
+
+// What the guest calls. This and `register` take the registers by value, as what calls them does: lent, they would be copied too.
+fn ecall_of(x: [u64; 32]) -> Ecall
+    ensures eid { result.eid ≡ get_or x 17 0 }
+    ensures fid { result.fid ≡ get_or x 16 0 }
+    ensures args { result.args ≡ arguments_of x }
+{
+    Ecall::of(&x)
+}
+
+// A register's content.
+pub fn register(x: [u64; 32], i: usize) -> u64
+    ensures { result ≡ value_of x i }
+{
+    decide_record::register(&x, i)
 }
 
 // A virtual instruction, with the content of its rs1.
 #[tactic(auto, unfolding(scope::specs::VirtualInstruction::virtual_effect))]
-fn virtual_inst(v: Vcpu, stval: u64, rs1: u64) -> Effect
-    ensures { result ≡ virtual_effect v.csrs stval rs1 }
+fn virtual_inst(c: Csrs, stval: u64, rs1: u64) -> Effect
+    ensures { result ≡ virtual_effect c stval rs1 }
 {
-    let d = decide_virtual_inst::decide_stval(stval, v.csrs.vs.vstimecmp, rs1);
-    by_value_classes::csr(v.csrs, d)
+    let d = decide_virtual_inst::decide_stval(stval, c.vs.vstimecmp, rs1);
+    by_value_classes::csr(c, d)
 }
 
 // A guest page fault.
 #[tactic(auto, unfolding(scope::specs::GuestPageFault::page_fault_of))]
-fn page_fault(v: Vcpu, t: Trap, access: Access) -> Effect
-    ensures { result ≡ page_fault_of v.x v.csrs t access }
+fn page_fault(x: [u64; 32], c: Csrs, t: Trap, access: Access) -> Effect
+    ensures { result ≡ page_fault_of x c t access }
 {
     let at = isa_registers::guest_page_fault_addr(t.htval, t.stval);
-    mmio(v, at, access, isa_decoder::from_htinst(t.htinst))
+    mmio(x, c, at, access, isa_decoder::from_htinst(t.htinst))
 }
 
 // A load or store of a device, once its instruction is known.
 #[tactic(auto, unfolding(scope::specs::GuestPageFault::mmio_of))]
-pub fn mmio(v: Vcpu, at: GuestPhysAddr, access: Access, i: Trapped) -> Effect
-    ensures { result ≡ mmio_of v.x v.csrs at access i }
+pub fn mmio(x: [u64; 32], c: Csrs, at: GuestPhysAddr, access: Access, i: Trapped) -> Effect
+    ensures { result ≡ mmio_of x c at access i }
 {
-    let source = decide_record::register(&v.x, isa_decoder::store_source(i));
-    by_value_classes::fault(
-        v.csrs,
-        at,
-        access,
-        decide_page_fault::decide(access, i, source),
-    )
+    let source = register(x, isa_decoder::store_source(i));
+    by_value_classes::fault(c, at, access, decide_page_fault::decide(access, i, source))
 }

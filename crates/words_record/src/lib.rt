@@ -174,11 +174,15 @@ fn asked_words(a: EcallAsk) -> [u64; 4]
 pub fn waiting_over(old: [u64; 4], w: Waiting) -> [u64; 4]
     ensures { result ≡ sets old 0 (take (waiting_count w) (waiting_words w)) }
 {
-    let n = waiting_count(w);
-    let words = waiting_words(w);
-    let mut left = old;
-    left[..n].copy_from_slice(&words[..n]);
-    left
+    // word by word: a copy of the first n is a call of memcpy
+    let [_, a, b, c] = old;
+    let [kind, x, y, z] = waiting_words(w);
+    match waiting_count(w) {
+        1 => [kind, a, b, c],
+        2 => [kind, x, b, c],
+        3 => [kind, x, y, c],
+        _ => [kind, x, y, z],
+    }
 }
 
 // How many of the four words it has a use for: its kind, and the numbers that it carries.
@@ -186,6 +190,7 @@ pub fn waiting_over(old: [u64; 4], w: Waiting) -> [u64; 4]
 fn waiting_count(w: Waiting) -> usize
     ensures count { result ≡ waiting_count w }
     ensures within { result ≤ 4 }
+    ensures kind { 1 ≤ result }
 {
     match w {
         Waiting::Idle | Waiting::FetchCsr => 1,
@@ -199,6 +204,7 @@ fn waiting_count(w: Waiting) -> usize
 fn asked_count(a: EcallAsk) -> usize
     ensures count { result ≡ asked_word_count a }
     ensures within { result ≤ 4 }
+    ensures kind { 1 ≤ result }
 {
     match a {
         EcallAsk::CopyIn { .. } | EcallAsk::Print { .. } | EcallAsk::CopyOut { .. } => 2,
