@@ -22,6 +22,13 @@ pub struct Filled {
     pub end: usize,
 }
 
+// What bytes to the end of a line give, and how many they are.
+#[derive(Clone, Copy)]
+pub struct Fed {
+    pub gives: Gives,
+    pub next: usize,
+}
+
 // Feeds bytes, and writes what they give to the buffer, until the bytes are over or the buffer has no room for another
 // trap. A buffer of 84 bytes or more takes some of them. A loop by hand, here and in the program: how much of the rest is taken the
 // callee says, and an iterator that cuts it there would be no plainer.
@@ -34,9 +41,9 @@ pub fn fill(replay: &mut Replay, bytes: &[u8], out: &mut [u8]) -> Filled
         if out.len() < TRAP_TEXT || out.len() - TRAP_TEXT < end {
             break;
         }
-        let (gives, n) = feed(replay, rest);
-        rest = &rest[n..];
-        end = put(gives, out, end);
+        let f = feed(replay, rest);
+        rest = &rest[f.next..];
+        end = put(f.gives, out, end);
     }
     Filled {
         next: bytes.len() - rest.len(),
@@ -45,14 +52,20 @@ pub fn fill(replay: &mut Replay, bytes: &[u8], out: &mut [u8]) -> Filled
 }
 
 // Feeds bytes to the end of a line or of the bytes: what they give, and how many they are.
-fn feed(replay: &mut Replay, bytes: &[u8]) -> (Gives, usize)
-    ensures { Feeds (state_of replay.old) bytes.now (step_with replay.new result.0) result.1 }
+fn feed(replay: &mut Replay, bytes: &[u8]) -> Fed
+    ensures { Feeds (state_of replay.old) bytes.now (step_with replay.new result.gives) result.next }
 {
     if replay.progress.over {
-        return (Gives::Nothing, bytes.len());
+        return Fed {
+            gives: Gives::Nothing,
+            next: bytes.len(),
+        };
     }
     let part = replay_lines::read(replay.progress.line, bytes);
-    (replay_order::take(replay, part.got), part.next)
+    Fed {
+        gives: replay_order::take(replay, part.got),
+        next: part.next,
+    }
 }
 
 // Writes what was given at the buffer's start, and says where it ends.

@@ -17,7 +17,7 @@ use scope::Trap;
 
 // The replay between two bytes of its capture: how far it is, and its record. A step changes it in place, and its result is
 // what the output gets.
-#[derive(Drop)]
+#[derive(Clone, Copy)]
 pub struct Replay {
     pub progress: Progress,
     pub record: [u64; 58],
@@ -38,7 +38,8 @@ impl Replay {
 
     // The line is unfit.
     pub fn unfit(&mut self) -> Gives
-        ensures { step_with self.new result ≡ unfit_of (state_of self.old) }
+        ensures step { step_with self.new result ≡ unfit_of (state_of self.old) }
+        ensures stays { self.new.record ≡ self.old.record }
     {
         self.progress.line.at = 0;
         self.progress.line.value = 0;

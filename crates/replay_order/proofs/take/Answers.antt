@@ -12,4 +12,4 @@ returns-in-Whole c = rw c.in-Whole.is c.do_line.ensures
 
 pub returns-in-Unfit : goal.returns-in-Unfit
 unfolding got_of
-returns-in-Unfit c = rw c.in-Unfit.is c.unfit.ensures
+returns-in-Unfit c = rw c.in-Unfit.is c.unfit.ensures.step

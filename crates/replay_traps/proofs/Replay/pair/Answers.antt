@@ -11,7 +11,7 @@ returns-then-ask-eq0 c = load_stepped c.args.self.now.progress _ _ _ _ _ _ _ _ (
 
 pub returns-then-more-gt5 : goal.returns-then-more-gt5
 unfolding state_of
-returns-then-more-gt5 c = unfit_stepped c.args.self.now.progress _ c.args.self.now.record _ _ _ _ (c.ask_of-ask.ensures ∙ ap waiting_ask c.waiting.ensures) c.if-ask-eq1.true c.if-more-gt5.true c.unfit.ensures
+returns-then-more-gt5 c = unfit_stepped c.args.self.now.progress _ c.args.self.now.record _ _ _ _ (c.ask_of-ask.ensures ∙ ap waiting_ask c.waiting.ensures) c.if-ask-eq1.true c.if-more-gt5.true c.unfit.ensures.step
 
 pub returns : goal.returns
 unfolding state_of

@@ -5,4 +5,4 @@ use Rattle.replay_traps.proofs.Replay.unfit.Goals as goal
 
 pub returns : goal.returns
 unfolding step_with state_of state_in unfit_of over_at
-returns c = refl
+returns c = record { step = refl; stays = refl }
