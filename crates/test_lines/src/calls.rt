@@ -1,6 +1,6 @@
 // A line of the fixed list of calls: its words, whether it spells words, and the sum that it ends in. docs/CALLS.md says what
 // they mean.
-use crate::lines::{number, says};
+use crate::lines::{number, spells};
 
 // The eight words of a line: the 16 digits of each, and behind them a space or the line's end.
 pub fn words(line: &[u8]) -> [u64; 8] {
@@ -13,11 +13,12 @@ pub fn words(line: &[u8]) -> [u64; 8] {
 
 // Whether a line spells eight words.
 pub fn spelled(line: &[u8], words: [u64; 8]) -> bool {
-    let [a, b, c, d, e, f, g, h] = words;
-    says(
-        line,
-        format_args!("{a:016x} {b:016x} {c:016x} {d:016x} {e:016x} {f:016x} {g:016x} {h:016x}\n"),
-    )
+    let (texts, rest) = line.as_chunks::<17>();
+    texts.len() == 8
+        && rest.is_empty()
+        && texts.iter().zip(words).enumerate().all(|(i, (text, word))| {
+            spells(&text[..16], word) && text[16] == if i == 7 { b'\n' } else { b' ' }
+        })
 }
 
 // The sum with every word of a part in it.

@@ -119,7 +119,9 @@ fn equal_pairs(a: &[u8], b: &[u8]) -> usize
 
 // The front of NAME.capture or NAME.replay, as much as has room. A file that is missing is empty. There is no heap, so the path is put
 // together in an array, with its length beside it: the zip ends where the array does.
-fn read<'a, R: Files + Eprint>(rt: &R, name: &str, kind: &str, space: &'a mut [u8]) -> &'a [u8] {
+fn read<'a, R: Files + Eprint>(rt: &R, name: &str, kind: &str, space: &'a mut [u8]) -> &'a [u8]
+    ensures { length result.now ≤ length space.old }
+{
     let mut path = [0; NAME];
     for (to, from) in path.iter_mut().zip(name.bytes().chain(kind.bytes())) {
         *to = from;

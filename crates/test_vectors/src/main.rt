@@ -9,7 +9,7 @@ use isa_types::Width;
 use std::env::Env;
 use std::fs::Files;
 use test_lines::files::open_list;
-use test_lines::lines::{number, says};
+use test_lines::lines::{number, spells};
 use test_lines::lists::compare;
 use words_numbers::Numbered;
 
@@ -55,7 +55,7 @@ fn pairs<R: Env + Files + Print + Eprint, A: Fn(u64) -> u64 + Drop>(
         rt,
         argument,
         &mut [0; 34],
-        |_, line| is_pair(line, &answer, '\n'),
+        |_, line| is_pair(line, &answer, b'\n'),
     );
 }
 
@@ -91,16 +91,18 @@ fn hold<R: Env + Files + Print + Eprint, J: FnMut(u32, &[u8]) -> bool + Drop>(
     }
 }
 
-// Whether bytes are a pair, and a character after it: the input, spelled anew, and the answer must be its very bytes.
-fn is_pair<A: Fn(u64) -> u64>(bytes: &[u8], answer: &A, after: char) -> bool
+// Whether bytes are a pair, and a byte after it: the digits of the input, and of the answer.
+fn is_pair<A: Fn(u64) -> u64>(bytes: &[u8], answer: &A, after: u8) -> bool
     requires { A.IsAlwaysCallable answer.now }
 {
-    let Some(digits) = bytes.first_chunk::<16>() else {
+    let ([input, output], []) = bytes.as_chunks::<17>() else {
         return false;
     };
-    let input = number(digits);
-    let output = answer(input);
-    says(bytes, format_args!("{input:016x} {output:016x}{after}"))
+    let n = number(&input[..16]);
+    spells(&input[..16], n)
+        && input[16] == b' '
+        && spells(&output[..16], answer(n))
+        && output[16] == after
 }
 
 // Of the 64 numbers from this one on, those that end in the bits 11 begin a longer instruction and are left out.
@@ -120,7 +122,7 @@ fn is_packed(line: &[u8], first: u64) -> bool
 fn is_short(digits: &[u8], word: u64) -> bool {
     let answer = fetched(word);
     let short = answer % 0x10_0000;
-    answer / 0x10_0000 == 0x32 && says(digits, format_args!("{short:05x}"))
+    answer / 0x10_0000 == 0x32 && spells(digits, short)
 }
 
 // Whether a line is the pair of a 16-bit word, and then a number and what that load or store makes of it.
@@ -128,7 +130,7 @@ fn is_executed(line: &[u8]) -> bool {
     let Some((pair, moved)) = line.split_at_checked(34) else {
         return false;
     };
-    is_pair(pair, &fetched, ' ') && is_moved(pair, moved)
+    is_pair(pair, &fetched, b' ') && is_moved(pair, moved)
 }
 
 fn is_moved(pair: &[u8], moved: &[u8]) -> bool {
@@ -139,9 +141,9 @@ fn is_moved(pair: &[u8], moved: &[u8]) -> bool {
         Decoded::Load { width, signed, .. } => is_pair(
             moved,
             &|n| isa_extension::extend(width, signed, n),
-            '\n',
+            b'\n',
         ),
-        Decoded::Store { width, .. } => is_pair(moved, &|n| isa_extension::cut(width, n), '\n'),
+        Decoded::Store { width, .. } => is_pair(moved, &|n| isa_extension::cut(width, n), b'\n'),
         Decoded::Neither => false,
     }
 }
