@@ -85,7 +85,8 @@ def functions(text):
             i += 1
             continue
         start, name, j = ts[i].at, ts[i + 1].text, i + 2
-        while ts[j].text not in ("{", ";") or ts[j - 1].text in ("requires", "ensures", "ghost"):
+        # a clause's brace follows its kind, or the clause's name behind that
+        while ts[j].text not in ("{", ";") or {ts[j - 1].text, ts[j - 2].text} & {"requires", "ensures", "ghost"}:
             j = closing(ts, j) + 1 if ts[j].text in CLOSE else j + 1
         if ts[j].text == "{":
             end = closing(ts, j)
@@ -201,7 +202,7 @@ class Body:
                 self.put("operator", [t], t.text.replace("wrapping_add", "wrapping_sub"))
             elif t.text in ("if", "while"):
                 j = i + 1
-                while ts[j].text != "{":
+                while ts[j].text not in ("{", "=>"):  # of an arm's guard the arrow
                     j = closing(ts, j) + 1 if ts[j].text in CLOSE else j + 1
                 self.put("condition", ts[i + 1:j], f"!({self.text(ts[i + 1:j])})")
             elif t.text == "match":
@@ -303,7 +304,7 @@ class Body:
         ts, i, statements = self.ts, start, []
         while i < end:
             first = i
-            if ts[i].text in ("if", "while", "match", "loop"):
+            if ts[i].text in ("if", "while", "for", "match", "loop"):
                 while True:
                     while ts[i].text != "{":
                         i = closing(ts, i) + 1 if ts[i].text in CLOSE else i + 1
