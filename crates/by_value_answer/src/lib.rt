@@ -63,7 +63,7 @@ fn resumed(x: [u64; 32], c: Csrs, w: Waiting, word: u32) -> Effect
     match w {
         Waiting::FetchCsr => {
             let wide = u64::from(word);
-            let rs1 = by_value_start::register(x, isa_fields::rs1(wide));
+            let rs1 = by_value_start::content_of(x, isa_fields::rs1(wide));
             by_value_classes::csr(c, decide_virtual_inst::decide(wide, c.vs.vstimecmp, rs1))
         }
         Waiting::FetchFault { at, access } => {

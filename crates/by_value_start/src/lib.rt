@@ -27,7 +27,7 @@ pub fn start(v: Vcpu, t: Trap) -> Effect
     match decide_class::class_of(t.scause) {
         Class::Ecall => ecall(x, c, t.room),
         Class::VirtualInstruction => {
-            let rs1 = register(x, isa_fields::rs1(t.stval % 0x1_0000_0000));
+            let rs1 = content_of(x, isa_fields::rs1(t.stval % 0x1_0000_0000));
             virtual_inst(c, t.stval, rs1)
         }
         Class::PageFault(access) => page_fault(x, c, t, access),
@@ -51,7 +51,8 @@ fn ecall(x: [u64; 32], c: Csrs, room: u64) -> Effect
     by_value_ecall::effect(c, e, decide_ecall::decide(e, room))
 }
 
-// What the guest calls. This and `register` take the registers by value, as what calls them does: lent, they would be copied too.
+// What the guest calls. This and `content_of` take the registers by value, as what calls them does: where they were lent, the compiler
+// kept a copy of the record for each end of a call too.
 fn ecall_of(x: [u64; 32]) -> Ecall
     ensures eid { result.eid ≡ get_or x 17 0 }
     ensures fid { result.fid ≡ get_or x 16 0 }
@@ -61,7 +62,7 @@ fn ecall_of(x: [u64; 32]) -> Ecall
 }
 
 // A register's content.
-pub fn register(x: [u64; 32], i: usize) -> u64
+pub fn content_of(x: [u64; 32], i: usize) -> u64
     ensures { result ≡ value_of x i }
 {
     decide_record::register(&x, i)
@@ -90,6 +91,6 @@ fn page_fault(x: [u64; 32], c: Csrs, t: Trap, access: Access) -> Effect
 pub fn mmio(x: [u64; 32], c: Csrs, at: GuestPhysAddr, access: Access, i: Trapped) -> Effect
     ensures { result ≡ mmio_of x c at access i }
 {
-    let source = register(x, isa_decoder::store_source(i));
+    let source = content_of(x, isa_decoder::store_source(i));
     by_value_classes::fault(c, at, access, decide_page_fault::decide(access, i, source))
 }

@@ -1,7 +1,7 @@
 // What the bytes of a line spell, and whether they are what they should be.
 ghost use Rattle.std.specs.Prelude.{◌≡◌, ◌<◌, ◌++◌, true, reverse, IsTrue, IfSome};
 ghost use Rattle.std.specs.List.{fold};
-ghost use Rattle.test_lines.specs.Digits.{glyph, spelled_digit, with_digit, with_glyph};
+ghost use Rattle.test_lines.specs.Digits.{digit_byte, digit_said, spelled_digit, with_digit};
 
 use std::fmt;
 use std::fmt::{Display, Write};
@@ -29,21 +29,21 @@ fn value(digit: u8) -> u64
 // Whether bytes are digits of this number, as many as there are bytes. A line of numbers is held by this and not by `says`: what std prints
 // goes through a formatter for each number, which took more than half of a list's time.
 pub fn spells(digits: &[u8], n: u64) -> bool
-    ensures { result ≡ (fold with_glyph (n, true) (reverse digits.now)).1 }
+    ensures { result ≡ (fold digit_said (n, true) (reverse digits.now)).1 }
 {
     digits
         .iter()
         .rev()
         .fold((n, true), |(rest, so_far), byte| {
-            (rest / 16, so_far && *byte == glyph(rest % 16))
+            (rest / 16, so_far && *byte == digit_byte(rest % 16))
         })
         .1
 }
 
 // The byte of a digit, in lower case.
-fn glyph(digit: u64) -> u8
+fn digit_byte(digit: u64) -> u8
     requires { digit < 16 }
-    ensures { result ≡ glyph digit }
+    ensures { result ≡ digit_byte digit }
 {
     if digit < 10 {
         b'0' + digit as u8
